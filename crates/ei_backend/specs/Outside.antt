@@ -1,0 +1,82 @@
+-- What the calls of a source, a sink, an input and a clock do.
+use Rattle.std.specs.Prelude.{◌≡◌, ◌<◌, ◌≤◌, ℕ, zero, suc, ◌+◌, ◌-◌, ◌^◌, min, List, [], ◌∷◌, ◌++◌, length, take, drop, slice_get, slice_index, Option, Some, None, Result, Ok, Err, OnErr, IsErrOf}
+pub use Rattle.ei_spec.specs.Piece.{Piece}
+use Rattle.ei_spec.specs.declared.handle.Handle.{Handle}
+use Rattle.ei_backend.specs.declared.outside.Fault.{Fault}
+use Rattle.ei_backend.specs.declared.outside.PutError.{PutError}
+use Rattle.ei_backend.specs.declared.outside.PutError.TheVariants as put_errors
+use Rattle.ei_backend.specs.declared.outside.Taken.{Taken}
+use Rattle.ei_backend.specs.declared.outside.LastAnswer.{LastAnswer}
+use Rattle.ei_backend.specs.declared.outside.LastAnswer.TheVariants as answers
+
+-- a count went up, or stands at its last value
+abbrev pub Rose : ℕ → ℕ → Type 0
+Rose before now = min (before + 1) (2 ^ 64 - 1) ≤ now
+
+-- the count has not fallen, and a fault is answered only where it rose
+pub record HasCause {T : Type 0} (before now : ℕ) (result : Result T Fault) : Type 0 where
+  pub later : before ≤ now
+  pub failed : OnErr result (Rose before now)
+
+-- the same of a sink, which may also want memory
+pub record HasPutCause {T : Type 0} (before now : ℕ) (result : Result T PutError) : Type 0 where
+  pub later : before ≤ now
+  pub failed : IsErrOf result put_errors.Fault → Rose before now
+
+-- at most 65536 bytes and 64 handles, and no handle without a byte
+pub record IsPieceSize (taken : Taken) : Type 0 where
+  pub bytes : taken.bytes ≤ 65536
+  pub handles : taken.handles ≤ 64
+  pub none : taken.bytes ≡ 0 → taken.handles ≡ 0
+
+-- the first of these pieces was handed out, or there was none
+pub record HandsOut (pieces : List Piece) (new : Option (List Piece)) (taken : Taken) (bytes : List ℕ) (handles : List Handle) : Type 0 where
+  pub left : new ≡ Some (drop 1 pieces)
+  pub ends : taken.bytes ≡ 0 → pieces ≡ []
+  pub piece : 0 < taken.bytes → slice_get pieces 0 ≡ Some (record { bytes = take taken.bytes bytes; handles = take taken.handles handles })
+
+-- where a source told its pieces, it handed out the first; a fault leaves them
+abbrev pub Takes : Option (List Piece) → Option (List Piece) → Result Taken Fault → List ℕ → List Handle → Type 0
+Takes old new (Ok taken) bytes handles = (pieces : List Piece) → old ≡ Some pieces → HandsOut pieces new taken bytes handles
+Takes old new (Err e) bytes handles = (pieces : List Piece) → old ≡ Some pieces → new ≡ Some pieces
+
+-- what so many bytes mean to a source
+abbrev pub answer_at : ℕ → LastAnswer
+answer_at zero = answers.End
+answer_at (suc n) = answers.Piece
+
+-- the answer that a source keeps after a take
+abbrev pub last_of : Result Taken Fault → LastAnswer
+last_of (Err e) = answers.Fault
+last_of (Ok taken) = answer_at taken.bytes
+
+-- what is held, with more behind it
+abbrev pub with_more : List ℕ → List Handle → Piece → Piece
+with_more bytes handles held = record { bytes = held.bytes ++ bytes; handles = held.handles ++ handles }
+
+-- where a sink told what it held, it has taken the first n bytes and all the handles; an error leaves it
+abbrev pub Puts : Option Piece → Option Piece → Result ℕ PutError → List ℕ → List Handle → Type 0
+Puts old new (Ok n) bytes handles = (held : Piece) → old ≡ Some held → new ≡ Some (with_more (take n bytes) handles held)
+Puts old new (Err e) bytes handles = (held : Piece) → old ≡ Some held → new ≡ Some held
+
+-- at least one byte of some
+pub record IsPutSize (n : ℕ) (bytes : List ℕ) : Type 0 where
+  pub at_most : n ≤ length bytes
+  pub at_least : 0 < length bytes → 0 < n
+
+-- the next bytes of a text
+pub record ReadsOn (text : List ℕ) (new : Option (List ℕ)) (n : ℕ) (bytes : List ℕ) : Type 0 where
+  pub left : new ≡ Some (drop n text)
+  pub read : take n bytes ≡ take n text
+  pub within : n ≤ length text
+  pub ends : n ≡ 0 → text ≡ []
+
+-- where an input told its text, it gave the next bytes; a fault leaves it
+abbrev pub Fetches : Option (List ℕ) → Option (List ℕ) → Result ℕ Fault → List ℕ → Type 0
+Fetches old new (Ok n) bytes = (text : List ℕ) → old ≡ Some text → ReadsOn text new n bytes
+Fetches old new (Err e) bytes = (text : List ℕ) → old ≡ Some text → new ≡ Some text
+
+-- the first reading, or 0 behind the last
+pub record Reads (readings : List ℕ) (new : Option (List ℕ)) (reading : ℕ) : Type 0 where
+  pub is : reading ≡ slice_index readings 0
+  pub left : new ≡ Some (drop 1 readings)

@@ -1,0 +1,10 @@
+pub mod Utf8
+pub mod Again
+pub mod KindLaws
+pub mod RowLaws
+pub mod Numbers
+pub mod FrontLaws
+pub mod GoesOn
+pub mod OneReading
+pub mod HistoryLaws
+pub mod GroupsLaws

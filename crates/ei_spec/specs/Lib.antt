@@ -1,0 +1,10 @@
+pub mod Interface
+pub mod Value
+pub mod Reading
+pub mod Spelling
+pub mod Rows
+pub mod Message
+pub mod Stream
+pub mod History
+pub mod Groups
+pub mod Piece

@@ -1,0 +1,14 @@
+//! The words that every other crate is checked against: kinds and values of arguments, the table of
+//! messages, raw messages, the reading of a stream, and words on the messages before a position.
+//!
+//! There is no protocol code here. Begin with `specs/Rows.antt`, the table of messages, and
+//! `specs/Stream.antt`, the reading of a stream.
+#![tactic(auto)]
+
+mod handle;
+mod interface;
+mod laws;
+
+pub use handle::Handle;
+pub use interface::KnownInterface;
+pub use laws::{messages, spelling};

@@ -1,0 +1,54 @@
+-- What a function that reads says of what reading gives, and the values that arguments stand for.
+use Rattle.std.specs.Prelude.{◌≡◌, ℕ, Option, Some, None, Result, Ok, Err, IfSome}
+use Rattle.ei_spec.specs.Value.{Value, Word, Long, Signed, SignedLong, Letters, Null, Fd}
+use Rattle.ei_spec.specs.Reading.{Fault, EndOfMessage, Utf8, InvalidId, NoFd, InvalidOpcode, InvalidVariant, InvalidInterface, HeaderLength, MessageLength, InvalidNull, Stop}
+use Rattle.ei_wire.specs.declared.arg.Arg.{Arg}
+use Rattle.ei_wire.specs.declared.arg.Arg.TheVariants as arg
+use Rattle.ei_wire.specs.declared.error.ParseError.{ParseError}
+use Rattle.ei_wire.specs.declared.error.ParseError.TheVariants as error
+
+-- the value that an argument stands for
+abbrev pub value_of_arg : Arg → Value
+value_of_arg (arg.Uint32 n) = Word n
+value_of_arg (arg.Int32 z) = Signed z
+value_of_arg (arg.Uint64 n) = Long n
+value_of_arg (arg.Int64 z) = SignedLong z
+value_of_arg (arg.Float n) = Word n
+value_of_arg (arg.Fd h) = Fd h
+value_of_arg (arg.String None) = Null
+value_of_arg (arg.String (Some t)) = Letters t.now
+value_of_arg (arg.NewId n) = Long n
+value_of_arg (arg.Id n) = Long n
+
+-- a function that ended with this error would have been reading this
+abbrev pub Fails : {Y : Type 0} → ParseError → Result Y Fault → Type 0
+Fails error.NoMemory read = Unit {0}
+Fails error.EndOfMessage read = read ≡ Err EndOfMessage
+Fails (error.Utf8 n) read = read ≡ Err (Utf8 n)
+Fails (error.InvalidId n) read = read ≡ Err (InvalidId n)
+Fails error.NoFd read = read ≡ Err NoFd
+Fails (error.InvalidOpcode name n) read = read ≡ Err (InvalidOpcode name.now n)
+Fails (error.InvalidVariant name n) read = read ≡ Err (InvalidVariant name.now n)
+Fails (error.InvalidInterface name) read = read ≡ Err (InvalidInterface name)
+Fails (error.HeaderLength n) read = read ≡ Err (HeaderLength n)
+Fails (error.MessageLength n m) read = read ≡ Err (MessageLength n m)
+Fails error.InvalidNull read = read ≡ Err InvalidNull
+
+-- what a function returned, seen by view, is what reading gives, unless memory ran out
+abbrev pub Gives : {X Y : Type 0} → (X → Y) → Result X ParseError → Result Y Fault → Type 0
+Gives view (Ok x) read = read ≡ Ok (view x)
+Gives view (Err e) read = Fails e read
+
+-- the fault that an error stands for; none for want of memory
+abbrev pub fault_of : ParseError → Option Fault
+fault_of error.NoMemory = None
+fault_of error.EndOfMessage = Some EndOfMessage
+fault_of (error.Utf8 n) = Some (Utf8 n)
+fault_of (error.InvalidId n) = Some (InvalidId n)
+fault_of error.NoFd = Some NoFd
+fault_of (error.InvalidOpcode name n) = Some (InvalidOpcode name.now n)
+fault_of (error.InvalidVariant name n) = Some (InvalidVariant name.now n)
+fault_of (error.InvalidInterface name) = Some (InvalidInterface name)
+fault_of (error.HeaderLength n) = Some (HeaderLength n)
+fault_of (error.MessageLength n m) = Some (MessageLength n m)
+fault_of error.InvalidNull = Some InvalidNull

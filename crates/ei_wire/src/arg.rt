@@ -1,0 +1,247 @@
+//! Arguments.
+
+ghost use Rattle.std.specs.Prelude.{◌≡◌, ◌++◌, ◌≤◌, ◌<◌, ◌^◌, replicate, length, OnOk, OnErr, Ok, Err, Some, None, IsTrue, codes, [], ◌∷◌};
+ghost use Rattle.ei_spec.specs.Value.{Kind, U32, I32, U64, I64, Float, Text, Nullable, Handle as HandleKind, Choice, Value, Word, Long, Signed, SignedLong, Letters, Fd, written, handles_of, IsOf, HasSpelling, text_bytes};
+ghost use Rattle.ei_wire.specs.Gives.{Gives, value_of_arg};
+ghost use Rattle.ei_spec.specs.Reading.{read, or_null, Unread, Fault};
+ghost use Rattle.ei_spec.specs.Spelling.{Begins, Follows};
+
+use crate::error::{NoMemory, ParseError};
+use crate::stream::ByteStream;
+use crate::text::EiText;
+use ei_spec::Handle;
+
+/// The word of a float.
+#[derive(Clone, Copy, Debug, PartialEq, Eq, Hash)]
+pub struct RawFloat(pub u32);
+
+impl RawFloat {
+    fn word(self) -> u32
+        ensures word { result ≡ self.0 }
+        ensures fits { result < 2 ^ 32 }
+    {
+        self.0
+    }
+}
+
+/// An argument of a message.
+#[derive(Debug, Drop)]
+pub enum Arg<'a> {
+    Uint32(u32),
+    Int32(i32),
+    Uint64(u64),
+    Int64(i64),
+    Float(u32),
+    Fd(Handle),
+    String(Option<&'a str>),
+    NewId(u64),
+    Id(u64),
+}
+
+impl Arg<'_> {
+    /// The number of bytes.
+    pub fn size(&self) -> u64
+        ensures { result ≡ length (written (value_of_arg self.now)) }
+    {
+        match self {
+            Arg::Uint32(_) | Arg::Int32(_) | Arg::Float(_) => 4,
+            Arg::Uint64(_) | Arg::Int64(_) | Arg::NewId(_) | Arg::Id(_) => 8,
+            Arg::Fd(_) => 0,
+            Arg::String(None) => 4,
+            Arg::String(Some(text)) => {
+                let len = text.len() as u64 + 1;
+                4 + len + (4 - len % 4) % 4
+            }
+        }
+    }
+
+    /// Appends the bytes and the handle.
+    pub fn write(&self, buf: &mut Vec<u8>, handles: &mut Vec<Handle>) -> Result<(), NoMemory>
+        requires { HasSpelling (value_of_arg self.now) }
+        ensures bytes { OnOk result (buf.new.items ≡ buf.old.items ++ written (value_of_arg self.now)) }
+        ensures handles { OnOk result (handles.new.items ≡ handles.old.items ++ handles_of (value_of_arg self.now)) }
+    {
+        match self {
+            Arg::Uint32(value) | Arg::Float(value) => buf.extend_from_slice(&value.to_le_bytes())?,
+            Arg::Int32(value) => buf.extend_from_slice(&value.to_le_bytes())?,
+            Arg::Uint64(value) | Arg::NewId(value) | Arg::Id(value) => {
+                buf.extend_from_slice(&value.to_le_bytes())?
+            }
+            Arg::Int64(value) => buf.extend_from_slice(&value.to_le_bytes())?,
+            Arg::Fd(handle) => handles.push(*handle)?,
+            Arg::String(None) => buf.extend_from_slice(&0u32.to_le_bytes())?,
+            Arg::String(Some(text)) => write_text(buf, text)?,
+        }
+        Ok(())
+    }
+}
+
+fn write_text(buf: &mut Vec<u8>, text: &str) -> Result<(), NoMemory>
+    requires { length text.now ≤ 4294967294 }
+    ensures { OnOk result (buf.new.items ≡ buf.old.items ++ text_bytes text.now) }
+{
+    let len = text.len() as u32 + 1;
+    buf.extend_from_slice(&len.to_le_bytes())?;
+    buf.extend_from_slice(text.as_bytes())?;
+    push_zeros(buf, 1 + (4 - len % 4) % 4)
+}
+
+#[tactic(auto, using(ei_spec::proofs::Utf8::take_zeros))]
+fn push_zeros(buf: &mut Vec<u8>, count: u32) -> Result<(), NoMemory>
+    requires { count ≤ 4 }
+    ensures { OnOk result (buf.new.items ≡ buf.old.items ++ replicate count 0) }
+{
+    let zeros = [0u8; 4];
+    buf.extend_from_slice(&zeros[..count as usize])?;
+    Ok(())
+}
+
+/// What an argument is read as.
+pub trait OwnedArg: Sized {
+    /// The kind of argument.
+    ghost kind: { Kind };
+
+    /// The value, apart from how it is kept.
+    ghost value: { Self → Value };
+
+    /// Takes the value at the front.
+    fn parse(stream: &mut ByteStream<'_>) -> Result<Self, ParseError>
+        ensures read { Gives (λ x. (value x, stream.new)) result (read kind stream.old) }
+        ensures err { OnErr result (stream.new ≡ stream.old) };
+
+    /// The value as an argument to be written.
+    fn as_arg(&self) -> Arg<'_>
+        ensures value { value_of_arg result ≡ value self.now }
+        ensures kind { IsOf kind (value self.now) };
+}
+
+impl OwnedArg for u32 {
+    ghost kind = { U32 };
+
+    ghost value = { Word };
+
+    fn parse(stream: &mut ByteStream<'_>) -> Result<u32, ParseError> {
+        stream.word()
+    }
+
+    fn as_arg(&self) -> Arg<'_> {
+        Arg::Uint32(*self)
+    }
+}
+
+impl OwnedArg for i32 {
+    ghost kind = { I32 };
+
+    ghost value = { Signed };
+
+    fn parse(stream: &mut ByteStream<'_>) -> Result<i32, ParseError> {
+        Ok(stream.word()?.cast_signed())
+    }
+
+    fn as_arg(&self) -> Arg<'_> {
+        Arg::Int32(*self)
+    }
+}
+
+impl OwnedArg for u64 {
+    ghost kind = { U64 };
+
+    ghost value = { Long };
+
+    fn parse(stream: &mut ByteStream<'_>) -> Result<u64, ParseError> {
+        stream.long()
+    }
+
+    fn as_arg(&self) -> Arg<'_> {
+        Arg::Uint64(*self)
+    }
+}
+
+impl OwnedArg for i64 {
+    ghost kind = { I64 };
+
+    ghost value = { SignedLong };
+
+    fn parse(stream: &mut ByteStream<'_>) -> Result<i64, ParseError> {
+        Ok(stream.long()?.cast_signed())
+    }
+
+    fn as_arg(&self) -> Arg<'_> {
+        Arg::Int64(*self)
+    }
+}
+
+impl OwnedArg for RawFloat {
+    ghost kind = { Float };
+
+    ghost value = { λ x. Word x.0 };
+
+    fn parse(stream: &mut ByteStream<'_>) -> Result<RawFloat, ParseError> {
+        Ok(RawFloat(stream.word()?))
+    }
+
+    fn as_arg(&self) -> Arg<'_> {
+        Arg::Float((*self).word())
+    }
+}
+
+impl OwnedArg for Handle {
+    ghost kind = { HandleKind };
+
+    ghost value = { Fd };
+
+    fn parse(stream: &mut ByteStream<'_>) -> Result<Handle, ParseError> {
+        stream.handle()
+    }
+
+    fn as_arg(&self) -> Arg<'_> {
+        Arg::Fd(*self)
+    }
+}
+
+impl OwnedArg for Option<EiText> {
+    ghost kind = { Nullable };
+
+    ghost value = { or_null };
+
+    fn parse(stream: &mut ByteStream<'_>) -> Result<Option<EiText>, ParseError> {
+        stream.text()
+    }
+
+    #[tactic(auto, using(ei_spec::proofs::Utf8::is_text))]
+    fn as_arg(&self) -> Arg<'_> {
+        match self {
+            None => Arg::String(None),
+            Some(text) => Arg::String(Some(text.as_str())),
+        }
+    }
+}
+
+impl OwnedArg for EiText {
+    ghost kind = { Text };
+
+    ghost value = { Letters };
+
+    fn parse(stream: &mut ByteStream<'_>) -> Result<EiText, ParseError> {
+        stream.whole_text()
+    }
+
+    #[tactic(auto, using(ei_spec::proofs::Utf8::is_text))]
+    fn as_arg(&self) -> Arg<'_> {
+        Arg::String(Some(self.as_str()))
+    }
+}
+
+/// What `as_arg` writes is read back as the value, whatever follows.
+#[tactic(auto, using(ei_spec::proofs::KindLaws::written_again))]
+pub fn read_back<T: OwnedArg>(x: &T)
+    ensures { (s t : Unread) → Follows (T.value x.now) s t → read T.kind s ≡ Ok (T.value x.now, t) }
+{
+    let _arg = x.as_arg();
+}
+
+/// A refusal means that nothing at the front spells a value.
+#[tactic(auto, using(ei_spec::proofs::KindLaws::refused))]
+pub fn no_spelling<T: OwnedArg>()
+    ensures { (s t : Unread) (v : Value) (f : Fault) → read T.kind s ≡ Err f → Begins T.kind v s t → ⊥ }
+{}

@@ -1,0 +1,168 @@
+//! Why a message can't be read or sent, and why reading and flushing stop.
+
+ghost use Rattle.std.specs.Prelude.{◌≡◌};
+ghost use Rattle.ei_wire.specs.declared.error.ParseError.TheVariants as error;
+ghost use Rattle.ei_wire.specs.declared.error.SendError.TheVariants as send_error;
+ghost use Rattle.ei_wire.specs.declared.error.ReadError.TheVariants as read_error;
+ghost use Rattle.ei_wire.specs.declared.error.FlushError.TheVariants as flush_error;
+
+use crate::text::EiText;
+use std::alloc::{AllocError, AllocFailed};
+use thiserror::Error;
+
+/// Memory ran out.
+#[derive(Clone, Copy, Debug, PartialEq, Eq)]
+pub struct NoMemory;
+
+impl From<AllocError> for NoMemory {
+    fn from(_e: AllocError) -> NoMemory {
+        NoMemory
+    }
+}
+
+impl<T: Drop> From<AllocFailed<T>> for NoMemory {
+    fn from(_e: AllocFailed<T>) -> NoMemory {
+        NoMemory
+    }
+}
+
+/// What is wrong with a message.
+#[derive(Debug, Drop)]
+pub enum ParseError {
+    /// The message ends inside an argument.
+    EndOfMessage,
+    /// A text isn't UTF-8: the length of its longest valid prefix.
+    Utf8(u32),
+    /// The peer may not give this id to a new object.
+    InvalidId(u64),
+    /// No handle came with the message.
+    NoFd,
+    /// The interface, without `ei_`, has no message of this opcode.
+    InvalidOpcode(&'static str, u32),
+    /// The enum of that name has no such value.
+    InvalidVariant(&'static str, u32),
+    /// No interface of the protocol has this name.
+    InvalidInterface(EiText),
+    /// The header's length is below 16 or above 1048576.
+    HeaderLength(u32),
+    /// The length that the arguments leave too long, and the length that the header says.
+    MessageLength(u32, u32),
+    /// A text that must be there is null.
+    InvalidNull,
+    /// Memory ran out.
+    NoMemory,
+}
+
+/// Why a message isn't sent. Nothing is written then.
+#[derive(Debug, Drop, Error)]
+pub enum SendError {
+    /// The message would have more than 1048576 bytes.
+    #[error("message too long")]
+    MessageTooLong,
+    /// Fewer own ids are left than the call needs.
+    #[error("no object id is left")]
+    IdsExhausted,
+    /// Memory ran out.
+    #[error("out of memory")]
+    NoMemory,
+}
+
+/// Why no piece was read.
+#[derive(Debug, Drop, Error)]
+pub enum ReadError {
+    /// The source is at its end, or the endpoint is closed.
+    #[error("IO error: unexpected EOF reading ei socket")]
+    UnexpectedEof,
+    /// The source failed.
+    #[error("IO error: read fault")]
+    ReadFault,
+    /// More than 4096 handles would be unread.
+    #[error("too many unread handles")]
+    HandleLimit,
+    /// Memory ran out before the source was asked.
+    #[error("out of memory")]
+    NoMemory,
+}
+
+/// Why not all was written. The rest stays buffered.
+#[derive(Debug, Drop, Error)]
+pub enum FlushError {
+    /// The sink failed.
+    #[error("IO error: write fault")]
+    WriteFault,
+    /// The sink wants memory.
+    #[error("out of memory")]
+    NoMemory,
+}
+
+impl From<NoMemory> for ParseError {
+    ghost from_gives = { λ _ e. e ≡ error.NoMemory };
+
+    fn from(_e: NoMemory) -> ParseError {
+        ParseError::NoMemory
+    }
+}
+
+impl<T: Drop> From<AllocFailed<T>> for ParseError {
+    ghost from_gives = { λ _ e. e ≡ error.NoMemory };
+
+    fn from(_e: AllocFailed<T>) -> ParseError {
+        ParseError::NoMemory
+    }
+}
+
+impl From<NoMemory> for SendError {
+    ghost from_gives = { λ _ e. e ≡ send_error.NoMemory };
+
+    fn from(_e: NoMemory) -> SendError {
+        SendError::NoMemory
+    }
+}
+
+impl From<AllocError> for SendError {
+    ghost from_gives = { λ _ e. e ≡ send_error.NoMemory };
+
+    fn from(_e: AllocError) -> SendError {
+        SendError::NoMemory
+    }
+}
+
+impl<T: Drop> From<AllocFailed<T>> for SendError {
+    ghost from_gives = { λ _ e. e ≡ send_error.NoMemory };
+
+    fn from(_e: AllocFailed<T>) -> SendError {
+        SendError::NoMemory
+    }
+}
+
+impl From<NoMemory> for ReadError {
+    ghost from_gives = { λ _ e. e ≡ read_error.NoMemory };
+
+    fn from(_e: NoMemory) -> ReadError {
+        ReadError::NoMemory
+    }
+}
+
+impl From<AllocError> for ReadError {
+    ghost from_gives = { λ _ e. e ≡ read_error.NoMemory };
+
+    fn from(_e: AllocError) -> ReadError {
+        ReadError::NoMemory
+    }
+}
+
+impl<T: Drop> From<AllocFailed<T>> for ReadError {
+    ghost from_gives = { λ _ e. e ≡ read_error.NoMemory };
+
+    fn from(_e: AllocFailed<T>) -> ReadError {
+        ReadError::NoMemory
+    }
+}
+
+impl From<NoMemory> for FlushError {
+    ghost from_gives = { λ _ e. e ≡ flush_error.NoMemory };
+
+    fn from(_e: NoMemory) -> FlushError {
+        FlushError::NoMemory
+    }
+}

@@ -1,0 +1,16 @@
+//! Arguments of messages, read and written, and the errors of reading, sending and flushing.
+//!
+//! There are no messages here and no objects. Begin with `Arg`, what is written, and `ByteStream`,
+//! what is read.
+#![tactic(auto)]
+
+mod arg;
+mod error;
+mod stream;
+mod text;
+
+pub use arg::{Arg, OwnedArg, RawFloat, no_spelling, read_back};
+pub use ei_spec::{Handle, KnownInterface};
+pub use error::{FlushError, NoMemory, ParseError, ReadError, SendError};
+pub use stream::ByteStream;
+pub use text::EiText;

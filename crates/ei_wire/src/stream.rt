@@ -1,0 +1,204 @@
+//! Reading the arguments of a message.
+
+ghost use Rattle.std.specs.Prelude.{◌≡◌, ℕ, List, length, IfOk, OnErr, Ok, Err, ◌≤◌, ◌<◌, ◌+◌, ◌^◌, Some, None, true, nat_eq};
+ghost use Rattle.std.specs.List.{list_any};
+ghost use Rattle.std.specs.Int.{w32, w64};
+ghost use Rattle.ei_wire.specs.Gives.{Gives};
+ghost use Rattle.ei_spec.specs.Reading.{Unread, number_at, text_at, letters_at, utf8, read, Read};
+ghost use Rattle.ei_spec.specs.Value.{Word, Long, Letters, Fd, U32, U64, Handle as HandleKind, Nullable, Text as TextKind, Choice};
+ghost use Rattle.ei_spec.specs.Reading.{or_null};
+
+use crate::arg::OwnedArg;
+use crate::error::ParseError;
+use crate::text::EiText;
+use ei_spec::Handle;
+use std::alloc::Global;
+use std::marker::Model;
+
+/// The arguments of a message that are not read yet.
+#[derive(Drop)]
+pub struct ByteStream<'a> {
+    alloc: Global,
+    bytes: &'a [u8],
+    handles: &'a [Handle],
+    taken: usize,
+}
+
+impl<'a> Model for ByteStream<'a> {
+    ghost use Rattle.ei_spec.specs.Reading.{Unread};
+
+    ghost Value = { Unread };
+
+    ghost view = { λ s. record { bytes = s.bytes.now; handles = s.handles.now; taken = s.taken } };
+}
+
+impl<'a> ByteStream<'a> {
+    pub fn new(alloc: Global, bytes: &'a [u8], handles: &'a [Handle]) -> ByteStream<'a>
+        ensures { result ≡ record { bytes = bytes.now; handles = handles.now; taken = 0 } }
+    {
+        ByteStream {
+            alloc,
+            bytes,
+            handles,
+            taken: 0,
+        }
+    }
+
+    pub fn rest(&self) -> usize
+        ensures { result ≡ length self.now.bytes }
+    {
+        self.bytes.len()
+    }
+
+    pub fn handles_taken(&self) -> usize
+        ensures { result ≡ self.now.taken }
+    {
+        self.taken
+    }
+
+    /// The four bytes at the front as a number.
+    pub(crate) fn word(&mut self) -> Result<u32, ParseError>
+        ensures read { Gives (λ n. (Word n, self.new)) result (read U32 self.old) }
+        ensures err { OnErr result (self.new ≡ self.old) }
+    {
+        let (number, rest) = word_of(self.bytes)?;
+        self.bytes = rest;
+        Ok(number)
+    }
+
+    /// The eight bytes at the front as a number.
+    pub(crate) fn long(&mut self) -> Result<u64, ParseError>
+        ensures read { Gives (λ n. (Long n, self.new)) result (read U64 self.old) }
+        ensures err { OnErr result (self.new ≡ self.old) }
+    {
+        let (number, rest) = long_of(self.bytes)?;
+        self.bytes = rest;
+        Ok(number)
+    }
+
+    /// The next handle.
+    pub(crate) fn handle(&mut self) -> Result<Handle, ParseError>
+        ensures read { Gives (λ h. (Fd h, self.new)) result (read HandleKind self.old) }
+        ensures err { OnErr result (self.new ≡ self.old) }
+    {
+        match self.handles.get(self.taken) {
+            None => Err(ParseError::NoFd),
+            Some(handle) => {
+                self.taken += 1;
+                Ok(*handle)
+            }
+        }
+    }
+
+    /// The text or the null at the front.
+    pub(crate) fn text(&mut self) -> Result<Option<EiText>, ParseError>
+        ensures read { Gives (λ t. (or_null t, self.new)) result (read Nullable self.old) }
+        ensures err { OnErr result (self.new ≡ self.old) }
+    {
+        let (text, rest) = text_of(self.alloc, self.bytes)?;
+        self.bytes = rest;
+        Ok(text)
+    }
+
+    /// The text at the front.
+    pub(crate) fn whole_text(&mut self) -> Result<EiText, ParseError>
+        ensures read { Gives (λ t. (Letters t, self.new)) result (read TextKind self.old) }
+        ensures err { OnErr result (self.new ≡ self.old) }
+    {
+        let (text, rest) = text_of(self.alloc, self.bytes)?;
+        match text {
+            None => Err(ParseError::InvalidNull),
+            Some(text) => {
+                self.bytes = rest;
+                Ok(text)
+            }
+        }
+    }
+
+    /// The number of a variant at the front.
+    pub(crate) fn choice(&mut self, name: &'static str, values: &[u32]) -> Result<u32, ParseError>
+        ensures read { Gives (λ n. (Word n, self.new)) result (read (Choice name.now values.now) self.old) }
+        ensures listed { IfOk result (λ n. list_any (nat_eq n) values.now ≡ true) }
+        ensures err { OnErr result (self.new ≡ self.old) }
+    {
+        let (number, rest) = word_of(self.bytes)?;
+        if !values.contains(&number) {
+            return Err(ParseError::InvalidVariant(name, number));
+        }
+        self.bytes = rest;
+        Ok(number)
+    }
+
+    /// Takes the argument at the front.
+    pub fn read_arg<T: OwnedArg>(&mut self) -> Result<T, ParseError>
+        ensures read { Gives (λ x. (T.value x, self.new)) result (read T.kind self.old) }
+        ensures err { OnErr result (self.new ≡ self.old) }
+    {
+        T::parse(self)
+    }
+}
+
+fn word_of(bytes: &[u8]) -> Result<(u32, &[u8]), ParseError>
+    ensures { Gives (λ x. (x.0, x.1.now)) result (number_at w32 bytes.now) }
+{
+    if bytes.len() < 4 {
+        return Err(ParseError::EndOfMessage);
+    }
+    let (front, rest) = bytes.split_at(4);
+    let number = u32::from_le_bytes([front[0], front[1], front[2], front[3]]);
+    Ok((number, rest))
+}
+
+fn long_of(bytes: &[u8]) -> Result<(u64, &[u8]), ParseError>
+    ensures { Gives (λ x. (x.0, x.1.now)) result (number_at w64 bytes.now) }
+{
+    if bytes.len() < 8 {
+        return Err(ParseError::EndOfMessage);
+    }
+    let (front, rest) = bytes.split_at(8);
+    let number = u64::from_le_bytes([
+        front[0], front[1], front[2], front[3], front[4], front[5], front[6], front[7],
+    ]);
+    Ok((number, rest))
+}
+
+#[tactic(auto, using(ei_spec::proofs::Utf8::utf8_if, ei_spec::proofs::Utf8::utf8_if_not))]
+fn utf8_of(bytes: &[u8]) -> Result<&str, ParseError>
+    requires { length bytes.now < 2 ^ 32 }
+    ensures { Gives (λ t. t.now) result (utf8 bytes.now) }
+{
+    match simdutf8::compat::from_utf8(bytes) {
+        Ok(text) => Ok(text),
+        Err(error) => Err(ParseError::Utf8(error.valid_up_to() as u32)),
+    }
+}
+
+/// The bytes of a text, without the closing byte and the padding.
+#[tactic(auto, unfolding(ei_spec::specs::Reading::letters_at))]
+fn letters_of(alloc: Global, len: u32, bytes: &[u8]) -> Result<(EiText, &[u8]), ParseError>
+    requires { len + 1 < 2 ^ 32 }
+    ensures { Gives (λ x. (x.0, x.1.now)) result (letters_at len bytes.now) }
+{
+    let end = len as usize;
+    if bytes.len() < end {
+        return Err(ParseError::EndOfMessage);
+    }
+    let text = utf8_of(&bytes[..end])?;
+    let whole = end + 1 + (4 - (end + 1) % 4) % 4;
+    if bytes.len() < whole {
+        return Err(ParseError::EndOfMessage);
+    }
+    Ok((EiText::new(alloc, text)?, &bytes[whole..]))
+}
+
+#[tactic(auto, unfolding(ei_spec::specs::Reading::text_at))]
+fn text_of(alloc: Global, bytes: &[u8]) -> Result<(Option<EiText>, &[u8]), ParseError>
+    ensures { Gives (λ x. (x.0, x.1.now)) result (text_at bytes.now) }
+{
+    let (len, rest) = word_of(bytes)?;
+    if len == 0 {
+        return Ok((None, rest));
+    }
+    let (text, rest) = letters_of(alloc, len - 1, rest)?;
+    Ok((Some(text), rest))
+}
