@@ -1,6 +1,12 @@
 //! The outside, and one endpoint over it: objects, buffers, and the messages in them.
 #![tactic(auto)]
 
+mod interface;
+mod object;
 mod outside;
+mod table;
 
+pub use interface::InterfaceName;
+pub use object::Object;
 pub use outside::{Clock, Fault, Input, LastAnswer, PutError, Sink, Source, Taken};
+pub use table::{FIRST_SERVER_ID, Table};
