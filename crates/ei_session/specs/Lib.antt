@@ -1,4 +1,3 @@
-pub mod Capability
 pub mod Setup
 pub mod Arguments
 pub mod Handshake

@@ -8,7 +8,7 @@ use Rattle.ei_spec.specs.Interface.{name_of, the_twelve}
 use Rattle.ei_spec.specs.Value.{Value, Word, Long, Letters}
 use Rattle.ei_spec.specs.Message.{Raw, message}
 use Rattle.ei_spec.specs.History.{joined}
-use Rattle.ei_session.specs.Capability.{capabilities, has_bit}
+use Rattle.ei_types.specs.Capability.{capabilities, has_bit}
 use Rattle.ei_session.specs.Setup.{Setup, connection_id, seat_id}
 use Rattle.ei_session.specs.Arguments.{event}
 use Rattle.ei_session.specs.Handshake.{is_the_finish, settled, version}
