@@ -3,6 +3,7 @@
 
 mod interface;
 mod object;
+mod outgoing;
 mod outside;
 mod table;
 
