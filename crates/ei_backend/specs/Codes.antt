@@ -6,6 +6,9 @@ use Rattle.std.specs.FinMap as map
 use Rattle.std.specs.Coded.{Coded, code_by, coded×, coded⊎, coded_ℕ, coded_bool, coded_list}
 use Rattle.ei_spec.specs.declared.interface.KnownInterface.{KnownInterface}
 use Rattle.ei_spec.specs.contracts.interface.KnownInterface as known
+use Rattle.ei_spec.specs.declared.handle.Handle.{Handle}
+use Rattle.ei_spec.specs.contracts.handle.Handle as handles
+use Rattle.ei_spec.specs.Piece.{Piece}
 use Rattle.ei_spec.specs.Interface.{Interface, Known, Other, ObjectView}
 use Rattle.ei_backend.specs.Table.{TableView}
 
@@ -31,3 +34,6 @@ object_code = code_by (ℕ × (Interface × (ℕ × Bool))) (coded× coded_ℕ (
 abbrev pub table_code : Coded TableView
 table_code = code_by (map.FinMap nat_cmp ObjectView × (ℕ × (ℕ × Bool))) (coded× (map.code coded_ℕ object_code) (coded× coded_ℕ (coded× coded_ℕ coded_bool)))
     (λ t. (t.objects, (t.next_own, (t.next_peer, t.client)))) (λ p. record { objects = p.0; next_own = p.1.0; next_peer = p.1.1.0; client = p.1.1.1 }) (λ _. refl)
+
+abbrev pub piece_code : Coded Piece
+piece_code = code_by (List ℕ × List Handle) (coded× (coded_list coded_ℕ) (coded_list handles.the_row.coded)) (λ p. (p.bytes, p.handles)) (λ p. record { bytes = p.0; handles = p.1 }) (λ _. refl)

@@ -4,6 +4,7 @@
 mod interface;
 mod memory_text;
 mod object;
+mod outgoing;
 mod outside;
 mod pieces;
 mod readings;
