@@ -12,12 +12,12 @@ use Rattle.ei_session.specs.Arguments.{whole, row_args, request_args}
 use Rattle.ei_session.specs.Handshake.{is_finish, connected, is_the_finish, announced, announces, settled, version}
 use Rattle.ei_session.specs.Built.{all_settled, is_built_before, is_disconnect, is_built, refusal, is_last, judge, NotBuilt}
 use Rattle.ei_session.specs.Framed.{item, serial, slot, framed, Disconnect}
-use Rattle.ei_session.specs.Replies.{settled_events, capability_events, seat_events, finish_events, reply, replies}
+use Rattle.ei_session.specs.Replies.{settled_events, capability_events, finish_events, reply, replies}
 use Rattle.ei_session.specs.Session.{reading_of, read_first, too_many_handles, is_over, over_at, least, session, accepted, Answer, PieceLimit, HandleLimit, End, UnexpectedEof, Stopped}
 
 -- opens every definition that the rows compute
 pub all_open : Unit {0}
-unfolding stream handle_count le4 le8 of_le4 of_le8 header bytes_of front read read_within letters_at text_at last_said occurs joined each since closes input_of group timed makes_frame frames_made with_frame gives grouped whole row_args request_args is_finish connected is_the_finish announced announces settled version all_settled is_built_before is_disconnect is_built refusal is_last judge item serial slot framed settled_events capability_events seat_events finish_events reply replies reading_of read_first too_many_handles is_over over_at least session
+unfolding stream handle_count le4 le8 of_le4 of_le8 header bytes_of front read read_within letters_at text_at last_said occurs joined each since closes input_of group timed makes_frame frames_made with_frame gives grouped whole row_args request_args is_finish connected is_the_finish announced announces settled version all_settled is_built_before is_disconnect is_built refusal is_last judge item serial slot framed settled_events capability_events finish_events reply replies reading_of read_first too_many_handles is_over over_at least session
 all_open = tt
 
 abbrev setup : Setup

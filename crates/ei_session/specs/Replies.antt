@@ -13,44 +13,62 @@ use Rattle.ei_session.specs.Setup.{Setup, connection_id, seat_id}
 use Rattle.ei_session.specs.Arguments.{event}
 use Rattle.ei_session.specs.Handshake.{is_the_finish, settled, version}
 
--- the first event, before any message
-abbrev pub greeting : Raw
-greeting = event known.Handshake (codes "handshake_version") 0 (Word 1 ∷ [])
+-- ---- single events
 
--- the version of an interface, where it is settled
-abbrev pub settled_event : KnownInterface → ℕ → Raw
-settled_event interface v = event known.Handshake (codes "interface_version") 0 (Letters (name_of interface) ∷ Word v ∷ [])
+-- the first event of a handshake
+abbrev pub greeting_to : ℕ → Raw
+greeting_to handshake = event known.Handshake (codes "handshake_version") handshake (Word 1 ∷ [])
 
--- one event for each settled interface, in the order of the list
-unfoldable pub settled_events : (KnownInterface → Option ℕ) → List Raw
-settled_events settled = filter_map (λ interface. option_map (settled_event interface) (settled interface)) the_twelve
+-- the version that both ends have of an interface
+abbrev pub settled_event : ℕ → KnownInterface → ℕ → Raw
+settled_event handshake interface v = event known.Handshake (codes "interface_version") handshake (Letters (name_of interface) ∷ Word v ∷ [])
 
 -- the event that hands the connection over
-abbrev pub connection_event : Setup → Raw
-connection_event setup = event known.Handshake (codes "connection") 0 (Word setup.serial ∷ Long connection_id ∷ Word 1 ∷ [])
+abbrev pub connection_event : ℕ → ℕ → ℕ → Raw
+connection_event handshake serial connection = event known.Handshake (codes "connection") handshake (Word serial ∷ Long connection ∷ Word 1 ∷ [])
 
--- a capability of a seat, where the setup has its bit and the interface is settled
+-- a new seat
+abbrev pub seat_event : ℕ → ℕ → ℕ → Raw
+seat_event connection seat v = event known.Connection (codes "seat") connection (Long seat ∷ Word v ∷ [])
+
+-- the name of a seat
+abbrev pub name_event : ℕ → List ℕ → Raw
+name_event seat name = event known.Seat (codes "name") seat (Letters name ∷ [])
+
+-- a capability of a seat: its bit, and the interface that bears it
 abbrev pub capability_event : ℕ → ℕ × KnownInterface → Raw
 capability_event seat c = event known.Seat (codes "capability") seat (Long c.0 ∷ Letters (name_of c.1) ∷ [])
 
--- the events of a seat's capabilities, by rising bit
-unfoldable pub capability_events : ℕ → ℕ → (KnownInterface → Bool) → List Raw
-capability_events seat mask has = filter_map (λ c. if has_bit mask c.0 && has c.1 then Some (capability_event seat c) else None) capabilities
+-- the end of a seat's description
+abbrev pub done_event : ℕ → Raw
+done_event seat = event known.Seat (codes "done") seat []
 
--- the events of the new seat
-unfoldable pub seat_events : Setup → List Raw → List Raw
-seat_events setup before =
-    event known.Connection (codes "seat") connection_id (Long seat_id ∷ Word (version before known.Seat) ∷ [])
-    ∷ (capability_events seat_id setup.capabilities (λ interface. is_some (settled before interface))
-    ++ (event known.Seat (codes "done") seat_id [] ∷ []))
+-- ---- what answers a message
+
+-- one event for each settled interface, in the order of the list
+unfoldable pub settled_events : ℕ → (KnownInterface → Option ℕ) → List Raw
+settled_events handshake settled = filter_map (λ interface. option_map (settled_event handshake interface) (settled interface)) the_twelve
+
+-- one event for each capability of the mask whose interface is settled, by rising bit
+unfoldable pub capability_events : ℕ → ℕ → (KnownInterface → Bool) → List Raw
+capability_events seat mask is_settled = filter_map (λ c. if has_bit mask c.0 && is_settled c.1 then Some (capability_event seat c) else None) capabilities
 
 -- the events that answer the finish
 unfoldable pub finish_events : Setup → List Raw → List Raw
-finish_events setup before = settled_events (settled before) ++ (connection_event setup ∷ seat_events setup before)
+finish_events setup before =
+    settled_events 0 (settled before)
+    ++ (connection_event 0 setup.serial connection_id
+    ∷ seat_event connection_id seat_id (version before known.Seat)
+    ∷ (capability_events seat_id setup.capabilities (λ interface. is_some (settled before interface))
+    ++ (done_event seat_id ∷ [])))
 
 -- the events that answer a message
 unfoldable pub reply : Setup → List Raw → Raw → List Raw
 reply setup before m = if is_the_finish before m then finish_events setup before else []
+
+-- the first event, before any message
+abbrev pub greeting : Raw
+greeting = greeting_to 0
 
 -- all events, the oldest first
 unfoldable pub replies : Setup → List Raw → List Raw
