@@ -7,7 +7,7 @@ use Rattle.ei_backend.specs.declared.outside.PutError.TheVariants as put_errors
 use Rattle.ei_backend.specs.declared.outside.Taken.{Taken}
 use Rattle.ei_backend.specs.declared.outside.LastAnswer.{LastAnswer}
 
--- a source: the pieces left, the numbers of the calls that fail, the calls and faults so far, and the last answer
+-- a source: the pieces left, the calls that fail, the calls and faults so far, the last answer
 pub record PiecesView : Type 0 where
   pub left : List Piece
   pub fails : List ℕ
@@ -15,14 +15,14 @@ pub record PiecesView : Type 0 where
   pub faults : ℕ
   pub last : LastAnswer
 
--- a sink: what it took, the numbers of the calls that fail, the calls and faults so far
+-- a sink: what it took, the calls that fail, the calls and faults so far
 pub record TrayView : Type 0 where
   pub held : Piece
   pub fails : List ℕ
   pub calls : ℕ
   pub faults : ℕ
 
--- an input: the text left, the numbers of the calls that fail, the calls and faults so far
+-- an input: the text left, the calls that fail, the calls and faults so far
 pub record TextView : Type 0 where
   pub left : List ℕ
   pub fails : List ℕ

@@ -60,7 +60,8 @@ impl Model for Pieces {
 impl Pieces {
     /// A source with no piece, which never fails.
     pub fn new(alloc: Global) -> Pieces
-        ensures { result ≡ record { left = []; fails = []; calls = 0; faults = 0; last = LastAnswer.Nothing } }
+        ensures { result ≡
+            record { left = []; fails = []; calls = 0; faults = 0; last = LastAnswer.Nothing } }
     {
         Pieces {
             alloc,
@@ -78,7 +79,9 @@ impl Pieces {
         requires some { 0 < length bytes.now }
         requires bytes { length bytes.now ≤ 65536 }
         requires handles { length handles.now ≤ 64 }
-        ensures ok { OnOk result (self.new ≡ record self.old { left = self.old.left ++ record { bytes = bytes.now; handles = handles.now } ∷ [] }) }
+        ensures ok { OnOk result (self.new ≡ record self.old {
+          left = self.old.left ++ record { bytes = bytes.now; handles = handles.now } ∷ [];
+        }) }
         ensures err { OnErr result (self.new ≡ self.old) }
     {
         let piece = StoredPiece {
@@ -124,7 +127,8 @@ impl Source for Pieces {
         ensures whole { IfOk result (λ taken. taken ≡ first_sizes self.old.left) }
         // what the slices hold besides the piece
         ensures behind { IfOk result (λ taken. drop taken.bytes bytes.new ≡ drop taken.bytes bytes.old) }
-        ensures handles_behind { IfOk result (λ taken. drop taken.handles handles.new ≡ drop taken.handles handles.old) }
+        ensures handles_behind { IfOk result (λ taken.
+            drop taken.handles handles.new ≡ drop taken.handles handles.old) }
         ensures err { OnErr result (bytes.new ≡ bytes.old) }
         ensures handles_err { OnErr result (handles.new ≡ handles.old) }
         // what it counts, and what stays

@@ -1,7 +1,6 @@
 //! A clock that gives the readings that it was made of.
 
 ghost use Rattle.std.specs.Prelude.{◌≡◌, Some, drop, slice_index, IfOk};
-ghost use Rattle.ei_backend.specs.Outside.{Reads};
 ghost use Rattle.ei_backend.specs.Memory.{ReadingsView};
 
 use crate::outside::Clock;
@@ -51,7 +50,8 @@ impl Clock for Readings {
     ghost later_trans = { λ _ _ _ _ _. tt };
 
     fn now(&mut self) -> u64
-        ensures { Reads self.old.left (Some self.new.left) result }
+        ensures reading { result ≡ slice_index self.old.left 0 }
+        ensures left { self.new.left ≡ drop 1 self.old.left }
     {
         if self.next < self.readings.len() {
             let reading = self.readings[self.next];

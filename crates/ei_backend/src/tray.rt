@@ -36,7 +36,8 @@ impl Model for Tray {
 impl Tray {
     /// A sink that took nothing yet, and never fails.
     pub fn new(alloc: Global) -> Tray
-        ensures { result ≡ record { held = record { bytes = []; handles = [] }; fails = []; calls = 0; faults = 0 } }
+        ensures { result ≡
+            record { held = record { bytes = []; handles = [] }; fails = []; calls = 0; faults = 0 } }
     {
         Tray {
             bytes: Vec::new(alloc),
