@@ -68,6 +68,10 @@ capability_named name = option_and_then capability_of (known_of name)
 abbrev pub bits_of : DeviceCapabilities → ℕ
 bits_of set = set.0
 
+-- the bits of all seven; a number is a set of capabilities where it is no larger
+abbrev pub all_bits : ℕ
+all_bits = 127
+
 -- whether a set of these bits has this bit
 abbrev pub has_bit : ℕ → ℕ → Bool
 has_bit mask bit = mask / bit % 2 == 1
