@@ -1,5 +1,5 @@
 -- Sets of capabilities as masks.
-use Rattle.std.proofs.Common.{◌≡◌, ℕ, ◌≤◌, ◌<◌, ◌%◌, ◌↔◌, ◌∙◌, sym, arith, bit_and}
+use Rattle.std.proofs.Common.{◌≡◌, ℕ, ◌%◌, bit_and}
 use Rattle.std.proofs.lemmas.Nat.{and_mask}
 
 -- a number has no bit beyond the seven where it is at most 127

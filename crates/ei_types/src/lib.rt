@@ -13,3 +13,6 @@ pub use capability::{DeviceCapabilities, DeviceCapability};
 pub use enums::{ButtonState, ContextType, DeviceType, DisconnectReason, KeyState, KeymapType};
 pub use error::{Error, EventError, HandshakeError, RequestError};
 pub use twelve::{interfaces, known_interfaces};
+
+#[cfg(test)]
+mod tests;
