@@ -1,5 +1,5 @@
 -- Capabilities: their bits, their interfaces, and sets of them as numbers.
-use Rattle.std.specs.Prelude.{ℕ, ◌/◌, ◌%◌, ◌==◌, Bool, List, [], ◌∷◌, ◌++◌, Option, Some, None, option_and_then}
+use Rattle.std.specs.Prelude.{ℕ, ◌/◌, ◌%◌, ◌==◌, Bool, List, [], ◌∷◌, Option, Some, None, option_and_then}
 use Rattle.ei_spec.specs.declared.interface.KnownInterface.{KnownInterface}
 use Rattle.ei_spec.specs.declared.interface.KnownInterface.TheVariants as known
 use Rattle.ei_spec.specs.Interface.{name_of, known_of}
@@ -67,6 +67,10 @@ capability_named name = option_and_then capability_of (known_of name)
 -- the bits of a set
 abbrev pub bits_of : DeviceCapabilities → ℕ
 bits_of set = set.0
+
+-- the bits of all seven; a number is a set of capabilities where it is no larger
+abbrev pub all_bits : ℕ
+all_bits = 127
 
 -- whether a set of these bits has this bit
 abbrev pub has_bit : ℕ → ℕ → Bool

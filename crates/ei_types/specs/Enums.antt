@@ -1,9 +1,47 @@
 -- The numbers of the enums on the wire.
 use Rattle.std.specs.Prelude.{ℕ}
 use Rattle.ei_types.specs.declared.enums.ContextType.{ContextType}
-use Rattle.ei_types.specs.declared.enums.ContextType.TheVariants.{Receiver, Sender}
+use Rattle.ei_types.specs.declared.enums.ContextType.TheVariants as context
+use Rattle.ei_types.specs.declared.enums.DisconnectReason.{DisconnectReason}
+use Rattle.ei_types.specs.declared.enums.DisconnectReason.TheVariants as reason
+use Rattle.ei_types.specs.declared.enums.DeviceType.{DeviceType}
+use Rattle.ei_types.specs.declared.enums.DeviceType.TheVariants as device
+use Rattle.ei_types.specs.declared.enums.ButtonState.{ButtonState}
+use Rattle.ei_types.specs.declared.enums.ButtonState.TheVariants as button
+use Rattle.ei_types.specs.declared.enums.KeyState.{KeyState}
+use Rattle.ei_types.specs.declared.enums.KeyState.TheVariants as key
+use Rattle.ei_types.specs.declared.enums.KeymapType.{KeymapType}
+use Rattle.ei_types.specs.declared.enums.KeymapType.TheVariants as keymap
 
 -- the number of a context type
 abbrev pub context_type_number : ContextType → ℕ
-context_type_number Receiver = 1
-context_type_number Sender = 2
+context_type_number context.Receiver = 1
+context_type_number context.Sender = 2
+
+-- the number of a reason to end a connection
+abbrev pub disconnect_reason_number : DisconnectReason → ℕ
+disconnect_reason_number reason.Disconnected = 0
+disconnect_reason_number reason.Error = 1
+disconnect_reason_number reason.Mode = 2
+disconnect_reason_number reason.Protocol = 3
+disconnect_reason_number reason.Value = 4
+disconnect_reason_number reason.Transport = 5
+
+-- the number of a device type
+abbrev pub device_type_number : DeviceType → ℕ
+device_type_number device.Virtual = 1
+device_type_number device.Physical = 2
+
+-- the number of a state of a button
+abbrev pub button_state_number : ButtonState → ℕ
+button_state_number button.Released = 0
+button_state_number button.Press = 1
+
+-- the number of a state of a key
+abbrev pub key_state_number : KeyState → ℕ
+key_state_number key.Released = 0
+key_state_number key.Press = 1
+
+-- the number of a form of keymaps
+abbrev pub keymap_type_number : KeymapType → ℕ
+keymap_type_number keymap.Xkb = 1

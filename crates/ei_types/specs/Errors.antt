@@ -1,5 +1,4 @@
 -- The error of a session that each error below becomes.
-use Rattle.std.specs.Prelude.{ℕ}
 use Rattle.ei_wire.specs.declared.error.ParseError.{ParseError}
 use Rattle.ei_wire.specs.declared.error.ParseError.TheVariants as parse_error
 use Rattle.ei_wire.specs.declared.error.SendError.{SendError}

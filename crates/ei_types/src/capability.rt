@@ -1,8 +1,8 @@
 //! Capabilities of devices.
 
-ghost use Rattle.std.specs.Prelude.{⊤, ◌≡◌, ◌<◌, [], ◌∷◌, codes, Some, IfSome, slice_get};
-ghost use Rattle.ei_spec.specs.Interface.{name_of};
-ghost use Rattle.ei_types.specs.Capability.{bit_of, bits_of, capabilities, capability_list, capability_named, has_bit, index_of, interface_name_of, interface_of};
+ghost use Rattle.std.specs.Prelude.{⊤, ◌≡◌, ◌==◌, ◌≤◌, ◌↔◌, [], ◌∷◌, codes, Some, IfSome, IsSome, slice_get};
+ghost use Rattle.std.specs.Int.RustNames.{bit_and, bit_or};
+ghost use Rattle.ei_types.specs.Capability.{all_bits, bit_of, bits_of, capabilities, capability_list, capability_named, has_bit, index_of, interface_name_of, interface_of};
 
 use bitflags::{Flag, Flags, bitflag_items};
 use ei_spec::KnownInterface;
@@ -86,6 +86,7 @@ impl DeviceCapability {
     pub fn index(self) -> usize
         ensures value { result ≡ index_of self }
         ensures place { slice_get capability_list result ≡ Some self }
+        ensures order { Self.ALL ≡ capability_list }
     {
         match self {
             DeviceCapability::Pointer => 0,
@@ -145,6 +146,51 @@ impl Flags for DeviceCapabilities {
 }
 
 impl DeviceCapabilities {
+    /// The set without a capability.
+    pub fn empty() -> DeviceCapabilities
+        ensures { bits_of result ≡ 0 }
+    {
+        <DeviceCapabilities as Flags>::empty()
+    }
+
+    /// The set of all seven.
+    #[tactic(auto, unfolding(bitflags::specs::Sets::known_from))]
+    pub fn all() -> DeviceCapabilities
+        ensures { bits_of result ≡ all_bits }
+    {
+        <DeviceCapabilities as Flags>::all()
+    }
+
+    /// The bits of the capabilities in the set.
+    pub fn bits(&self) -> u64
+        ensures { result ≡ bits_of self.now }
+    {
+        self.0
+    }
+
+    /// The set of these bits; `None` where one of them is no capability's.
+    #[tactic(auto, using(crate::proofs::Masks::seven_bits), unfolding(bitflags::specs::Sets::known_from))]
+    pub fn from_bits(bits: u64) -> Option<DeviceCapabilities>
+        ensures known { IsSome result ↔ (bits ≤ all_bits) }
+        ensures value { IfSome result (λ set. bits_of set ≡ bits) }
+    {
+        <DeviceCapabilities as Flags>::from_bits(bits)
+    }
+
+    /// Whether the set has each capability of the other.
+    pub fn contains(&self, other: DeviceCapabilities) -> bool
+        ensures { result ≡ (bit_and (bits_of self.now) (bits_of other) == bits_of other) }
+    {
+        Flags::contains(self, other)
+    }
+
+    /// The capabilities of both sets together.
+    pub fn union(self, other: DeviceCapabilities) -> DeviceCapabilities
+        ensures { bits_of result ≡ bit_or (bits_of self) (bits_of other) }
+    {
+        Flags::union(self, other)
+    }
+
     /// Whether the set has this capability.
     pub fn has(&self, one: DeviceCapability) -> bool
         ensures { result ≡ has_bit (bits_of self.now) (bit_of one) }

@@ -1,8 +1,8 @@
-//! The enums that messages bear.
+//! The enums that messages bear. An enum is its number on the wire.
 
 ghost use Rattle.std.specs.Prelude.{◌≡◌, [], ◌∷◌, codes};
 ghost use Rattle.ei_spec.specs.Value.{Choice, Word};
-ghost use Rattle.ei_types.specs.Enums.{context_type_number};
+ghost use Rattle.ei_types.specs.Enums.{button_state_number, context_type_number, device_type_number, disconnect_reason_number, key_state_number, keymap_type_number};
 
 use ei_wire::{Arg, ByteStream, OwnedArg, ParseError};
 
@@ -38,6 +38,208 @@ impl OwnedArg for ContextType {
         } else {
             ContextType::Sender
         })
+    }
+
+    fn as_arg(&self) -> Arg<'_> {
+        Arg::Uint32(u32::from(*self))
+    }
+}
+
+/// Why the server ends a connection.
+#[derive(Clone, Copy, Debug, PartialEq, Eq, Hash)]
+pub enum DisconnectReason {
+    /// The client asked for it, or the server is done.
+    Disconnected = 0,
+    /// Something went wrong that the other reasons don't say.
+    Error = 1,
+    /// The client did what its context type doesn't allow.
+    Mode = 2,
+    /// The client broke the protocol.
+    Protocol = 3,
+    /// The client sent a value that isn't allowed.
+    Value = 4,
+    /// The bytes between the two ends failed.
+    Transport = 5,
+}
+
+impl From<DisconnectReason> for u32 {
+    ghost from_gives = { λ reason number. number ≡ disconnect_reason_number reason };
+
+    fn from(reason: DisconnectReason) -> u32 {
+        match reason {
+            DisconnectReason::Disconnected => 0,
+            DisconnectReason::Error => 1,
+            DisconnectReason::Mode => 2,
+            DisconnectReason::Protocol => 3,
+            DisconnectReason::Value => 4,
+            DisconnectReason::Transport => 5,
+        }
+    }
+}
+
+impl OwnedArg for DisconnectReason {
+    ghost kind = { Choice (codes "DisconnectReason") (0 ∷ 1 ∷ 2 ∷ 3 ∷ 4 ∷ 5 ∷ []) };
+
+    ghost value = { λ reason. Word (disconnect_reason_number reason) };
+
+    fn parse(stream: &mut ByteStream<'_>) -> Result<DisconnectReason, ParseError> {
+        match stream.choice("DisconnectReason", &[0, 1, 2, 3, 4, 5])? {
+            0 => Ok(DisconnectReason::Disconnected),
+            1 => Ok(DisconnectReason::Error),
+            2 => Ok(DisconnectReason::Mode),
+            3 => Ok(DisconnectReason::Protocol),
+            4 => Ok(DisconnectReason::Value),
+            _ => Ok(DisconnectReason::Transport),
+        }
+    }
+
+    fn as_arg(&self) -> Arg<'_> {
+        Arg::Uint32(u32::from(*self))
+    }
+}
+
+/// What a device is.
+#[derive(Clone, Copy, Debug, PartialEq, Eq, Hash)]
+pub enum DeviceType {
+    /// It has no body of its own, as a device that the server makes.
+    Virtual = 1,
+    /// It stands for a device that one can touch.
+    Physical = 2,
+}
+
+impl From<DeviceType> for u32 {
+    ghost from_gives = { λ kind number. number ≡ device_type_number kind };
+
+    fn from(kind: DeviceType) -> u32 {
+        match kind {
+            DeviceType::Virtual => 1,
+            DeviceType::Physical => 2,
+        }
+    }
+}
+
+impl OwnedArg for DeviceType {
+    ghost kind = { Choice (codes "DeviceType") (1 ∷ 2 ∷ []) };
+
+    ghost value = { λ kind. Word (device_type_number kind) };
+
+    fn parse(stream: &mut ByteStream<'_>) -> Result<DeviceType, ParseError> {
+        let number = stream.choice("DeviceType", &[1, 2])?;
+        Ok(if number == 1 {
+            DeviceType::Virtual
+        } else {
+            DeviceType::Physical
+        })
+    }
+
+    fn as_arg(&self) -> Arg<'_> {
+        Arg::Uint32(u32::from(*self))
+    }
+}
+
+/// Whether a button goes down or up.
+#[derive(Clone, Copy, Debug, PartialEq, Eq, Hash)]
+pub enum ButtonState {
+    /// It goes up.
+    Released = 0,
+    /// It goes down.
+    Press = 1,
+}
+
+impl From<ButtonState> for u32 {
+    ghost from_gives = { λ state number. number ≡ button_state_number state };
+
+    fn from(state: ButtonState) -> u32 {
+        match state {
+            ButtonState::Released => 0,
+            ButtonState::Press => 1,
+        }
+    }
+}
+
+impl OwnedArg for ButtonState {
+    ghost kind = { Choice (codes "ButtonState") (0 ∷ 1 ∷ []) };
+
+    ghost value = { λ state. Word (button_state_number state) };
+
+    fn parse(stream: &mut ByteStream<'_>) -> Result<ButtonState, ParseError> {
+        let number = stream.choice("ButtonState", &[0, 1])?;
+        Ok(if number == 0 {
+            ButtonState::Released
+        } else {
+            ButtonState::Press
+        })
+    }
+
+    fn as_arg(&self) -> Arg<'_> {
+        Arg::Uint32(u32::from(*self))
+    }
+}
+
+/// Whether a key goes down or up.
+#[derive(Clone, Copy, Debug, PartialEq, Eq, Hash)]
+pub enum KeyState {
+    /// It goes up.
+    Released = 0,
+    /// It goes down.
+    Press = 1,
+}
+
+impl From<KeyState> for u32 {
+    ghost from_gives = { λ state number. number ≡ key_state_number state };
+
+    fn from(state: KeyState) -> u32 {
+        match state {
+            KeyState::Released => 0,
+            KeyState::Press => 1,
+        }
+    }
+}
+
+impl OwnedArg for KeyState {
+    ghost kind = { Choice (codes "KeyState") (0 ∷ 1 ∷ []) };
+
+    ghost value = { λ state. Word (key_state_number state) };
+
+    fn parse(stream: &mut ByteStream<'_>) -> Result<KeyState, ParseError> {
+        let number = stream.choice("KeyState", &[0, 1])?;
+        Ok(if number == 0 {
+            KeyState::Released
+        } else {
+            KeyState::Press
+        })
+    }
+
+    fn as_arg(&self) -> Arg<'_> {
+        Arg::Uint32(u32::from(*self))
+    }
+}
+
+/// How a keymap is written.
+#[derive(Clone, Copy, Debug, PartialEq, Eq, Hash)]
+pub enum KeymapType {
+    /// As text of xkb.
+    Xkb = 1,
+}
+
+impl From<KeymapType> for u32 {
+    ghost from_gives = { λ kind number. number ≡ keymap_type_number kind };
+
+    fn from(kind: KeymapType) -> u32 {
+        match kind {
+            KeymapType::Xkb => 1,
+        }
+    }
+}
+
+impl OwnedArg for KeymapType {
+    ghost kind = { Choice (codes "KeymapType") (1 ∷ []) };
+
+    ghost value = { λ kind. Word (keymap_type_number kind) };
+
+    fn parse(stream: &mut ByteStream<'_>) -> Result<KeymapType, ParseError> {
+        let _number = stream.choice("KeymapType", &[1])?;
+        Ok(KeymapType::Xkb)
     }
 
     fn as_arg(&self) -> Arg<'_> {

@@ -10,6 +10,9 @@ mod error;
 mod twelve;
 
 pub use capability::{DeviceCapabilities, DeviceCapability};
-pub use enums::ContextType;
+pub use enums::{ButtonState, ContextType, DeviceType, DisconnectReason, KeyState, KeymapType};
 pub use error::{Error, EventError, HandshakeError, RequestError};
 pub use twelve::{interfaces, known_interfaces};
+
+#[cfg(test)]
+mod tests;
