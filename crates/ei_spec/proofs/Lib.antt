@@ -8,3 +8,5 @@ pub mod GoesOn
 pub mod OneReading
 pub mod HistoryLaws
 pub mod GroupsLaws
+pub mod Faults
+pub mod Handleless
