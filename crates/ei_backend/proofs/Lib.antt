@@ -1,3 +1,4 @@
 pub mod Objects
 pub mod Sending
 pub mod GoingOut
+pub mod ComingIn

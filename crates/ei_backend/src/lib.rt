@@ -1,6 +1,7 @@
 //! The outside, and one endpoint over it: objects, buffers, and the messages in them.
 #![tactic(auto)]
 
+mod incoming;
 mod interface;
 mod object;
 mod outgoing;
