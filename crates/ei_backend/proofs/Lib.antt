@@ -2,3 +2,4 @@ pub mod Objects
 pub mod Sending
 pub mod GoingOut
 pub mod ComingIn
+pub mod Shorter
