@@ -3,3 +3,4 @@ pub mod Sending
 pub mod GoingOut
 pub mod ComingIn
 pub mod Shorter
+pub mod ReadingOn

@@ -7,7 +7,7 @@ use Rattle.ei_spec.specs.Value.{Value, handles_of}
 use Rattle.ei_spec.specs.Reading.{Fault, HeaderLength, MessageLength, Unread, Stop}
 use Rattle.ei_spec.specs.Interface.{Interface, ObjectView}
 use Rattle.ei_spec.specs.Rows.{Row}
-use Rattle.ei_spec.specs.Message.{Raw, message, bytes_of, size, Front, Short, Unlawful, Whole, front}
+use Rattle.ei_spec.specs.Message.{Raw, message, bytes_of, Front, Short, Unlawful, Whole, front}
 use Rattle.ei_wire.specs.declared.error.ParseError.{ParseError}
 use Rattle.ei_wire.specs.declared.error.ParseError.TheVariants as error
 use Rattle.ei_wire.specs.declared.error.ReadError.{ReadError}
@@ -76,9 +76,9 @@ outcome len t (Ok x) = record {
   taken = x.unread.taken;
 }
 
--- what the whole message says to its target
-abbrev pub body_read : Bool → ObjectView → Raw → List Handle → TableView → Outcome
-body_read events target m handles t = outcome (size m) t (message_read events target.interface m.opcode (record { bytes = m.body; handles = handles; taken = 0 }) t)
+-- what a message of the opcode and with the body says to its target
+abbrev pub body_read : Bool → ObjectView → ℕ → List ℕ → List Handle → TableView → Outcome
+body_read events target opcode body handles t = outcome (16 + length body) t (message_read events target.interface opcode (record { bytes = body; handles = handles; taken = 0 }) t)
 
 -- what a call for the next message answers
 pub data Answer : Type 0 where
@@ -98,7 +98,7 @@ of_outcome b target opcode rest o = (said_of target opcode o.said, record b { ta
 
 abbrev pub of_target : Bool → BackendView → Option ObjectView → Raw → List ℕ → Answer × BackendView
 of_target events b None m rest = (Gone m.id, record b { unread = rest })
-of_target events b (Some target) m rest = of_outcome b target m.opcode rest (body_read events target m b.handles b.table)
+of_target events b (Some target) m rest = of_outcome b target m.opcode rest (body_read events target m.opcode m.body b.handles b.table)
 
 abbrev pub of_front : Bool → BackendView → Front → Answer × BackendView
 of_front events b Short = (Waits, b)

@@ -1,7 +1,7 @@
 //! One endpoint: its objects, what came to it and what waits to be sent.
 
 ghost use Rattle.std.specs.Prelude.{◌≡◌, ℕ, ◌+◌, ◌-◌, ◌≤◌, ◌<◌, ◌^◌, ◌↔◌, true, false, List, length, drop, IfOk, OnErr, OnOk, Ok, Err, Some, IsErrOf, IsTrue, IsSome, map, if◌then◌else◌};
-ghost use Rattle.ei_spec.specs.Message.{Raw, message, size};
+ghost use Rattle.ei_spec.specs.Message.{message, size};
 ghost use Rattle.ei_wire.specs.Gives.{Gives, value_of_arg};
 ghost use Rattle.ei_wire.specs.declared.error.ParseError.TheVariants as error;
 ghost use Rattle.ei_wire.specs.declared.error.SendError.TheVariants as send_error;
@@ -329,7 +329,7 @@ fn read_body<T: MessageEnum>(
 where
     T: Drop,
     requires { length body.now ≤ 1048560 }
-    ensures says { (id : ℕ) → Says T.target T.code T.values target opcode result.0 table.new result.1 (body_read T.events target (record { id = id; opcode = opcode; body = body.now }) handles.now table.old) }
+    ensures says { Says T.target T.code T.values target opcode result.0 table.new result.1 (body_read T.events target opcode body.now handles.now table.old) }
     ensures memory { IsErrOf result.0 error.NoMemory → table.new ≡ table.old }
 {
     let mut stream = ByteStream::new(alloc, body, handles);
