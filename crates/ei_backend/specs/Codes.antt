@@ -11,6 +11,7 @@ use Rattle.ei_spec.specs.contracts.handle.Handle as handles
 use Rattle.ei_spec.specs.Piece.{Piece}
 use Rattle.ei_spec.specs.Interface.{Interface, Known, Other, ObjectView}
 use Rattle.ei_backend.specs.Table.{TableView}
+use Rattle.ei_backend.specs.Backend.{BackendView}
 
 abbrev pub known_or_name : Interface → KnownInterface ⊎ List ℕ
 known_or_name (Known k) = inl k
@@ -37,3 +38,8 @@ table_code = code_by (map.FinMap nat_cmp ObjectView × (ℕ × (ℕ × Bool))) (
 
 abbrev pub piece_code : Coded Piece
 piece_code = code_by (List ℕ × List Handle) (coded× (coded_list coded_ℕ) (coded_list handles.the_row.coded)) (λ p. (p.bytes, p.handles)) (λ p. record { bytes = p.0; handles = p.1 }) (λ _. refl)
+
+abbrev pub backend_code : Coded BackendView
+backend_code = code_by (TableView × (Piece × (Piece × Bool))) (coded× table_code (coded× piece_code (coded× piece_code coded_bool)))
+    (λ b. (b.table, (record { bytes = b.unread; handles = b.handles }, (record { bytes = b.unsent; handles = b.unsent_handles }, b.closed))))
+    (λ p. record { table = p.0; unread = p.1.0.bytes; handles = p.1.0.handles; unsent = p.1.1.0.bytes; unsent_handles = p.1.1.0.handles; closed = p.1.1.1 }) (λ _. refl)

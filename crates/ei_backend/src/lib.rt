@@ -1,8 +1,12 @@
 //! The outside, and one endpoint over it: objects, buffers, and the messages in them.
 #![tactic(auto)]
 
+mod backend;
+mod front;
+mod incoming;
 mod interface;
 mod memory_text;
+mod message;
 mod object;
 mod outgoing;
 mod outside;
@@ -11,8 +15,10 @@ mod readings;
 mod table;
 mod tray;
 
+pub use backend::Backend;
 pub use interface::InterfaceName;
 pub use memory_text::MemoryText;
+pub use message::{MessageEnum, PendingRequestResult};
 pub use object::Object;
 pub use outside::{Clock, Fault, Input, LastAnswer, PutError, Sink, Source, Taken};
 pub use pieces::Pieces;

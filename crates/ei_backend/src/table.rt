@@ -76,6 +76,13 @@ impl Table {
         }
     }
 
+    /// How many own ids are left.
+    pub fn ids_left(&self) -> u64
+        ensures { result ≡ own_end self.now - self.now.next_own }
+    {
+        self.own_end().saturating_sub(self.next_own)
+    }
+
     /// Where the ids of the peer end.
     fn peer_end(&self) -> u64
         ensures { result ≡ peer_end self.now }

@@ -1,0 +1,38 @@
+-- An endpoint that reads one more piece.
+use Rattle.std.proofs.Common.{◌≡◌, ℕ, Bool, true, false, List, ◌++◌, Option, Result, Ok, Err, refl, ap, sym, ◌∙◌}
+use Rattle.std.specs.Prelude.{◌↔◌, IsTrue, IsErrOf}
+use Rattle.ei_spec.specs.declared.handle.Handle.{Handle}
+use Rattle.ei_spec.specs.Piece.{Piece}
+use Rattle.ei_wire.specs.declared.error.ReadError.{ReadError}
+use Rattle.ei_wire.specs.declared.error.ReadError.TheVariants.{UnexpectedEof, ReadFault, HandleLimit, NoMemory}
+use Rattle.ei_backend.specs.Incoming as incoming
+use Rattle.ei_backend.specs.Outside.{with_more}
+use Rattle.ei_backend.specs.Backend.{BackendView, with_piece, closed_of, ReadsPiece}
+
+-- an endpoint with this unread, and closed or not
+abbrev after : BackendView → Piece → Bool → BackendView
+after b unread closed = record b { unread = unread.bytes; handles = unread.handles; closed = closed }
+
+abbrev unread_of : BackendView → Piece
+unread_of b = record { bytes = b.unread; handles = b.handles }
+
+same_after : (b : BackendView) (unread other : Piece) (closed : Bool) (now : Bool) → unread ≡ other → closed ≡ now → after b unread closed ≡ after b other now
+same_after b unread other closed now e f = rw (e, f) refl
+
+stays_open : (closed : Bool) (result : Result ℕ ReadError) → IsTrue closed ↔ IsErrOf result HandleLimit → (result ≡ Err HandleLimit → ⊥) → closed ≡ false
+stays_open true result is none = absurd (none (is.0 refl))
+stays_open false result is none = refl
+
+closes : (closed : Bool) → IsTrue closed ↔ IsErrOf {T = ℕ} (Err HandleLimit) HandleLimit → closed ≡ true
+closes true is = refl
+closes false is = is.1 refl
+
+pub reads_piece : (pieces : List Piece) (left : Option (List Piece)) (result : Result ℕ ReadError) (b : BackendView) (unread : Piece) (closed : Bool) → b.closed ≡ false →
+    incoming.ReadsPiece pieces left result (unread_of b) unread → IsTrue closed ↔ IsErrOf result HandleLimit → ReadsPiece pieces left result b (after b unread closed)
+reads_piece pieces left (Ok n) b unread closed is_open h is =
+    (h.0, h.1, h.2, same_after b unread _ closed b.closed h.3 (stays_open closed (Ok n) is (λ e. cc) ∙ sym is_open))
+reads_piece pieces left (Err HandleLimit) b unread closed is_open h is = (h.0, h.1, h.2, same_after b unread _ closed true h.3 (closes closed is))
+reads_piece pieces left (Err UnexpectedEof) b unread closed is_open h is =
+    (h.0, h.1, same_after b unread _ closed b.closed h.2 (stays_open closed (Err UnexpectedEof) is (λ e. cc) ∙ sym is_open))
+reads_piece pieces left (Err ReadFault) b unread closed is_open h is = (h.0, same_after b unread _ closed b.closed h.1 (stays_open closed (Err ReadFault) is (λ e. cc) ∙ sym is_open))
+reads_piece pieces left (Err NoMemory) b unread closed is_open h is = (h.0, same_after b unread _ closed b.closed h.1 (stays_open closed (Err NoMemory) is (λ e. cc) ∙ sym is_open))

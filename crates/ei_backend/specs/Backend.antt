@@ -1,0 +1,166 @@
+-- One endpoint, the message at the front of what it has not read, and the messages that it sends.
+use Rattle.std.specs.Prelude.{◌≡◌, ℕ, ◌+◌, ◌<◌, Bool, true, false, List, [], ◌++◌, length, drop, Option, Some, None, Result, Ok, Err, IfSome, IsSome, ◌==◌, if◌then◌else◌}
+use Rattle.std.specs.List.{flat_map}
+use Rattle.ei_spec.specs.declared.handle.Handle.{Handle}
+use Rattle.ei_spec.specs.Piece.{Piece}
+use Rattle.ei_spec.specs.Value.{Value, handles_of}
+use Rattle.ei_spec.specs.Reading.{Fault, HeaderLength, MessageLength, Unread, Stop}
+use Rattle.ei_spec.specs.Interface.{Interface, ObjectView}
+use Rattle.ei_spec.specs.Rows.{Row}
+use Rattle.ei_spec.specs.Message.{Raw, message, bytes_of, Front, Short, Unlawful, Whole, front}
+use Rattle.ei_wire.specs.declared.error.ParseError.{ParseError}
+use Rattle.ei_wire.specs.declared.error.ParseError.TheVariants as error
+use Rattle.ei_wire.specs.declared.error.ReadError.{ReadError}
+use Rattle.ei_wire.specs.declared.error.ReadError.TheVariants as read_error
+use Rattle.ei_wire.specs.declared.error.FlushError.{FlushError}
+use Rattle.ei_wire.specs.Gives.{fault_of}
+use Rattle.ei_backend.specs.Table.{TableView, new_table, found, without, with_own}
+use Rattle.ei_backend.specs.Outside.{with_more}
+use Rattle.ei_backend.specs.Outgoing.{with_message, unsent_after, sent_front, StopsAfter, Flushes}
+use Rattle.ei_backend.specs.Incoming.{IsFirst, Fits, Overflows}
+use Rattle.ei_backend.specs.Message.{Parsed, message_read}
+use Rattle.ei_backend.specs.declared.message.PendingRequestResult.{PendingRequestResult}
+use Rattle.ei_backend.specs.declared.message.PendingRequestResult.TheVariants as pending
+
+-- an endpoint: its objects, what came and isn't read, what waits to be sent, and whether it is closed
+pub record BackendView : Type 0 where
+  pub table : TableView
+  pub unread : List ℕ
+  pub handles : List Handle
+  pub unsent : List ℕ
+  pub unsent_handles : List Handle
+  pub closed : Bool
+
+-- an endpoint over these objects, with empty buffers
+abbrev pub new_backend : TableView → BackendView
+new_backend table = record { table = table; unread = []; handles = []; unsent = []; unsent_handles = []; closed = false }
+
+-- ---- reading
+
+-- the endpoint with one more piece behind what is unread
+abbrev pub with_piece : Piece → BackendView → BackendView
+with_piece piece b = record b { unread = b.unread ++ piece.bytes; handles = b.handles ++ piece.handles }
+
+-- the endpoint closed
+abbrev pub closed_of : BackendView → BackendView
+closed_of b = record b { closed = true }
+
+-- what reading a piece did to an open endpoint
+abbrev pub ReadsOn : Result ℕ ReadError → BackendView → BackendView → Type 0
+ReadsOn (Ok n) old new = (piece : Piece) × Fits n old.handles piece × (new ≡ with_piece piece old)
+ReadsOn (Err read_error.HandleLimit) old new = (piece : Piece) × Overflows old.handles piece × (new ≡ closed_of old)
+ReadsOn (Err e) old new = new ≡ old
+
+-- and where the source told these pieces
+abbrev pub ReadsPiece : List Piece → Option (List Piece) → Result ℕ ReadError → BackendView → BackendView → Type 0
+ReadsPiece pieces left (Ok n) old new = (piece : Piece) × IsFirst pieces left piece × Fits n old.handles piece × (new ≡ with_piece piece old)
+ReadsPiece pieces left (Err read_error.HandleLimit) old new = (piece : Piece) × IsFirst pieces left piece × Overflows old.handles piece × (new ≡ closed_of old)
+ReadsPiece pieces left (Err read_error.UnexpectedEof) old new = (pieces ≡ []) × (left ≡ Some []) × (new ≡ old)
+ReadsPiece pieces left (Err read_error.ReadFault) old new = (left ≡ Some pieces) × (new ≡ old)
+ReadsPiece pieces left (Err read_error.NoMemory) old new = (left ≡ Some pieces) × (new ≡ old)
+
+-- ---- the message at the front
+
+-- what reading the whole body says, the table after it, and how many handles it took
+pub record Outcome : Type 0 where
+  pub said : Result (List Value) Fault
+  pub table : TableView
+  pub taken : ℕ
+
+-- a message of this size is refused where its arguments leave bytes over
+abbrev pub outcome : ℕ → TableView → Result Parsed Stop → Outcome
+outcome len t (Err f) = record { said = Err f.0; table = t; taken = f.1 }
+outcome len t (Ok x) = record {
+  said = if length x.unread.bytes == 0 then Ok x.values else Err (MessageLength (len + length x.unread.bytes) len);
+  table = x.table;
+  taken = x.unread.taken;
+}
+
+-- what a message of the opcode and with the body says to its target
+abbrev pub body_read : Bool → ObjectView → ℕ → List ℕ → List Handle → TableView → Outcome
+body_read events target opcode body handles t = outcome (16 + length body) t (message_read events target.interface opcode (record { bytes = body; handles = handles; taken = 0 }) t)
+
+-- what a call for the next message answers
+pub data Answer : Type 0 where
+  Waits : Answer
+  Refused : Fault → Answer
+  -- no object has the id
+  Gone : ℕ → Answer
+  Message : (target : ObjectView) → (opcode : ℕ) → (values : List Value) → Answer
+
+abbrev pub said_of : ObjectView → ℕ → Result (List Value) Fault → Answer
+said_of target opcode (Ok values) = Message target opcode values
+said_of target opcode (Err f) = Refused f
+
+-- the message is taken out, with the handles that it took
+abbrev pub of_outcome : BackendView → ObjectView → ℕ → List ℕ → Outcome → Answer × BackendView
+of_outcome b target opcode rest o = (said_of target opcode o.said, record b { table = o.table; unread = rest; handles = drop o.taken b.handles })
+
+abbrev pub of_target : Bool → BackendView → Option ObjectView → Raw → List ℕ → Answer × BackendView
+of_target events b None m rest = (Gone m.id, record b { unread = rest })
+of_target events b (Some target) m rest = of_outcome b target m.opcode rest (body_read events target m.opcode m.body b.handles b.table)
+
+abbrev pub of_front : Bool → BackendView → Front → Answer × BackendView
+of_front events b Short = (Waits, b)
+of_front events b (Unlawful n) = (Refused (HeaderLength n), b)
+of_front events b (Whole m rest) = of_target events b (found b.table m.id) m rest
+
+-- the answer to a call for the next message, and the endpoint after it
+abbrev pub next : Bool → BackendView → Answer × BackendView
+next events b = of_front events b (front b.unread)
+
+-- what reading a body answered is what the outcome says
+abbrev pub Says : {M : Type 0} → (M → ObjectView) → (M → ℕ) → (M → List Value) → ObjectView → ℕ → Result M ParseError → TableView → ℕ → Outcome → Type 0
+Says target code values object opcode (Ok m) table taken o = (o ≡ record { said = Ok (values m); table = table; taken = taken }) × (target m ≡ object) × (code m ≡ opcode)
+Says target code values object opcode (Err e) table taken o = IfSome (fault_of e) (λ f. o ≡ record { said = Err f; table = table; taken = taken })
+
+-- what a call for the next message answered, and the endpoint after it
+abbrev pub Answers : {M : Type 0} → (M → ObjectView) → (M → ℕ) → (M → List Value) → Option (PendingRequestResult M) → BackendView → Answer × BackendView → Type 0
+Answers target code values None b want = want ≡ (Waits, b)
+Answers target code values (Some (pending.Request m)) b want = want ≡ (Message (target m) (code m) (values m), b)
+Answers target code values (Some (pending.ParseError e)) b want = IfSome (fault_of e) (λ f. want ≡ (Refused f, b)) × IsSome (fault_of e)
+Answers target code values (Some (pending.InvalidObject id)) b want = want ≡ (Gone id, b)
+
+-- an answer took a message out, unless there was none or its length is unlawful
+abbrev pub Shortens : {M : Type 0} → List ℕ → List ℕ → Option (PendingRequestResult M) → Type 0
+Shortens old new None = Unit {0}
+Shortens old new (Some (pending.ParseError (error.HeaderLength n))) = Unit {0}
+Shortens old new (Some answer) = length new < length old
+
+-- ---- sending
+
+-- the endpoint with one more message buffered
+abbrev pub sent : BackendView → ℕ → ℕ → List Value → BackendView
+sent b id opcode values = record b { unsent = b.unsent ++ bytes_of (message id opcode values); unsent_handles = b.unsent_handles ++ flat_map handles_of values }
+
+-- the endpoint with the object out of its table
+abbrev pub removed : BackendView → ℕ → BackendView
+removed b id = record b { table = without b.table id }
+
+-- the endpoint with the next object of this end in its table
+abbrev pub with_object : BackendView → Interface → ℕ → BackendView
+with_object b interface version = record b { table = with_own b.table interface version }
+
+-- the endpoint with one more message buffered, and the object that it announces in the table
+abbrev pub sent_new : BackendView → ℕ → ℕ → List Value → Interface → ℕ → BackendView
+sent_new b id opcode values interface version = with_object (sent b id opcode values) interface version
+
+-- the endpoint after a row was sent to a target
+abbrev pub after_row : Option (ℕ × Row) → ObjectView → List Value → BackendView → BackendView
+after_row None target values b = b
+after_row (Some r) target values b = if r.1.destroys then removed (sent b target.id r.0 values) target.id else sent b target.id r.0 values
+
+-- the same where the row announces an object
+abbrev pub after_new : Option (ℕ × Row) → ObjectView → List Value → Interface → ℕ → BackendView → BackendView
+after_new None target values interface version b = b
+after_new (Some r) target values interface version b = if r.1.destroys then removed (sent_new b target.id r.0 values interface version) target.id else sent_new b target.id r.0 values interface version
+
+-- ---- flushing
+
+-- what waits to be sent
+abbrev pub unsent_of : BackendView → Piece
+unsent_of b = record { bytes = b.unsent; handles = b.unsent_handles }
+
+-- the endpoint with this to be sent
+abbrev pub with_unsent : Piece → BackendView → BackendView
+with_unsent waiting b = record b { unsent = waiting.bytes; unsent_handles = waiting.handles }

@@ -1,0 +1,41 @@
+-- What came and isn't read yet, and what one more piece does to it.
+use Rattle.std.specs.Prelude.{◌≡◌, ℕ, ◌+◌, ◌<◌, ◌≤◌, List, [], length, drop, slice_get, Option, Some, Result, Ok, Err}
+use Rattle.ei_spec.specs.declared.handle.Handle.{Handle}
+use Rattle.ei_spec.specs.Piece.{Piece}
+use Rattle.ei_wire.specs.declared.error.ReadError.{ReadError}
+use Rattle.ei_wire.specs.declared.error.ReadError.TheVariants as read_error
+use Rattle.ei_backend.specs.Outside.{with_more}
+
+-- the piece is the first of these, and the source has the others left
+pub record IsFirst (pieces : List Piece) (left : Option (List Piece)) (piece : Piece) : Type 0 where
+  pub first : slice_get pieces 0 ≡ Some piece
+  pub left_is : left ≡ Some (drop 1 pieces)
+
+-- a piece of n bytes, whose handles and those unread are at most 4096
+pub record Fits (n : ℕ) (unread : List Handle) (piece : Piece) : Type 0 where
+  pub bytes : n ≡ length piece.bytes
+  pub some : 0 < n
+  pub most : n ≤ 65536
+  pub most_handles : length piece.handles ≤ 64
+  pub limit : length unread + length piece.handles ≤ 4096
+
+-- a piece whose handles and those unread are more than 4096
+pub record Overflows (unread : List Handle) (piece : Piece) : Type 0 where
+  pub some : 0 < length piece.bytes
+  pub most : length piece.bytes ≤ 65536
+  pub most_handles : length piece.handles ≤ 64
+  pub limit : 4096 < length unread + length piece.handles
+
+-- what reading a piece did to what is unread
+abbrev pub Reads : Result ℕ ReadError → Piece → Piece → Type 0
+Reads (Ok n) old new = (piece : Piece) × Fits n old.handles piece × (new ≡ with_more piece.bytes piece.handles old)
+Reads (Err read_error.HandleLimit) old new = (piece : Piece) × Overflows old.handles piece × (new ≡ old)
+Reads (Err e) old new = new ≡ old
+
+-- and where the source told these pieces
+abbrev pub ReadsPiece : List Piece → Option (List Piece) → Result ℕ ReadError → Piece → Piece → Type 0
+ReadsPiece pieces left (Ok n) old new = (piece : Piece) × IsFirst pieces left piece × Fits n old.handles piece × (new ≡ with_more piece.bytes piece.handles old)
+ReadsPiece pieces left (Err read_error.HandleLimit) old new = (piece : Piece) × IsFirst pieces left piece × Overflows old.handles piece × (new ≡ old)
+ReadsPiece pieces left (Err read_error.UnexpectedEof) old new = (pieces ≡ []) × (left ≡ Some []) × (new ≡ old)
+ReadsPiece pieces left (Err read_error.ReadFault) old new = (left ≡ Some pieces) × (new ≡ old)
+ReadsPiece pieces left (Err read_error.NoMemory) old new = (left ≡ Some pieces) × (new ≡ old)

@@ -1,0 +1,45 @@
+-- What a message is read as, with the first refusal.
+use Rattle.std.specs.Prelude.{◌≡◌, ℕ, Bool, List, Option, Some, None, Result, Ok, Err, IfSome}
+use Rattle.ei_spec.specs.Value.{Kind, Value}
+use Rattle.ei_spec.specs.Reading.{Fault, InvalidOpcode, InvalidInterface, Unread, Stop, ◌then◌, stopping, all_at}
+use Rattle.ei_spec.specs.Interface.{Interface, Known, Other, ObjectView, short_of, named}
+use Rattle.ei_spec.specs.Rows.{Row, Announces, Nothing, Fixed, Named, rows, row_at, new_id, version_of, name_in}
+use Rattle.ei_wire.specs.declared.error.ParseError.{ParseError}
+use Rattle.ei_wire.specs.Gives.{fault_of}
+use Rattle.ei_backend.specs.Table.{TableView, accept}
+
+-- the table that an announcement leaves
+abbrev pub with_new : Result (ObjectView × TableView) Fault → Result TableView Fault
+with_new (Ok x) = Ok x.1
+with_new (Err f) = Err f
+
+-- the table with what the arguments of these kinds announce
+abbrev pub announce : Announces → List Kind → List Value → TableView → Result TableView Fault
+announce Nothing kinds values t = Ok t
+announce (Fixed k) kinds values t = with_new (accept t (new_id kinds values) (Known k) (version_of values))
+announce Named kinds values t = with_new (accept t (new_id kinds values) (named (name_in values)) (version_of values))
+
+-- the arguments of a message, the table after it, and what is left of it
+pub record Parsed : Type 0 where
+  pub values : List Value
+  pub table : TableView
+  pub unread : Unread
+
+-- a message of the row: its arguments are read, and then its object is announced
+abbrev pub row_read : Row → Unread → TableView → Result Parsed Stop
+row_read r s t = all_at r.kinds s then λ x. stopping x.1.taken (announce r.announces r.kinds x.0 t) then λ u. Ok (record { values = x.0; table = u; unread = x.1 })
+
+-- the same where an interface may have no such row
+abbrev pub some_row : Option Row → List ℕ → ℕ → Unread → TableView → Result Parsed Stop
+some_row (Some r) short opcode s t = row_read r s t
+some_row None short opcode s t = Err (InvalidOpcode short opcode, s.taken)
+
+-- a message of the opcode to an object of the interface
+abbrev pub message_read : Bool → Interface → ℕ → Unread → TableView → Result Parsed Stop
+message_read events (Known k) opcode s t = some_row (row_at opcode (rows events k)) (short_of k) opcode s t
+message_read events (Other name) opcode s t = Err (InvalidInterface name, s.taken)
+
+-- what a function returned, seen by view, with so many handles taken, is what reading gives, unless memory ran out
+abbrev pub Reads : {X Y : Type 0} → (X → Y) → ℕ → Result X ParseError → Result Y Stop → Type 0
+Reads view taken (Ok x) want = want ≡ Ok (view x)
+Reads view taken (Err e) want = IfSome (fault_of e) (λ f. want ≡ Err (f, taken))

@@ -1,0 +1,381 @@
+//! One endpoint: its objects, what came to it and what waits to be sent.
+
+ghost use Rattle.std.specs.Prelude.{◌≡◌, ℕ, ◌+◌, ◌-◌, ◌≤◌, ◌<◌, ◌^◌, ◌↔◌, true, false, List, length, drop, IfOk, OnErr, OnOk, Ok, Err, Some, IsErrOf, IsTrue, IsSome, map, if◌then◌else◌};
+ghost use Rattle.ei_spec.specs.Message.{message, size};
+ghost use Rattle.ei_wire.specs.Gives.{Gives, value_of_arg};
+ghost use Rattle.ei_wire.specs.declared.error.ParseError.TheVariants as error;
+ghost use Rattle.ei_wire.specs.declared.error.SendError.TheVariants as send_error;
+ghost use Rattle.ei_wire.specs.declared.error.ReadError.TheVariants as read_error;
+ghost use Rattle.ei_wire.specs.declared.error.FlushError.TheVariants as flush_error;
+ghost use Rattle.ei_backend.specs.declared.outside.LastAnswer.TheVariants as answers;
+ghost use Rattle.ei_backend.specs.Object.{interface_view};
+ghost use Rattle.ei_backend.specs.Table.{new_table, first_server_id, found, accept, own, own_end, with_own};
+ghost use Rattle.ei_backend.specs.Outside.{Piece, Rose};
+ghost use Rattle.ei_backend.specs.Outgoing.{StopsAfter, Flushes, with_message};
+ghost use Rattle.ei_backend.specs.Backend.{new_backend, ReadsOn, ReadsPiece, body_read, Says, next, Answers, Shortens, sent, sent_new, with_object, removed, closed_of, unsent_of, with_unsent};
+
+use crate::front::{FrontMessage, front_of};
+use crate::incoming::Incoming;
+use crate::interface::InterfaceName;
+use crate::message::{MessageEnum, PendingRequestResult};
+use crate::object::Object;
+use crate::outgoing::Outgoing;
+use crate::outside::{Sink, Source};
+use crate::table::{FIRST_SERVER_ID, Table};
+use ei_spec::Handle;
+use ei_wire::{Arg, ByteStream, FlushError, NoMemory, ParseError, ReadError, SendError};
+use std::alloc::Global;
+use std::marker::Model;
+
+/// The objects and the buffers of one endpoint.
+#[derive(Drop)]
+pub struct Backend {
+    alloc: Global,
+    table: Table,
+    incoming: Incoming,
+    outgoing: Outgoing,
+    closed: bool,
+}
+
+impl Model for Backend {
+    ghost use Rattle.ei_backend.specs.Backend.{BackendView};
+    ghost use Rattle.ei_backend.specs.Codes.{backend_code};
+
+    ghost Value = { BackendView };
+
+    ghost coded = { backend_code };
+
+    ghost view = { λ b. record { table = b.table; unread = b.incoming.bytes; handles = b.incoming.handles; unsent = b.outgoing.bytes; unsent_handles = b.outgoing.handles; closed = b.closed } };
+}
+
+impl Backend {
+    /// An open endpoint with object 0 and empty buffers. A client's own ids begin at 1, a server's at
+    /// 0xff00000000000000.
+    pub fn new(alloc: Global, client: bool) -> Result<Backend, NoMemory>
+        ensures { IfOk result (λ b. b ≡ new_backend (new_table client (if client then 1 else first_server_id))) }
+    {
+        let next_own = if client { 1 } else { FIRST_SERVER_ID };
+        let table = Table::new(alloc, client, next_own)?;
+        let incoming = Incoming::new(alloc)?;
+        Ok(Backend {
+            alloc,
+            table,
+            incoming,
+            outgoing: Outgoing::new(alloc),
+            closed: false,
+        })
+    }
+
+    /// Takes one piece from the source, and puts it behind what is unread. It answers how many bytes came.
+    ///
+    /// `UnexpectedEof` on a closed endpoint, which doesn't ask the source, and at the source's end;
+    /// `NoMemory` before the source is asked; `ReadFault` where the source failed; `HandleLimit` exactly
+    /// where more than 4096 handles would be unread: the piece is dropped and the endpoint closed.
+    pub fn read<S: Source>(&mut self, source: &mut S) -> Result<usize, ReadError>
+        // on a closed endpoint
+        ensures closed { self.old.closed ≡ true → IsErrOf result read_error.UnexpectedEof }
+        ensures closed_kept { self.old.closed ≡ true → self.new ≡ self.old }
+        ensures closed_source { self.old.closed ≡ true → source.new ≡ source.old }
+        // on an open one
+        ensures reads { self.old.closed ≡ false → ReadsOn result self.old self.new }
+        ensures told { self.old.closed ≡ false → (pieces : List Piece) → S.left source.old ≡ Some pieces → ReadsPiece pieces (S.left source.new) result self.old self.new }
+        // what the source says
+        ensures memory { IsErrOf result read_error.NoMemory → source.new ≡ source.old }
+        ensures fault { IsErrOf result read_error.ReadFault → Rose (S.faults source.old) (S.faults source.new) }
+        ensures last_piece { OnOk result (S.last source.new ≡ answers.Piece) }
+        ensures last_limit { IsErrOf result read_error.HandleLimit → S.last source.new ≡ answers.Piece }
+        ensures last_end { self.old.closed ≡ false → IsErrOf result read_error.UnexpectedEof → S.last source.new ≡ answers.End }
+        ensures last_fault { IsErrOf result read_error.ReadFault → S.last source.new ≡ answers.Fault }
+        ensures count { S.faults source.old ≤ S.faults source.new }
+        ensures later { S.later source.old source.new }
+    {
+        if self.closed {
+            return Err(ReadError::UnexpectedEof);
+        }
+        let answer = self.incoming.read(source);
+        self.closed = is_limit(&answer);
+        answer
+    }
+
+    /// Puts all that waits to be sent into the sink, all handles with the first bytes. After a refusal the
+    /// rest waits.
+    ///
+    /// `WriteFault` where the sink failed, `NoMemory` where it wants memory.
+    pub fn flush<K: Sink>(&mut self, sink: &mut K) -> Result<(), FlushError>
+        ensures stops { StopsAfter (unsent_of self.old) result (unsent_of self.new) }
+        ensures took { (held : Piece) → K.taken sink.old ≡ Some held → Flushes held (unsent_of self.old) result (unsent_of self.new) (K.taken sink.new) }
+        ensures kept { self.new ≡ with_unsent (unsent_of self.new) self.old }
+        ensures fault { IsErrOf result flush_error.WriteFault → Rose (K.faults sink.old) (K.faults sink.new) }
+        ensures count { K.faults sink.old ≤ K.faults sink.new }
+        ensures later { K.later sink.old sink.new }
+    {
+        self.outgoing.flush(sink)
+    }
+
+    /// The next message that is whole, taken out, if there is one.
+    ///
+    /// A message to no object and one that is refused are taken out too. An unlawful length takes nothing
+    /// out. Where memory runs out, nothing changes.
+    pub fn pending<T: MessageEnum>(&mut self) -> Result<Option<PendingRequestResult<T>>, NoMemory>
+    where
+        T: Drop,
+        ensures ok { IfOk result (λ answer. Answers T.target T.code T.values answer self.new (next T.events self.old)) }
+        ensures shorter { IfOk result (λ answer. Shortens self.old.unread self.new.unread answer) }
+        ensures err { OnErr result (self.new ≡ self.old) }
+    {
+        match front_of(self.incoming.bytes()) {
+            FrontMessage::Short => Ok(None),
+            FrontMessage::Unlawful(len) => Ok(Some(PendingRequestResult::ParseError(
+                ParseError::HeaderLength(len),
+            ))),
+            FrontMessage::Whole(id, opcode, body, len) => match self.table.object_for_id(id) {
+                None => {
+                    self.incoming.drop_front(len, 0);
+                    Ok(Some(PendingRequestResult::InvalidObject(id)))
+                }
+                Some(target) => {
+                    let (read, taken) = read_body(
+                        self.alloc,
+                        target,
+                        opcode,
+                        body,
+                        self.incoming.handles(),
+                        &mut self.table,
+                    );
+                    let answer = match read {
+                        Err(ParseError::NoMemory) => return Err(NoMemory),
+                        Err(error) => PendingRequestResult::ParseError(error),
+                        Ok(message) => PendingRequestResult::Request(message),
+                    };
+                    self.incoming.drop_front(len, taken);
+                    Ok(Some(answer))
+                }
+            },
+        }
+    }
+
+    /// Writes a message behind what waits to be sent, or nothing. The target need not be in the table.
+    ///
+    /// `MessageTooLong` exactly where the message would have more than 1048576 bytes, `NoMemory`.
+    pub fn request(
+        &mut self,
+        object_id: u64,
+        opcode: u32,
+        args: &[Arg<'_>],
+    ) -> Result<(), SendError>
+        ensures ok { OnOk result (self.new ≡ sent self.old object_id opcode (map value_of_arg args.now)) }
+        ensures long { IsErrOf result send_error.MessageTooLong ↔ (1048576 < size (message object_id opcode (map value_of_arg args.now))) }
+        ensures not_exhausted { IsErrOf result send_error.IdsExhausted → ⊥ }
+        ensures err { OnErr result (self.new ≡ self.old) }
+    {
+        self.outgoing.send(object_id, opcode, args)
+    }
+
+    /// Writes a message that announces the next object of this end, and puts the object into the table, or
+    /// does neither.
+    ///
+    /// In this order: `IdsExhausted` exactly where no own id is left, `MessageTooLong` exactly where the
+    /// message would have more than 1048576 bytes, `NoMemory`.
+    pub fn request_new(
+        &mut self,
+        object_id: u64,
+        opcode: u32,
+        args: &[Arg<'_>],
+        interface: InterfaceName,
+        version: u32,
+    ) -> Result<Object, SendError>
+        ensures ok { IfOk result (λ o. (o ≡ own self.old.table (interface_view interface) version) × (self.new ≡ sent_new self.old object_id opcode (map value_of_arg args.now) (interface_view interface) version)) }
+        ensures exhausted { IsErrOf result send_error.IdsExhausted ↔ (own_end self.old.table ≤ self.old.table.next_own) }
+        ensures long { IsErrOf result send_error.MessageTooLong ↔ ((self.old.table.next_own < own_end self.old.table) × (1048576 < size (message object_id opcode (map value_of_arg args.now)))) }
+        ensures err { OnErr result (self.new ≡ self.old) }
+    {
+        announce(
+            &mut self.table,
+            &mut self.outgoing,
+            object_id,
+            opcode,
+            args,
+            interface,
+            version,
+        )
+    }
+
+    /// Makes the next object of this end.
+    ///
+    /// `IdsExhausted` exactly where no own id is left, `NoMemory`.
+    pub fn new_object(
+        &mut self,
+        interface: InterfaceName,
+        version: u32,
+    ) -> Result<Object, SendError>
+        ensures ok { IfOk result (λ o. (o ≡ own self.old.table (interface_view interface) version) × (self.new ≡ with_object self.old (interface_view interface) version)) }
+        ensures exhausted { IsErrOf result send_error.IdsExhausted ↔ (own_end self.old.table ≤ self.old.table.next_own) }
+        ensures err { OnErr result (self.new ≡ self.old) }
+        ensures not_long { IsErrOf result send_error.MessageTooLong → ⊥ }
+    {
+        self.table.new_object(interface, version)
+    }
+
+    /// Puts an object that the peer announced into the table.
+    ///
+    /// `InvalidId` where the id is below the highest one seen plus one, or not the peer's to give.
+    pub fn new_peer_object(
+        &mut self,
+        id: u64,
+        interface: InterfaceName,
+        version: u32,
+    ) -> Result<Object, ParseError>
+        ensures read { Gives (λ o. (o, self.new.table)) result (accept self.old.table id (interface_view interface) version) }
+        ensures kept { self.new ≡ record self.old { table = self.new.table } }
+        ensures err { OnErr result (self.new ≡ self.old) }
+    {
+        self.table.new_peer_object(id, interface, version)
+    }
+
+    /// Takes the object of an id out of the table. An unknown id changes nothing.
+    pub fn remove_id(&mut self, id: u64)
+        ensures { self.new ≡ removed self.old id }
+    {
+        self.table.remove_id(id);
+    }
+
+    /// The object of an id.
+    pub fn object_for_id(&self, id: u64) -> Option<Object>
+        ensures { result ≡ found self.now.table id }
+    {
+        self.table.object_for_id(id)
+    }
+
+    /// Whether the table has an object of the id.
+    pub fn has_object_for_id(&self, id: u64) -> bool
+        ensures { IsTrue result ↔ IsSome (found self.now.table id) }
+    {
+        self.table.object_for_id(id).is_some()
+    }
+
+    /// The id of the next object that this end makes.
+    pub fn next_id(&self) -> u64
+        ensures { result ≡ self.now.table.next_own }
+    {
+        self.table.next_id()
+    }
+
+    /// How many own ids are left.
+    pub fn ids_left(&self) -> u64
+        ensures { result ≡ own_end self.now.table - self.now.table.next_own }
+    {
+        self.table.ids_left()
+    }
+
+    /// How many bytes came and are not read yet.
+    pub fn unread_len(&self) -> usize
+        ensures { result ≡ length self.now.unread }
+    {
+        self.incoming.bytes().len()
+    }
+
+    /// How many handles came and are not read yet.
+    pub fn unread_handles(&self) -> usize
+        ensures { result ≡ length self.now.handles }
+    {
+        self.incoming.handles().len()
+    }
+
+    /// The bytes that wait to be sent.
+    pub fn unsent(&self) -> &[u8]
+        ensures { result.now ≡ self.now.unsent }
+    {
+        self.outgoing.bytes()
+    }
+
+    /// The handles that wait to be sent.
+    pub fn unsent_handles(&self) -> &[Handle]
+        ensures { result.now ≡ self.now.unsent_handles }
+    {
+        self.outgoing.handles()
+    }
+
+    /// Whether the endpoint reads no more.
+    pub fn is_closed(&self) -> bool
+        ensures { result ≡ self.now.closed }
+    {
+        self.closed
+    }
+
+    /// Closes the endpoint: it reads no more pieces. What came stays.
+    pub fn close(&mut self)
+        ensures { self.new ≡ closed_of self.old }
+    {
+        self.closed = true;
+    }
+}
+
+/// Whether reading closes the endpoint.
+fn is_limit(answer: &Result<usize, ReadError>) -> bool
+    ensures { IsTrue result ↔ IsErrOf answer.now read_error.HandleLimit }
+{
+    matches!(answer, Err(ReadError::HandleLimit))
+}
+
+/// Reads the whole body of a message, and says how many handles it took.
+fn read_body<T: MessageEnum>(
+    alloc: Global,
+    target: Object,
+    opcode: u32,
+    body: &[u8],
+    handles: &[Handle],
+    table: &mut Table,
+) -> (Result<T, ParseError>, usize)
+where
+    T: Drop,
+    requires { length body.now ≤ 1048560 }
+    ensures says { Says T.target T.code T.values target opcode result.0 table.new result.1 (body_read T.events target opcode body.now handles.now table.old) }
+    ensures memory { IsErrOf result.0 error.NoMemory → table.new ≡ table.old }
+{
+    let mut stream = ByteStream::new(alloc, body, handles);
+    let parsed = T::parse(alloc, target, opcode, &mut stream, table);
+    let taken = stream.handles_taken();
+    match parsed {
+        Err(error) => (Err(error), taken),
+        Ok(message) => {
+            let rest = stream.rest();
+            if rest != 0 {
+                let len = 16 + body.len() as u32;
+                let error = ParseError::MessageLength(len + rest as u32, len);
+                return (Err(error), taken);
+            }
+            (Ok(message), taken)
+        }
+    }
+}
+
+/// Writes a message and makes its object, or neither.
+fn announce(
+    table: &mut Table,
+    outgoing: &mut Outgoing,
+    object_id: u64,
+    opcode: u32,
+    args: &[Arg<'_>],
+    interface: InterfaceName,
+    version: u32,
+) -> Result<Object, SendError>
+    ensures object { IfOk result (λ o. (o ≡ own table.old (interface_view interface) version) × (table.new ≡ with_own table.old (interface_view interface) version)) }
+    ensures ok { OnOk result (outgoing.new ≡ with_message object_id opcode (map value_of_arg args.now) outgoing.old) }
+    ensures exhausted { IsErrOf result send_error.IdsExhausted ↔ (own_end table.old ≤ table.old.next_own) }
+    ensures long { IsErrOf result send_error.MessageTooLong ↔ ((table.old.next_own < own_end table.old) × (1048576 < size (message object_id opcode (map value_of_arg args.now)))) }
+    ensures err_table { OnErr result (table.new ≡ table.old) }
+    ensures err { OnErr result (outgoing.new ≡ outgoing.old) }
+{
+    if table.ids_left() == 0 {
+        return Err(SendError::IdsExhausted);
+    }
+    let mark = outgoing.mark();
+    outgoing.send(object_id, opcode, args)?;
+    match table.new_object(interface, version) {
+        Ok(object) => Ok(object),
+        Err(error) => {
+            outgoing.cut_back(mark);
+            Err(error)
+        }
+    }
+}
