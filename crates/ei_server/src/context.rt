@@ -1,0 +1,160 @@
+//! The server's endpoint.
+
+ghost use Rattle.std.specs.Prelude.{◌≡◌, ◌≤◌, ◌<◌, ◌↔◌, ℕ, List, Some, IfOk, OnOk, OnErr, IsErrOf, true, false, map};
+ghost use Rattle.ei_spec.specs.Message.{message, size};
+ghost use Rattle.ei_wire.specs.Gives.{value_of_arg};
+ghost use Rattle.ei_wire.specs.declared.error.SendError.TheVariants as send_error;
+ghost use Rattle.ei_wire.specs.declared.error.ReadError.TheVariants as read_error;
+ghost use Rattle.ei_wire.specs.declared.error.FlushError.TheVariants as flush_error;
+ghost use Rattle.ei_backend.specs.declared.outside.LastAnswer.TheVariants as answers;
+ghost use Rattle.ei_backend.specs.Object.{interface_view};
+ghost use Rattle.ei_backend.specs.Outside.{Piece, Rose};
+ghost use Rattle.ei_backend.specs.Table.{found, new_table, first_server_id, own, own_end};
+ghost use Rattle.ei_backend.specs.Outgoing.{StopsAfter, Flushes};
+ghost use Rattle.ei_backend.specs.Backend.{new_backend, ReadsOn, ReadsPiece, Answers, Shortens, next, sent, sent_new, removed, unsent_of, with_unsent};
+ghost use Rattle.ei_server.specs.Request.{target_of, code_of, values_of};
+
+use crate::handshake::Handshake;
+use crate::request::Request;
+use ei_backend::{Backend, InterfaceName, Object, PendingRequestResult, Sink, Source};
+use ei_wire::{Arg, FlushError, NoMemory, ReadError, SendError};
+use std::alloc::Global;
+use std::marker::Model;
+
+/// The server's endpoint: its objects, the bytes that are unread and those that are unsent.
+#[derive(Drop)]
+pub struct Context {
+    backend: Backend,
+}
+
+impl Model for Context {
+    ghost use Rattle.ei_backend.specs.Backend.{BackendView};
+    ghost use Rattle.ei_backend.specs.Codes.{backend_code};
+
+    ghost Value = { BackendView };
+
+    ghost coded = { backend_code };
+
+    ghost view = { λ c. c.backend };
+}
+
+impl Context {
+    /// A fresh endpoint: object 0, and nothing unread or unsent.
+    pub fn new(alloc: Global) -> Result<Context, NoMemory>
+        ensures { IfOk result (λ c. c ≡ new_backend (new_table false first_server_id)) }
+    {
+        Ok(Context {
+            backend: Backend::new(alloc, false)?,
+        })
+    }
+
+    /// Takes one piece from the source, and puts it behind what is unread. It answers how many bytes came.
+    ///
+    /// `UnexpectedEof` on a closed endpoint, which doesn't ask the source, and at the source's end;
+    /// `NoMemory` before the source is asked; `ReadFault` where the source failed; `HandleLimit` exactly
+    /// where more than 4096 handles would be unread: the piece is dropped and the endpoint closed.
+    pub fn read<S: Source>(&mut self, source: &mut S) -> Result<usize, ReadError>
+        // on a closed endpoint
+        ensures closed { self.old.closed ≡ true → IsErrOf result read_error.UnexpectedEof }
+        ensures closed_kept { self.old.closed ≡ true → self.new ≡ self.old }
+        ensures closed_source { self.old.closed ≡ true → source.new ≡ source.old }
+        // on an open one
+        ensures reads { self.old.closed ≡ false → ReadsOn result self.old self.new }
+        ensures told { self.old.closed ≡ false → (pieces : List Piece) → S.left source.old ≡ Some pieces → ReadsPiece pieces (S.left source.new) result self.old self.new }
+        // what the source says
+        ensures memory { IsErrOf result read_error.NoMemory → source.new ≡ source.old }
+        ensures fault { IsErrOf result read_error.ReadFault → Rose (S.faults source.old) (S.faults source.new) }
+        ensures last_piece { OnOk result (S.last source.new ≡ answers.Piece) }
+        ensures last_limit { IsErrOf result read_error.HandleLimit → S.last source.new ≡ answers.Piece }
+        ensures last_end { self.old.closed ≡ false → IsErrOf result read_error.UnexpectedEof → S.last source.new ≡ answers.End }
+        ensures last_fault { IsErrOf result read_error.ReadFault → S.last source.new ≡ answers.Fault }
+        ensures count { S.faults source.old ≤ S.faults source.new }
+        ensures later { S.later source.old source.new }
+    {
+        self.backend.read(source)
+    }
+
+    /// Puts all that waits to be sent into the sink, all handles with the first bytes. After a refusal the
+    /// rest waits.
+    ///
+    /// `WriteFault` where the sink failed, `NoMemory` where it wants memory.
+    pub fn flush<K: Sink>(&mut self, sink: &mut K) -> Result<(), FlushError>
+        ensures stops { StopsAfter (unsent_of self.old) result (unsent_of self.new) }
+        ensures took { (held : Piece) → K.taken sink.old ≡ Some held → Flushes held (unsent_of self.old) result (unsent_of self.new) (K.taken sink.new) }
+        ensures kept { self.new ≡ with_unsent (unsent_of self.new) self.old }
+        ensures fault { IsErrOf result flush_error.WriteFault → Rose (K.faults sink.old) (K.faults sink.new) }
+        ensures count { K.faults sink.old ≤ K.faults sink.new }
+        ensures later { K.later sink.old sink.new }
+    {
+        self.backend.flush(sink)
+    }
+
+    /// The handshake; `None` exactly where object 0 isn't there, after the connection was sent.
+    pub fn handshake(&self) -> Option<Handshake>
+        ensures { result ≡ found self.now.table 0 }
+    {
+        match self.backend.object_for_id(0) {
+            Some(object) => Some(Handshake::over(object)),
+            None => None,
+        }
+    }
+
+    /// The next request that is whole, taken out, if there is one.
+    ///
+    /// A message to no object and one that is refused are taken out too. An unlawful length takes nothing
+    /// out. Where memory runs out, nothing changes.
+    pub fn pending_request(&mut self) -> Result<Option<PendingRequestResult<Request>>, NoMemory>
+        ensures ok { IfOk result (λ answer. Answers target_of code_of values_of answer self.new (next false self.old)) }
+        ensures shorter { IfOk result (λ answer. Shortens self.old.unread self.new.unread answer) }
+        ensures err { OnErr result (self.new ≡ self.old) }
+    {
+        self.backend.pending()
+    }
+
+    /// Writes a message behind what waits to be sent, or nothing.
+    pub(crate) fn send(
+        &mut self,
+        object_id: u64,
+        opcode: u32,
+        args: &[Arg<'_>],
+    ) -> Result<(), SendError>
+        ensures ok { OnOk result (self.new ≡ sent self.old object_id opcode (map value_of_arg args.now)) }
+        ensures long { IsErrOf result send_error.MessageTooLong ↔ (1048576 < size (message object_id opcode (map value_of_arg args.now))) }
+        ensures not_exhausted { IsErrOf result send_error.IdsExhausted → ⊥ }
+        ensures err { OnErr result (self.new ≡ self.old) }
+    {
+        self.backend.request(object_id, opcode, args)
+    }
+
+    /// Writes a message that announces the next object of this end, and makes the object, or neither.
+    pub(crate) fn send_new(
+        &mut self,
+        object_id: u64,
+        opcode: u32,
+        args: &[Arg<'_>],
+        interface: InterfaceName,
+        version: u32,
+    ) -> Result<Object, SendError>
+        ensures ok { IfOk result (λ o. (o ≡ own self.old.table (interface_view interface) version) × (self.new ≡ sent_new self.old object_id opcode (map value_of_arg args.now) (interface_view interface) version)) }
+        ensures exhausted { IsErrOf result send_error.IdsExhausted ↔ (own_end self.old.table ≤ self.old.table.next_own) }
+        ensures long { IsErrOf result send_error.MessageTooLong ↔ ((self.old.table.next_own < own_end self.old.table) × (1048576 < size (message object_id opcode (map value_of_arg args.now)))) }
+        ensures err { OnErr result (self.new ≡ self.old) }
+    {
+        self.backend
+            .request_new(object_id, opcode, args, interface, version)
+    }
+
+    /// Takes the object of an id out of the table.
+    pub(crate) fn remove_id(&mut self, id: u64)
+        ensures { self.new ≡ removed self.old id }
+    {
+        self.backend.remove_id(id);
+    }
+
+    /// The id of the next object that this end makes.
+    pub(crate) fn next_id(&self) -> u64
+        ensures { result ≡ self.now.table.next_own }
+    {
+        self.backend.next_id()
+    }
+}
