@@ -57,6 +57,7 @@ impl Connection {
         ensures proxy { IfOk result (λ p. p ≡ own ctx.old.table (Known known.Seat) version) }
         ensures err { OnErr result (ctx.new ≡ ctx.old) }
         ensures exhausted { IsErrOf result send_error.IdsExhausted ↔ (own_end ctx.old.table ≤ ctx.old.table.next_own) }
+        ensures not_long { IsErrOf result send_error.MessageTooLong → ⊥ }
     {
         let args = [Arg::NewId(ctx.next_id()), Arg::Uint32(version)];
         let interface = InterfaceName::Known(KnownInterface::Seat);

@@ -1,6 +1,6 @@
 //! `ei_handshake`: the object that is there from the first.
 
-ghost use Rattle.std.specs.Prelude.{◌≡◌, ◌≤◌, ◌↔◌, IfOk, OnOk, OnErr, IsErrOf, IfErr, true, false, codes, [], ◌∷◌};
+ghost use Rattle.std.specs.Prelude.{◌≡◌, ◌≤◌, ◌<◌, ◌↔◌, length, IfOk, OnOk, OnErr, IsErrOf, IfErr, true, false, codes, [], ◌∷◌};
 ghost use Rattle.ei_spec.specs.Value.{Word, Long, Letters};
 ghost use Rattle.ei_spec.specs.Interface.{Known};
 ghost use Rattle.ei_spec.specs.declared.interface.KnownInterface.TheVariants as known;
@@ -62,6 +62,8 @@ impl Handshake {
     ) -> Result<(), SendError>
         ensures ok { OnOk result (ctx.new ≡ after_row (row_named (codes "interface_version") (rows true known.Handshake)) self.now (Letters name.now ∷ Word version ∷ []) ctx.old) }
         ensures err { OnErr result (ctx.new ≡ ctx.old) }
+        ensures long { IsErrOf result send_error.MessageTooLong → 1048000 < length name.now }
+        ensures not_exhausted { IsErrOf result send_error.IdsExhausted → ⊥ }
     {
         let args = [Arg::String(Some(name)), Arg::Uint32(version)];
         ctx.send(self.object.id(), 1, &args)
@@ -78,6 +80,7 @@ impl Handshake {
         ensures proxy { IfOk result (λ p. p ≡ own ctx.old.table (Known known.Connection) version) }
         ensures err { OnErr result (ctx.new ≡ ctx.old) }
         ensures exhausted { IsErrOf result send_error.IdsExhausted ↔ (own_end ctx.old.table ≤ ctx.old.table.next_own) }
+        ensures not_long { IsErrOf result send_error.MessageTooLong → ⊥ }
     {
         let args = [
             Arg::Uint32(serial),

@@ -1,6 +1,6 @@
 //! `ei_seat`: a seat, which offers capabilities.
 
-ghost use Rattle.std.specs.Prelude.{◌≡◌, OnOk, OnErr, IsErrOf, IfErr, true, codes, [], ◌∷◌};
+ghost use Rattle.std.specs.Prelude.{◌≡◌, ◌<◌, length, OnOk, OnErr, IsErrOf, IfErr, true, codes, [], ◌∷◌};
 ghost use Rattle.ei_spec.specs.Value.{Long, Letters};
 ghost use Rattle.ei_spec.specs.declared.interface.KnownInterface.TheVariants as known;
 ghost use Rattle.ei_spec.specs.Rows.{rows, row_named};
@@ -49,6 +49,8 @@ impl Seat {
     pub fn name(&self, ctx: &mut Context, name: &str) -> Result<(), SendError>
         ensures ok { OnOk result (ctx.new ≡ after_row (row_named (codes "name") (rows true known.Seat)) self.now (Letters name.now ∷ []) ctx.old) }
         ensures err { OnErr result (ctx.new ≡ ctx.old) }
+        ensures long { IsErrOf result send_error.MessageTooLong → 1048000 < length name.now }
+        ensures not_exhausted { IsErrOf result send_error.IdsExhausted → ⊥ }
     {
         ctx.send(self.object.id(), 1, &[Arg::String(Some(name))])
     }
@@ -57,6 +59,8 @@ impl Seat {
     pub fn capability(&self, ctx: &mut Context, mask: u64, interface: &str) -> Result<(), SendError>
         ensures ok { OnOk result (ctx.new ≡ after_row (row_named (codes "capability") (rows true known.Seat)) self.now (Long mask ∷ Letters interface.now ∷ []) ctx.old) }
         ensures err { OnErr result (ctx.new ≡ ctx.old) }
+        ensures long { IsErrOf result send_error.MessageTooLong → 1048000 < length interface.now }
+        ensures not_exhausted { IsErrOf result send_error.IdsExhausted → ⊥ }
     {
         let args = [Arg::Uint64(mask), Arg::String(Some(interface))];
         ctx.send(self.object.id(), 2, &args)
