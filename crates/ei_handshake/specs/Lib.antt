@@ -1,0 +1,3 @@
+pub mod Handshaker
+pub mod Pending
+pub mod Versions
