@@ -26,9 +26,9 @@ pub put_on : (held : Piece) (xs ys : List ℕ) (hs ks : List Handle) (i n : ℕ)
     with_more (take n ys) ks (with_more (take i xs) (beside i hs) held) ≡ with_more (take (i + n) xs) (beside (i + n) hs) held
 put_on held xs ys hs ks i n rest left lt =
     let bytes : (held.bytes ++ take i xs) ++ take n ys ≡ held.bytes ++ take (i + n) xs =
-      append_assoc held.bytes (take i xs) (take n ys) ∙ ap (λ (l : List ℕ). held.bytes ++ l) (ap (λ (l : List ℕ). take i xs ++ take n l) rest ∙ sym (take-add i n xs)) in
+    append_assoc held.bytes (take i xs) (take n ys) ∙ ap (λ (l : List ℕ). held.bytes ++ l) (ap (λ (l : List ℕ). take i xs ++ take n l) rest ∙ sym (take-add i n xs)) in
     let handles : (held.handles ++ beside i hs) ++ ks ≡ held.handles ++ beside (i + n) hs =
-      append_assoc held.handles (beside i hs) ks ∙ ap (λ (l : List Handle). held.handles ++ l) (ap (λ (l : List Handle). beside i hs ++ l) left ∙ beside_more i n hs lt) in
+    append_assoc held.handles (beside i hs) ks ∙ ap (λ (l : List Handle). held.handles ++ l) (ap (λ (l : List Handle). beside i hs ++ l) left ∙ beside_more i n hs lt) in
     same_piece _ _ _ _ bytes handles
 
 drop_whole : (l : List ℕ) → drop (length l) l ≡ []

@@ -48,7 +48,7 @@ text_within : (bytes : List ℕ) → Within (length bytes) (text_at bytes)
 unfolding text_at
 text_within bytes = bound (length bytes) (number_at w32 bytes) (λ n. cond (eqb n.0 0) (Ok (None, n.1)) (letters_at (n.0 - 1) n.1 >>= λ t. Ok (Some t.0, t.1))) (number_within w32 bytes)
     (λ n le. either (Within (length bytes)) (eqb n.0 0) (Ok (None, n.1)) (letters_at (n.0 - 1) n.1 >>= λ t. Ok (Some t.0, t.1)) le
-      (some_within (length bytes) (letters_at (n.0 - 1) n.1) (weaker (length n.1) (length bytes) (letters_at (n.0 - 1) n.1) le (letters_within (n.0 - 1) n.1))))
+    (some_within (length bytes) (letters_at (n.0 - 1) n.1) (weaker (length n.1) (length bytes) (letters_at (n.0 - 1) n.1) le (letters_within (n.0 - 1) n.1))))
 
 some_text_within : (n : ℕ) (t : Option (List ℕ)) (rest : List ℕ) → length rest ≤ n → Within n (some_text t rest)
 some_text_within n None rest le = tt
@@ -78,7 +78,7 @@ read_leaves Nullable s = of_bytes_leaves or_null s (length s.bytes) (text_at s.b
 read_leaves Handle s = handle_leaves s (slice_get s.handles s.taken)
 read_leaves (Choice name values) s = of_bytes_leaves Word s (length s.bytes) (choice_at name values s.bytes)
     (bound (length s.bytes) (number_at w32 s.bytes) (λ n. cond (list_any (nat_eq n.0) values) (Ok n) (Err (InvalidVariant name n.0))) (number_within w32 s.bytes)
-      (λ n le. either (Within (length s.bytes)) (list_any (nat_eq n.0) values) (Ok n) (Err (InvalidVariant name n.0)) le tt))
+    (λ n le. either (Within (length s.bytes)) (list_any (nat_eq n.0) values) (Ok n) (Err (InvalidVariant name n.0)) le tt))
 
 abbrev AllLeaves : ℕ → Result (List Value × Unread) Stop → Type 0
 AllLeaves n r = MatchResult r (λ x. length x.1.bytes ≤ n) (λ _. Unit {0})
