@@ -17,3 +17,6 @@ pub use message::{MessageEnum, PendingRequestResult};
 pub use object::Object;
 pub use outside::{Clock, Fault, Input, LastAnswer, PutError, Sink, Source, Taken};
 pub use table::{FIRST_SERVER_ID, Table};
+
+#[cfg(test)]
+mod tests;
