@@ -8,7 +8,7 @@ use Rattle.ei_spec.specs.Message.{Raw, bytes_of, header, le4, le8, size}
 use Rattle.ei_spec.proofs.Numbers.{len4, len8}
 use Rattle.ei_wire.specs.declared.error.FlushError.{FlushError}
 use Rattle.ei_backend.specs.Outside.{with_more}
-use Rattle.ei_backend.specs.Outgoing.{nothing, HasBytes, beside, kept_beside, unsent_after, sent_front, StopsAfter, Flushes}
+use Rattle.ei_backend.specs.Outgoing.{HasBytes, beside, kept_beside, sent_front, StopsAfter, Flushes}
 
 pub same_piece : (a b : List ℕ) (h k : List Handle) → a ≡ b → h ≡ k → ◌≡◌ {A = Piece} (record { bytes = a; handles = h }) (record { bytes = b; handles = k })
 same_piece a b h k e f = rw (e, f) refl

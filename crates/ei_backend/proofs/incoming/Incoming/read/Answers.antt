@@ -1,4 +1,4 @@
-use Rattle.std.proofs.Common.{◌≡◌, ◌<◌, ◌≤◌, ◌+◌, ◌++◌, ◌∙◌, ap, ℕ, List, length, take, drop, Some, arith}
+use Rattle.std.proofs.Common.{◌≡◌, ◌++◌, ◌∙◌, take, arith}
 use Rattle.std.proofs.lemmas.List.{take_at}
 use Rattle.ei_spec.specs.Piece.{Piece}
 use Rattle.ei_backend.proofs.GoingOut.{same_piece}

@@ -1,4 +1,4 @@
-use Rattle.std.proofs.Common.{◌≡◌, ◌≤◌, ◌∙◌, ap, ℕ, List, length, drop, take, Some, OnOk}
+use Rattle.std.proofs.Common.{◌≡◌, ◌≤◌, length, OnOk}
 use Rattle.ei_spec.specs.Piece.{Piece}
 use Rattle.ei_backend.proofs.GoingOut.{stops_after, flushes}
 use Rattle.ei_backend.proofs.outgoing.Outgoing.flush.Goals as goal
