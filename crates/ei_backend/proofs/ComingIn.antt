@@ -1,10 +1,10 @@
 -- A piece that comes.
-use Rattle.std.proofs.Common.{◌≡◌, ◌<◌, ◌≤◌, ℕ, ◌+◌, ◌-◌, List, [], ◌∷◌, ◌++◌, take, drop, length, Option, Some, refl, ap, sym, ◌∙◌, arith, length-append}
+use Rattle.std.proofs.Common.{◌≡◌, ◌<◌, ◌≤◌, ℕ, ◌+◌, List, [], take, drop, length, Option, Some, ap, sym, ◌∙◌, arith}
 use Rattle.std.proofs.lemmas.List.{length-take-le}
 use Rattle.ei_spec.specs.declared.handle.Handle.{Handle}
 use Rattle.ei_spec.specs.Piece.{Piece}
 use Rattle.ei_backend.specs.declared.outside.Taken.{Taken}
-use Rattle.ei_backend.specs.Outside.{IsPieceSize, HandsOut, with_more}
+use Rattle.ei_backend.specs.Outside.{IsPieceSize, HandsOut}
 use Rattle.ei_backend.specs.Incoming.{IsFirst, Fits, Overflows}
 
 abbrev pub piece_of : Taken → List ℕ → List Handle → Piece

@@ -8,7 +8,7 @@ use Rattle.ei_spec.specs.Message.{Raw, bytes_of, header, le4, le8, size}
 use Rattle.ei_spec.proofs.Numbers.{len4, len8}
 use Rattle.ei_wire.specs.declared.error.FlushError.{FlushError}
 use Rattle.ei_backend.specs.Outside.{with_more}
-use Rattle.ei_backend.specs.Outgoing.{nothing, HasBytes, beside, kept_beside, unsent_after, sent_front, StopsAfter, Flushes}
+use Rattle.ei_backend.specs.Outgoing.{HasBytes, beside, kept_beside, sent_front, StopsAfter, Flushes}
 
 pub same_piece : (a b : List ℕ) (h k : List Handle) → a ≡ b → h ≡ k → ◌≡◌ {A = Piece} (record { bytes = a; handles = h }) (record { bytes = b; handles = k })
 same_piece a b h k e f = rw (e, f) refl
@@ -26,9 +26,9 @@ pub put_on : (held : Piece) (xs ys : List ℕ) (hs ks : List Handle) (i n : ℕ)
     with_more (take n ys) ks (with_more (take i xs) (beside i hs) held) ≡ with_more (take (i + n) xs) (beside (i + n) hs) held
 put_on held xs ys hs ks i n rest left lt =
     let bytes : (held.bytes ++ take i xs) ++ take n ys ≡ held.bytes ++ take (i + n) xs =
-      append_assoc held.bytes (take i xs) (take n ys) ∙ ap (λ (l : List ℕ). held.bytes ++ l) (ap (λ (l : List ℕ). take i xs ++ take n l) rest ∙ sym (take-add i n xs)) in
+    append_assoc held.bytes (take i xs) (take n ys) ∙ ap (λ (l : List ℕ). held.bytes ++ l) (ap (λ (l : List ℕ). take i xs ++ take n l) rest ∙ sym (take-add i n xs)) in
     let handles : (held.handles ++ beside i hs) ++ ks ≡ held.handles ++ beside (i + n) hs =
-      append_assoc held.handles (beside i hs) ks ∙ ap (λ (l : List Handle). held.handles ++ l) (ap (λ (l : List Handle). beside i hs ++ l) left ∙ beside_more i n hs lt) in
+    append_assoc held.handles (beside i hs) ks ∙ ap (λ (l : List Handle). held.handles ++ l) (ap (λ (l : List Handle). beside i hs ++ l) left ∙ beside_more i n hs lt) in
     same_piece _ _ _ _ bytes handles
 
 drop_whole : (l : List ℕ) → drop (length l) l ≡ []

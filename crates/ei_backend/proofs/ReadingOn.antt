@@ -1,13 +1,11 @@
 -- An endpoint that reads one more piece.
-use Rattle.std.proofs.Common.{◌≡◌, ℕ, Bool, true, false, List, ◌++◌, Option, Result, Ok, Err, refl, ap, sym, ◌∙◌}
+use Rattle.std.proofs.Common.{◌≡◌, ℕ, Bool, true, false, List, Option, Result, Ok, Err, refl, sym, ◌∙◌}
 use Rattle.std.specs.Prelude.{◌↔◌, IsTrue, IsErrOf}
-use Rattle.ei_spec.specs.declared.handle.Handle.{Handle}
 use Rattle.ei_spec.specs.Piece.{Piece}
 use Rattle.ei_wire.specs.declared.error.ReadError.{ReadError}
 use Rattle.ei_wire.specs.declared.error.ReadError.TheVariants.{UnexpectedEof, ReadFault, HandleLimit, NoMemory}
 use Rattle.ei_backend.specs.Incoming as incoming
-use Rattle.ei_backend.specs.Outside.{with_more}
-use Rattle.ei_backend.specs.Backend.{BackendView, with_piece, closed_of, ReadsPiece}
+use Rattle.ei_backend.specs.Backend.{BackendView, ReadsPiece}
 
 -- an endpoint with this unread, and closed or not
 abbrev after : BackendView → Piece → Bool → BackendView

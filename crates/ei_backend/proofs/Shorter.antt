@@ -1,17 +1,15 @@
 -- What is left after reading is no longer than what was there.
-use Rattle.std.proofs.Common.{◌≡◌, ℕ, ◌+◌, ◌-◌, ◌≤◌, Bool, true, false, cond, ltb, eqb, List, [], ◌∷◌, length, take, drop, Option, Some, None, Result, Ok, Err, refl, subst, arith, length-drop}
+use Rattle.std.proofs.Common.{◌≡◌, ℕ, ◌+◌, ◌-◌, ◌≤◌, Bool, true, false, cond, ltb, eqb, List, [], ◌∷◌, length, take, drop, Option, Some, None, Result, Ok, Err, subst, arith, length-drop}
 use Rattle.std.specs.Prelude.{nat_eq, slice_get, MatchResult}
 use Rattle.std.specs.Int.{Width, w32, w64, byte_len, from_le_bytes, cast_signed}
 use Rattle.std.specs.List.{list_any}
-use Rattle.std.specs.Str.{is_utf8}
-use Rattle.std.specs.Str.Lossy.{utf8_valid_len}
 use Rattle.ei_spec.specs.declared.handle.Handle.{Handle as Descriptor}
-use Rattle.ei_spec.specs.Value.{Kind, U32, I32, U64, I64, Float, Text, Nullable, Handle, New, Choice, Value, Word, Long, Signed, SignedLong, Letters, Null, Fd, padding}
-use Rattle.ei_spec.specs.Reading.{Fault, ◌>>=◌, Unread, Read, number_at, letters_at, text_at, some_text, or_null, choice_at, of_bytes, of_handle, read, utf8, EndOfMessage, InvalidVariant, NoFd, Stop, ◌then◌, stopping, all_at}
+use Rattle.ei_spec.specs.Value.{Kind, U32, I32, U64, I64, Float, Text, Nullable, Handle, New, Choice, Value, Word, Long, Signed, SignedLong, Letters, padding}
+use Rattle.ei_spec.specs.Reading.{Fault, ◌>>=◌, Unread, Read, number_at, letters_at, text_at, some_text, or_null, choice_at, of_bytes, of_handle, read, utf8, EndOfMessage, InvalidVariant, Stop, ◌then◌, stopping, all_at}
 use Rattle.ei_spec.specs.Interface.{Interface, Known, Other, short_of}
 use Rattle.ei_backend.specs.Table.{TableView}
 use Rattle.ei_spec.specs.Rows.{Row, rows, row_at}
-use Rattle.ei_backend.specs.Message.{announce, Parsed, row_read, some_row, message_read}
+use Rattle.ei_backend.specs.Message.{announce, Parsed, some_row, message_read}
 
 -- of a value and the bytes after it
 abbrev Within : {A : Type 0} → ℕ → Result (A × List ℕ) Fault → Type 0
@@ -48,7 +46,7 @@ text_within : (bytes : List ℕ) → Within (length bytes) (text_at bytes)
 unfolding text_at
 text_within bytes = bound (length bytes) (number_at w32 bytes) (λ n. cond (eqb n.0 0) (Ok (None, n.1)) (letters_at (n.0 - 1) n.1 >>= λ t. Ok (Some t.0, t.1))) (number_within w32 bytes)
     (λ n le. either (Within (length bytes)) (eqb n.0 0) (Ok (None, n.1)) (letters_at (n.0 - 1) n.1 >>= λ t. Ok (Some t.0, t.1)) le
-      (some_within (length bytes) (letters_at (n.0 - 1) n.1) (weaker (length n.1) (length bytes) (letters_at (n.0 - 1) n.1) le (letters_within (n.0 - 1) n.1))))
+    (some_within (length bytes) (letters_at (n.0 - 1) n.1) (weaker (length n.1) (length bytes) (letters_at (n.0 - 1) n.1) le (letters_within (n.0 - 1) n.1))))
 
 some_text_within : (n : ℕ) (t : Option (List ℕ)) (rest : List ℕ) → length rest ≤ n → Within n (some_text t rest)
 some_text_within n None rest le = tt
@@ -78,7 +76,7 @@ read_leaves Nullable s = of_bytes_leaves or_null s (length s.bytes) (text_at s.b
 read_leaves Handle s = handle_leaves s (slice_get s.handles s.taken)
 read_leaves (Choice name values) s = of_bytes_leaves Word s (length s.bytes) (choice_at name values s.bytes)
     (bound (length s.bytes) (number_at w32 s.bytes) (λ n. cond (list_any (nat_eq n.0) values) (Ok n) (Err (InvalidVariant name n.0))) (number_within w32 s.bytes)
-      (λ n le. either (Within (length s.bytes)) (list_any (nat_eq n.0) values) (Ok n) (Err (InvalidVariant name n.0)) le tt))
+    (λ n le. either (Within (length s.bytes)) (list_any (nat_eq n.0) values) (Ok n) (Err (InvalidVariant name n.0)) le tt))
 
 abbrev AllLeaves : ℕ → Result (List Value × Unread) Stop → Type 0
 AllLeaves n r = MatchResult r (λ x. length x.1.bytes ≤ n) (λ _. Unit {0})

@@ -4,7 +4,7 @@ use Rattle.std.specs.List.{flat_map}
 use Rattle.ei_spec.specs.declared.handle.Handle.{Handle}
 use Rattle.ei_spec.specs.Piece.{Piece}
 use Rattle.ei_spec.specs.Value.{Value, handles_of}
-use Rattle.ei_spec.specs.Reading.{Fault, HeaderLength, MessageLength, Unread, Stop}
+use Rattle.ei_spec.specs.Reading.{Fault, HeaderLength, MessageLength, Stop}
 use Rattle.ei_spec.specs.Interface.{Interface, ObjectView}
 use Rattle.ei_spec.specs.Rows.{Row}
 use Rattle.ei_spec.specs.Message.{Raw, message, bytes_of, Front, Short, Unlawful, Whole, front}
@@ -12,11 +12,8 @@ use Rattle.ei_wire.specs.declared.error.ParseError.{ParseError}
 use Rattle.ei_wire.specs.declared.error.ParseError.TheVariants as error
 use Rattle.ei_wire.specs.declared.error.ReadError.{ReadError}
 use Rattle.ei_wire.specs.declared.error.ReadError.TheVariants as read_error
-use Rattle.ei_wire.specs.declared.error.FlushError.{FlushError}
 use Rattle.ei_wire.specs.Gives.{fault_of}
-use Rattle.ei_backend.specs.Table.{TableView, new_table, found, without, with_own}
-use Rattle.ei_backend.specs.Outside.{with_more}
-use Rattle.ei_backend.specs.Outgoing.{with_message, unsent_after, sent_front, StopsAfter, Flushes}
+use Rattle.ei_backend.specs.Table.{TableView, found, without, with_own}
 use Rattle.ei_backend.specs.Incoming.{IsFirst, Fits, Overflows}
 use Rattle.ei_backend.specs.Message.{Parsed, message_read}
 use Rattle.ei_backend.specs.declared.message.PendingRequestResult.{PendingRequestResult}

@@ -120,7 +120,8 @@ impl Incoming {
             return Err(ReadError::HandleLimit);
         }
         self.bytes.extend_from_slice(&self.room[..taken.bytes])?;
-        self.handles.extend_from_slice(&self.handle_room[..taken.handles])?;
+        self.handles
+            .extend_from_slice(&self.handle_room[..taken.handles])?;
         Ok(taken.bytes)
     }
 }

@@ -28,3 +28,5 @@ pub use tray::Tray;
 
 #[cfg(test)]
 mod memory_tests;
+#[cfg(test)]
+mod tests;

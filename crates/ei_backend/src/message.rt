@@ -17,7 +17,9 @@ pub trait MessageEnum: Sized {
 
     /// The message's target, opcode and arguments.
     ghost target: { Self → ObjectView };
+
     ghost code: { Self → ℕ };
+
     ghost values: { Self → List Value };
 
     /// Reads the arguments of the opcode to the object, and announces its new object.

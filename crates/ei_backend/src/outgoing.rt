@@ -150,11 +150,7 @@ fn push_header(out: &mut Vec<u8>, id: u64, len: u32, opcode: u32) -> Result<(), 
 }
 
 /// Appends the arguments. Where memory runs out, some of them may stand there.
-fn push_args(
-    out: &mut Vec<u8>,
-    handles: &mut Vec<Handle>,
-    args: &[Arg<'_>],
-) -> Result<(), NoMemory>
+fn push_args(out: &mut Vec<u8>, handles: &mut Vec<Handle>, args: &[Arg<'_>]) -> Result<(), NoMemory>
     requires { length (args_body args.now) ≤ 1048560 }
     ensures bytes { OnOk result (out.new.items ≡ out.old.items ++ args_body args.now) }
     ensures handles { OnOk result (handles.new.items ≡ handles.old.items ++ args_handles args.now) }

@@ -1,4 +1,4 @@
-use Rattle.std.proofs.Common.{◌≡◌, ◌≤◌, ◌+◌, length, ap, ◌∙◌, arith}
+use Rattle.std.proofs.Common.{length, ap, arith}
 use Rattle.ei_spec.specs.Reading.{Unread}
 use Rattle.ei_backend.proofs.Shorter.{shorter_ok}
 use Rattle.ei_backend.proofs.backend.read_body.Goals as goal

@@ -6,9 +6,9 @@ use Rattle.ei_backend.proofs.outgoing.put_all.Goals as goal
 pub loop-done-preserved : goal.loop-done-preserved
 loop-done-preserved g c =
     let rest : take (length c.args.bytes.now - c.loop-done.done) (drop c.loop-done.done c.args.bytes.now) ≡ drop c.loop-done.done c.args.bytes.now =
-      take_all _ (drop c.loop-done.done c.args.bytes.now) (omega (arith, length-drop c.loop-done.done c.args.bytes.now)) in
+    take_all _ (drop c.loop-done.done c.args.bytes.now) (omega (arith, length-drop c.loop-done.done c.args.bytes.now)) in
     let some : 0 < length (take (length c.args.bytes.now - c.loop-done.done) (drop c.loop-done.done c.args.bytes.now)) =
-      omega (arith, length-drop c.loop-done.done c.args.bytes.now, ap length rest, c.loop-done-test.true) in
+    omega (arith, length-drop c.loop-done.done c.args.bytes.now, ap length rest, c.loop-done-test.true) in
     record {
       within = omega (arith, length-drop c.loop-done.done c.args.bytes.now, c.in-Ok.ensures.size.at_most);
       taken = λ held told. c.in-Ok.ensures.taken _ (c.loop-done.invariant.taken held told)

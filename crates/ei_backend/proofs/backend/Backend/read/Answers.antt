@@ -1,4 +1,3 @@
-use Rattle.std.proofs.Common.{◌≡◌, ◌∙◌, ap}
 use Rattle.ei_backend.specs.Backend.{BackendView}
 use Rattle.ei_backend.proofs.ReadingOn.{reads_piece}
 use Rattle.ei_backend.proofs.backend.Backend.read.Goals as goal
