@@ -1,0 +1,10 @@
+//! The program `reis`: it serves a session from a text of hexadecimal lines, and reports.
+//!
+//! The protocol itself is not here. Begin with `HexSource`, the pieces that a text spells, and
+//! `Command`, the words that the program takes.
+#![tactic(auto)]
+
+mod held;
+mod hex_source;
+
+fn main() {}
