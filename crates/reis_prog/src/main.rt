@@ -6,5 +6,12 @@
 
 mod held;
 mod hex_source;
+mod report;
+mod std_io;
+mod words;
 
-fn main() {}
+use std::io;
+
+fn main(rt: HostRuntime) -> io::Result<()> {
+    rt.print(words::USAGE)
+}
