@@ -83,3 +83,8 @@ server_version Seat = 2
 server_version Device = 3
 server_version Touchscreen = 2
 server_version _ = 1
+
+-- the name of an interface
+abbrev pub bytes_of : Interface → List ℕ
+bytes_of (Known k) = name_of k
+bytes_of (Other n) = n

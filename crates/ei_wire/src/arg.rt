@@ -1,6 +1,6 @@
 //! Arguments.
 
-ghost use Rattle.std.specs.Prelude.{◌≡◌, ◌++◌, ◌≤◌, ◌<◌, ◌^◌, replicate, length, OnOk, OnErr, Ok, Err, Some, None, IsTrue, codes, [], ◌∷◌};
+ghost use Rattle.std.specs.Prelude.{◌≡◌, ◌++◌, ◌≤◌, ◌<◌, ◌^◌, replicate, length, vec_len, vec_capacity, ◌+◌, OnOk, OnErr, Ok, Err, Some, None, IsTrue, codes, [], ◌∷◌};
 ghost use Rattle.ei_spec.specs.Value.{Kind, U32, I32, U64, I64, Float, Text, Nullable, Handle as HandleKind, Choice, Value, Word, Long, Signed, SignedLong, Letters, Fd, written, handles_of, IsOf, HasSpelling, text_bytes};
 ghost use Rattle.ei_wire.specs.Gives.{Gives, value_of_arg};
 ghost use Rattle.ei_spec.specs.Reading.{read, or_null, Unread, Fault};
@@ -55,11 +55,13 @@ impl Arg<'_> {
         }
     }
 
-    /// Appends the bytes and the handle.
+    /// Appends the bytes and the handle, or nothing.
     pub fn write(&self, buf: &mut Vec<u8>, handles: &mut Vec<Handle>) -> Result<(), NoMemory>
         requires { HasSpelling (value_of_arg self.now) }
         ensures bytes { OnOk result (buf.new.items ≡ buf.old.items ++ written (value_of_arg self.now)) }
         ensures handles { OnOk result (handles.new.items ≡ handles.old.items ++ handles_of (value_of_arg self.now)) }
+        ensures err { OnErr result (buf.new.items ≡ buf.old.items) }
+        ensures err_handles { OnErr result (handles.new.items ≡ handles.old.items) }
     {
         match self {
             Arg::Uint32(value) | Arg::Float(value) => buf.extend_from_slice(&value.to_le_bytes())?,
@@ -76,20 +78,25 @@ impl Arg<'_> {
     }
 }
 
+/// Appends the whole text, or nothing.
 fn write_text(buf: &mut Vec<u8>, text: &str) -> Result<(), NoMemory>
     requires { length text.now ≤ 4294967294 }
-    ensures { OnOk result (buf.new.items ≡ buf.old.items ++ text_bytes text.now) }
+    ensures ok { OnOk result (buf.new.items ≡ buf.old.items ++ text_bytes text.now) }
+    ensures err { OnErr result (buf.new.items ≡ buf.old.items) }
 {
     let len = text.len() as u32 + 1;
+    let zeros = 1 + (4 - len % 4) % 4;
+    buf.reserve(4 + text.len() + zeros as usize)?;
     buf.extend_from_slice(&len.to_le_bytes())?;
     buf.extend_from_slice(text.as_bytes())?;
-    push_zeros(buf, 1 + (4 - len % 4) % 4)
+    push_zeros(buf, zeros)
 }
 
 #[tactic(auto, using(ei_spec::proofs::Utf8::take_zeros))]
 fn push_zeros(buf: &mut Vec<u8>, count: u32) -> Result<(), NoMemory>
     requires { count ≤ 4 }
-    ensures { OnOk result (buf.new.items ≡ buf.old.items ++ replicate count 0) }
+    ensures ok { OnOk result (buf.new.items ≡ buf.old.items ++ replicate count 0) }
+    ensures full { OnErr result (vec_capacity buf.old < vec_len buf.old + count) }
 {
     let zeros = [0u8; 4];
     buf.extend_from_slice(&zeros[..count as usize])?;

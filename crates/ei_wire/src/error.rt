@@ -8,6 +8,7 @@ ghost use Rattle.ei_wire.specs.declared.error.FlushError.TheVariants as flush_er
 
 use crate::text::EiText;
 use std::alloc::{AllocError, AllocFailed};
+use std::fmt;
 use thiserror::Error;
 
 /// Memory ran out.
@@ -52,6 +53,43 @@ pub enum ParseError {
     /// Memory ran out.
     NoMemory,
 }
+
+impl fmt::Display for ParseError {
+    ghost use Rattle.std.specs.Prelude.{Some};
+    ghost use Rattle.ei_wire.specs.Texts.{parse_error_text};
+
+    ghost output = { λ e. Some (parse_error_text e) };
+
+    fn fmt<W: fmt::Write>(&self, f: &mut fmt::Formatter<W>) -> fmt::Result {
+        match self {
+            ParseError::EndOfMessage => f.write_str("found end of message while parsing argument"),
+            ParseError::Utf8(place) => write!(
+                f,
+                "invalid UTF-8 string in message: at byte {place}"
+            ),
+            ParseError::InvalidId(id) => write!(f, "new object id '{id}' invalid"),
+            ParseError::NoFd => f.write_str("expected fd"),
+            ParseError::InvalidOpcode(interface, opcode) => {
+                write!(f, "opcode '{opcode}' invalid for interface '{interface}'")
+            }
+            ParseError::InvalidVariant(type_name, number) => {
+                write!(f, "variant '{number}' invalid for enum '{type_name}'")
+            }
+            ParseError::InvalidInterface(name) => {
+                let name = name.as_str();
+                write!(f, "unknown interface '{name}'")
+            }
+            ParseError::HeaderLength(length) => write!(f, "header length {length} < 16"),
+            ParseError::MessageLength(found, said) => {
+                write!(f, "message length didn't match header ({found} != {said})")
+            }
+            ParseError::InvalidNull => f.write_str("NULL value for non-nullable argument"),
+            ParseError::NoMemory => f.write_str("out of memory"),
+        }
+    }
+}
+
+impl std::error::Error for ParseError {}
 
 /// Why a message isn't sent. Nothing is written then.
 #[derive(Debug, Drop, Error)]

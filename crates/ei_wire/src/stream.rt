@@ -115,8 +115,10 @@ impl<'a> ByteStream<'a> {
         }
     }
 
-    /// The number of a variant at the front.
-    pub(crate) fn choice(&mut self, name: &'static str, values: &[u32]) -> Result<u32, ParseError>
+    /// Takes the number of a variant at the front: one of `values`, the numbers of the enum `name`.
+    ///
+    /// A number that isn't among them is `InvalidVariant`, and fewer than four bytes are `EndOfMessage`.
+    pub fn choice(&mut self, name: &'static str, values: &[u32]) -> Result<u32, ParseError>
         ensures read { Gives (λ n. (Word n, self.new)) result (read (Choice name.now values.now) self.old) }
         ensures listed { IfOk result (λ n. list_any (nat_eq n) values.now ≡ true) }
         ensures err { OnErr result (self.new ≡ self.old) }

@@ -1,0 +1,74 @@
+-- Bytes and handles that go out, a part after another.
+use Rattle.std.proofs.Common.{◌≡◌, ◌<◌, ◌≤◌, ℕ, ◌+◌, zero, suc, List, [], ◌∷◌, ◌++◌, take, drop, length, Option, Some, Result, Ok, Err, OnOk, refl, ap, sym, ◌∙◌, append_assoc, arith, length-append}
+use Rattle.std.proofs.lemmas.List.{append-nil}
+use Rattle.std.proofs.Math.Seq.{take-add}
+use Rattle.ei_spec.specs.declared.handle.Handle.{Handle}
+use Rattle.ei_spec.specs.Piece.{Piece}
+use Rattle.ei_spec.specs.Message.{Raw, bytes_of, header, le4, le8, size}
+use Rattle.ei_spec.proofs.Numbers.{len4, len8}
+use Rattle.ei_wire.specs.declared.error.FlushError.{FlushError}
+use Rattle.ei_backend.specs.Outside.{with_more}
+use Rattle.ei_backend.specs.Outgoing.{nothing, HasBytes, beside, kept_beside, unsent_after, sent_front, StopsAfter, Flushes}
+
+pub same_piece : (a b : List ℕ) (h k : List Handle) → a ≡ b → h ≡ k → ◌≡◌ {A = Piece} (record { bytes = a; handles = h }) (record { bytes = b; handles = k })
+same_piece a b h k e f = rw (e, f) refl
+
+beside_some : (n : ℕ) (hs : List Handle) → 0 < n → beside n hs ≡ hs
+beside_some zero hs lt = absurd (omega arith)
+beside_some (suc n) hs lt = refl
+
+beside_more : (i n : ℕ) (hs : List Handle) → 0 < n → beside i hs ++ kept_beside i hs ≡ beside (i + n) hs
+beside_more zero n hs lt = sym (beside_some (0 + n) hs (omega arith))
+beside_more (suc i) n hs lt = append-nil hs ∙ sym (beside_some (suc i + n) hs (omega arith))
+
+-- a sink that has the first i bytes takes n more
+pub put_on : (held : Piece) (xs ys : List ℕ) (hs ks : List Handle) (i n : ℕ) → ys ≡ drop i xs → ks ≡ kept_beside i hs → 0 < n →
+    with_more (take n ys) ks (with_more (take i xs) (beside i hs) held) ≡ with_more (take (i + n) xs) (beside (i + n) hs) held
+put_on held xs ys hs ks i n rest left lt =
+    let bytes : (held.bytes ++ take i xs) ++ take n ys ≡ held.bytes ++ take (i + n) xs =
+      append_assoc held.bytes (take i xs) (take n ys) ∙ ap (λ (l : List ℕ). held.bytes ++ l) (ap (λ (l : List ℕ). take i xs ++ take n l) rest ∙ sym (take-add i n xs)) in
+    let handles : (held.handles ++ beside i hs) ++ ks ≡ held.handles ++ beside (i + n) hs =
+      append_assoc held.handles (beside i hs) ks ∙ ap (λ (l : List Handle). held.handles ++ l) (ap (λ (l : List Handle). beside i hs ++ l) left ∙ beside_more i n hs lt) in
+    same_piece _ _ _ _ bytes handles
+
+drop_whole : (l : List ℕ) → drop (length l) l ≡ []
+drop_whole [] = refl
+drop_whole (x ∷ l) = drop_whole l
+
+kept_whole : (bytes : List ℕ) (handles : List Handle) → HasBytes bytes handles → kept_beside (length bytes) handles ≡ []
+kept_whole [] handles has = has refl
+kept_whole (b ∷ bytes) handles has = refl
+
+beside_whole : (bytes : List ℕ) (handles : List Handle) → HasBytes bytes handles → beside (length bytes) handles ≡ handles
+beside_whole [] handles has = sym (has refl)
+beside_whole (b ∷ bytes) handles has = refl
+
+take_whole : (l : List ℕ) → take (length l) l ≡ l
+take_whole [] = refl
+take_whole (x ∷ l) = ap (λ (t : List ℕ). x ∷ t) (take_whole l)
+
+-- n bytes went out
+pub stops_after : (old : Piece) (n : ℕ) (result : Result (Unit {0}) FlushError) (bytes : List ℕ) (handles : List Handle) → HasBytes old.bytes old.handles →
+    n ≤ length old.bytes → OnOk result (n ≡ length old.bytes) → bytes ≡ drop n old.bytes → handles ≡ kept_beside n old.handles →
+    StopsAfter old result (record { bytes = bytes; handles = handles })
+stops_after old n (Ok u) bytes handles has le all rest kept =
+    same_piece _ _ _ _ (rest ∙ ap (λ (k : ℕ). drop k old.bytes) all ∙ drop_whole old.bytes) (kept ∙ ap (λ (k : ℕ). kept_beside k old.handles) all ∙ kept_whole old.bytes old.handles has)
+stops_after old n (Err e) bytes handles has le all rest kept = (n, le, same_piece _ _ _ _ rest kept)
+
+-- and a sink took them
+pub flushes : (held old : Piece) (n : ℕ) (result : Result (Unit {0}) FlushError) (bytes : List ℕ) (handles : List Handle) (taken : Option Piece) → HasBytes old.bytes old.handles →
+    n ≤ length old.bytes → OnOk result (n ≡ length old.bytes) → bytes ≡ drop n old.bytes → handles ≡ kept_beside n old.handles → taken ≡ Some (sent_front n old held) →
+    Flushes held old result (record { bytes = bytes; handles = handles }) taken
+flushes held old n (Ok u) bytes handles taken has le all rest kept took =
+    let front : take n old.bytes ≡ old.bytes = ap (λ (k : ℕ). take k old.bytes) all ∙ take_whole old.bytes in
+    let beside_it : beside n old.handles ≡ old.handles = ap (λ (k : ℕ). beside k old.handles) all ∙ beside_whole old.bytes old.handles has in
+    took ∙ ap Some (same_piece _ _ _ _ (ap (λ (l : List ℕ). held.bytes ++ l) front) (ap (λ (l : List Handle). held.handles ++ l) beside_it))
+flushes held old n (Err e) bytes handles taken has le all rest kept took = (n, le, took, same_piece _ _ _ _ rest kept)
+
+-- a message has its header
+pub has_header : (m : Raw) → 16 ≤ length (bytes_of m)
+unfolding bytes_of header
+has_header m = omega (arith, length-append (le8 m.id ++ (le4 (size m) ++ le4 m.opcode)) m.body, length-append (le8 m.id) (le4 (size m) ++ le4 m.opcode), length-append (le4 (size m)) (le4 m.opcode), len8 m.id, len4 (size m), len4 m.opcode)
+
+pub message_waits : (before now : List ℕ) (m : Raw) (handles : List Handle) → now ≡ before ++ bytes_of m → HasBytes now handles
+message_waits before now m handles e = λ none. absurd (omega (arith, has_header m, length-append before (bytes_of m), ap (λ (l : List ℕ). length l) e, none))

@@ -1,0 +1,20 @@
+use Rattle.std.proofs.Common.{◌≡◌, ◌≤◌, ◌∙◌, ap, ℕ, List, length, drop, take, Some, OnOk}
+use Rattle.ei_spec.specs.Piece.{Piece}
+use Rattle.ei_backend.proofs.GoingOut.{stops_after, flushes}
+use Rattle.ei_backend.proofs.outgoing.Outgoing.flush.Goals as goal
+
+pub returns-clause-stops : goal.returns-clause-stops
+returns-clause-stops g c =
+    let old : Piece = record { bytes = c.self.inside.bytes.items; handles = c.self.inside.handles.items } in
+    let within : c.put_all-done.result.0 ≤ length old.bytes = rw (← c.deref.ensures.value) c.put_all-done.ensures.within in
+    let all : OnOk c.put_all-done.result.1 (c.put_all-done.result.0 ≡ length old.bytes) = rw (← c.deref.ensures.value) c.put_all-done.ensures.ok in
+    rw (← c.self.view_is) (stops_after old c.put_all-done.result.0 c.put_all-done.result.1 _ _ c.self.invariant within all c.drop_front.ensures c.drop_beside.ensures)
+
+pub returns-clause-took : goal.returns-clause-took
+returns-clause-took g c = λ held told.
+    let old : Piece = record { bytes = c.self.inside.bytes.items; handles = c.self.inside.handles.items } in
+    let within : c.put_all-done.result.0 ≤ length old.bytes = rw (← c.deref.ensures.value) c.put_all-done.ensures.within in
+    let all : OnOk c.put_all-done.result.1 (c.put_all-done.result.0 ≡ length old.bytes) = rw (← c.deref.ensures.value) c.put_all-done.ensures.ok in
+    let took = c.put_all-done.ensures.took held told in
+    rw (← c.self.view_is) (flushes held old c.put_all-done.result.0 c.put_all-done.result.1 _ _ _ c.self.invariant within all c.drop_front.ensures c.drop_beside.ensures
+      (rw (← c.deref.ensures.value, ← c.deref-2.ensures.value) took))

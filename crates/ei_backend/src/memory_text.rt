@@ -1,0 +1,100 @@
+//! A text in memory.
+
+ghost use Rattle.std.specs.Prelude.{◌≡◌, ◌<◌, ◌≤◌, ◌↔◌, min, [], ◌∷◌, ◌++◌, Some, drop, length, OnOk, OnErr, IfOk, IsErr, Contains};
+ghost use Rattle.ei_backend.specs.Outside.{Fetches, HasCause};
+ghost use Rattle.ei_backend.specs.Memory.{TextView, counted, faults_after};
+
+use crate::outside::{Fault, Input};
+use ei_wire::NoMemory;
+use std::alloc::Global;
+use std::marker::Model;
+
+/// An input in memory: it gives the text that it was made of, as much at a time as there is room for.
+#[derive(Drop)]
+pub struct MemoryText {
+    text: Vec<u8>,
+    next: usize,
+    fails: Vec<u64>,
+    calls: u64,
+    faults: u64,
+}
+
+impl Model for MemoryText {
+    ghost use Rattle.std.specs.Prelude.{◌≤◌, drop, vec_len};
+    ghost use Rattle.ei_backend.specs.Memory.{TextView};
+
+    ghost Value = { TextView };
+
+    ghost view = { λ s. record {
+      left = drop s.next s.text.items;
+      fails = s.fails.items;
+      calls = s.calls;
+      faults = s.faults;
+    } };
+
+    ghost invariant = { λ s. s.next ≤ vec_len s.text };
+}
+
+impl MemoryText {
+    /// An input that gives this text, and never fails.
+    pub fn new(alloc: Global, text: &[u8]) -> Result<MemoryText, NoMemory>
+        ensures { IfOk result (λ t. t ≡ record { left = text.now; fails = []; calls = 0; faults = 0 }) }
+    {
+        Ok(MemoryText {
+            text: text.to_vec(alloc)?,
+            next: 0,
+            fails: Vec::new(alloc),
+            calls: 0,
+            faults: 0,
+        })
+    }
+
+    /// The `fetch` of that number, from 1, fails and moves nothing.
+    pub fn fail_at(&mut self, call: u32) -> Result<(), NoMemory>
+        ensures ok { OnOk result (self.new ≡ record self.old { fails = self.old.fails ++ call ∷ [] }) }
+        ensures err { OnErr result (self.new ≡ self.old) }
+    {
+        self.fails.push(u64::from(call))?;
+        Ok(())
+    }
+}
+
+impl Input for MemoryText {
+    ghost text = { λ s. Some s.left };
+
+    ghost faults = { λ s. s.faults };
+
+    ghost later = { λ _ _. Unit {0} };
+
+    ghost later_refl = { λ _. tt };
+
+    ghost later_trans = { λ _ _ _ _ _. tt };
+
+    fn fetch(&mut self, bytes: &mut [u8]) -> Result<usize, Fault>
+        requires { 0 < length bytes.old }
+        ensures size { IfOk result (λ n. n ≤ length bytes.new) }
+        ensures text { Fetches (Some self.old.left) (Some self.new.left) result bytes.new }
+        ensures cause { HasCause self.old.faults self.new.faults result }
+        // beyond the trait's: which calls fail, and all that there is room for
+        ensures fails { IsErr result ↔ Contains self.old.fails (counted self.old.calls) }
+        ensures whole { IfOk result (λ n. n ≡ min (length self.old.left) (length bytes.old)) }
+        // what the slice holds besides
+        ensures behind { IfOk result (λ n. drop n bytes.new ≡ drop n bytes.old) }
+        ensures err { OnErr result (bytes.new ≡ bytes.old) }
+        // what it counts, and what stays
+        ensures calls { self.new.calls ≡ counted self.old.calls }
+        ensures faults { self.new.faults ≡ faults_after result self.old.faults }
+        ensures same_fails { self.new.fails ≡ self.old.fails }
+    {
+        self.calls = self.calls.saturating_add(1);
+        if self.fails.contains(&self.calls) {
+            self.faults = self.faults.saturating_add(1);
+            return Err(Fault);
+        }
+        let left = &self.text[self.next..];
+        let count = left.len().min(bytes.len());
+        bytes[..count].copy_from_slice(&left[..count]);
+        self.next += count;
+        Ok(count)
+    }
+}

@@ -1,0 +1,161 @@
+//! A source of the pieces that were pushed.
+
+ghost use Rattle.std.specs.Prelude.{◌≡◌, ◌<◌, ◌≤◌, ◌↔◌, [], ◌∷◌, ◌++◌, Some, drop, length, OnOk, OnErr, IfOk, IsErr, Contains};
+ghost use Rattle.ei_backend.specs.Outside.{IsPieceSize, Takes, HasCause, last_of};
+ghost use Rattle.ei_backend.specs.Memory.{PiecesView, counted, first_sizes, faults_after};
+
+use crate::outside::{Fault, LastAnswer, Source, Taken};
+use ei_spec::Handle;
+use ei_wire::NoMemory;
+use std::alloc::Global;
+use std::marker::Model;
+
+/// A piece of a `Pieces`.
+#[derive(Drop)]
+struct StoredPiece {
+    bytes: Vec<u8>,
+    handles: Vec<Handle>,
+}
+
+impl Model for StoredPiece {
+    ghost use Rattle.ei_backend.specs.Memory.{IsPiece};
+    ghost use Rattle.ei_spec.specs.Piece.{Piece};
+
+    ghost Value = { Piece };
+
+    ghost view = { λ s. record { bytes = s.bytes.items; handles = s.handles.items } };
+
+    ghost invariant = { λ s. IsPiece (record { bytes = s.bytes.items; handles = s.handles.items }) };
+}
+
+/// A source in memory: it hands out the pieces that were pushed, in their order.
+#[derive(Drop)]
+pub struct Pieces {
+    alloc: Global,
+    stored: Vec<StoredPiece>,
+    next: usize,
+    fails: Vec<u64>,
+    calls: u64,
+    faults: u64,
+    last: LastAnswer,
+}
+
+impl Model for Pieces {
+    ghost use Rattle.std.specs.Prelude.{◌≤◌, drop, vec_len};
+    ghost use Rattle.ei_backend.specs.Memory.{PiecesView};
+
+    ghost Value = { PiecesView };
+
+    ghost view = { λ s. record {
+      left = drop s.next s.stored.items;
+      fails = s.fails.items;
+      calls = s.calls;
+      faults = s.faults;
+      last = s.last;
+    } };
+
+    ghost invariant = { λ s. s.next ≤ vec_len s.stored };
+}
+
+impl Pieces {
+    /// A source with no piece, which never fails.
+    pub fn new(alloc: Global) -> Pieces
+        ensures { result ≡ record { left = []; fails = []; calls = 0; faults = 0; last = LastAnswer.Nothing } }
+    {
+        Pieces {
+            alloc,
+            stored: Vec::new(alloc),
+            next: 0,
+            fails: Vec::new(alloc),
+            calls: 0,
+            faults: 0,
+            last: LastAnswer::Nothing,
+        }
+    }
+
+    /// Adds a piece behind the others: 1 to 65536 bytes, and at most 64 handles.
+    pub fn push(&mut self, bytes: &[u8], handles: &[Handle]) -> Result<(), NoMemory>
+        requires some { 0 < length bytes.now }
+        requires bytes { length bytes.now ≤ 65536 }
+        requires handles { length handles.now ≤ 64 }
+        ensures ok { OnOk result (self.new ≡ record self.old { left = self.old.left ++ record { bytes = bytes.now; handles = handles.now } ∷ [] }) }
+        ensures err { OnErr result (self.new ≡ self.old) }
+    {
+        let piece = StoredPiece {
+            bytes: bytes.to_vec(self.alloc)?,
+            handles: handles.to_vec(self.alloc)?,
+        };
+        self.stored.push(piece)?;
+        Ok(())
+    }
+
+    /// The `take` of that number, from 1, fails and moves nothing.
+    pub fn fail_at(&mut self, call: u32) -> Result<(), NoMemory>
+        ensures ok { OnOk result (self.new ≡ record self.old { fails = self.old.fails ++ call ∷ [] }) }
+        ensures err { OnErr result (self.new ≡ self.old) }
+    {
+        self.fails.push(u64::from(call))?;
+        Ok(())
+    }
+}
+
+impl Source for Pieces {
+    ghost left = { λ s. Some s.left };
+
+    ghost faults = { λ s. s.faults };
+
+    ghost last = { λ s. s.last };
+
+    ghost later = { λ _ _. Unit {0} };
+
+    ghost later_refl = { λ _. tt };
+
+    ghost later_trans = { λ _ _ _ _ _. tt };
+
+    fn take(&mut self, bytes: &mut [u8], handles: &mut [Handle]) -> Result<Taken, Fault>
+        requires room { 65536 ≤ length bytes.old }
+        requires handle_room { 64 ≤ length handles.old }
+        ensures size { IfOk result IsPieceSize }
+        ensures pieces { Takes (Some self.old.left) (Some self.new.left) result bytes.new handles.new }
+        ensures cause { HasCause self.old.faults self.new.faults result }
+        ensures last { self.new.last ≡ last_of result }
+        // beyond the trait's: which calls fail, and the whole piece
+        ensures fails { IsErr result ↔ Contains self.old.fails (counted self.old.calls) }
+        ensures whole { IfOk result (λ taken. taken ≡ first_sizes self.old.left) }
+        // what the slices hold besides the piece
+        ensures behind { IfOk result (λ taken. drop taken.bytes bytes.new ≡ drop taken.bytes bytes.old) }
+        ensures handles_behind { IfOk result (λ taken. drop taken.handles handles.new ≡ drop taken.handles handles.old) }
+        ensures err { OnErr result (bytes.new ≡ bytes.old) }
+        ensures handles_err { OnErr result (handles.new ≡ handles.old) }
+        // what it counts, and what stays
+        ensures calls { self.new.calls ≡ counted self.old.calls }
+        ensures faults { self.new.faults ≡ faults_after result self.old.faults }
+        ensures same_fails { self.new.fails ≡ self.old.fails }
+    {
+        self.calls = self.calls.saturating_add(1);
+        if self.fails.contains(&self.calls) {
+            self.faults = self.faults.saturating_add(1);
+            self.last = LastAnswer::Fault;
+            return Err(Fault);
+        }
+        if self.next < self.stored.len() {
+            let piece = &self.stored[self.next];
+            let count = piece.bytes.len();
+            let handle_count = piece.handles.len();
+            bytes[..count].copy_from_slice(&piece.bytes);
+            handles[..handle_count].copy_from_slice(&piece.handles);
+            self.next += 1;
+            self.last = LastAnswer::Piece;
+            Ok(Taken {
+                bytes: count,
+                handles: handle_count,
+            })
+        } else {
+            self.last = LastAnswer::End;
+            Ok(Taken {
+                bytes: 0,
+                handles: 0,
+            })
+        }
+    }
+}

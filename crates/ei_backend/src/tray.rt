@@ -1,0 +1,114 @@
+//! A sink that keeps what it takes.
+
+ghost use Rattle.std.specs.Prelude.{◌≡◌, ◌↔◌, [], ◌∷◌, ◌++◌, Some, length, OnOk, OnErr, IfOk, IsErrOf, Contains};
+ghost use Rattle.ei_backend.specs.Outside.{HasPutCause, Puts, IsPutSize, with_more};
+ghost use Rattle.ei_backend.specs.Memory.{TrayView, counted, faults_after_put};
+
+use crate::outside::{PutError, Sink};
+use ei_spec::Handle;
+use ei_wire::NoMemory;
+use std::alloc::Global;
+use std::marker::Model;
+
+/// A sink in memory: it keeps the bytes and handles that it takes, all of each `put`.
+#[derive(Drop)]
+pub struct Tray {
+    bytes: Vec<u8>,
+    handles: Vec<Handle>,
+    fails: Vec<u64>,
+    calls: u64,
+    faults: u64,
+}
+
+impl Model for Tray {
+    ghost use Rattle.ei_backend.specs.Memory.{TrayView};
+
+    ghost Value = { TrayView };
+
+    ghost view = { λ s. record {
+      held = record { bytes = s.bytes.items; handles = s.handles.items };
+      fails = s.fails.items;
+      calls = s.calls;
+      faults = s.faults;
+    } };
+}
+
+impl Tray {
+    /// A sink that took nothing yet, and never fails.
+    pub fn new(alloc: Global) -> Tray
+        ensures { result ≡ record { held = record { bytes = []; handles = [] }; fails = []; calls = 0; faults = 0 } }
+    {
+        Tray {
+            bytes: Vec::new(alloc),
+            handles: Vec::new(alloc),
+            fails: Vec::new(alloc),
+            calls: 0,
+            faults: 0,
+        }
+    }
+
+    /// The bytes that it took.
+    pub fn bytes(&self) -> &[u8]
+        ensures { result.now ≡ self.now.held.bytes }
+    {
+        &self.bytes
+    }
+
+    /// The handles that it took.
+    pub fn handles(&self) -> &[Handle]
+        ensures { result.now ≡ self.now.held.handles }
+    {
+        &self.handles
+    }
+
+    /// The `put` of that number, from 1, fails and takes nothing.
+    pub fn fail_at(&mut self, call: u32) -> Result<(), NoMemory>
+        ensures ok { OnOk result (self.new ≡ record self.old { fails = self.old.fails ++ call ∷ [] }) }
+        ensures err { OnErr result (self.new ≡ self.old) }
+    {
+        self.fails.push(u64::from(call))?;
+        Ok(())
+    }
+}
+
+impl Sink for Tray {
+    ghost taken = { λ s. Some s.held };
+
+    ghost faults = { λ s. s.faults };
+
+    ghost later = { λ _ _. Unit {0} };
+
+    ghost later_refl = { λ _. tt };
+
+    ghost later_trans = { λ _ _ _ _ _. tt };
+
+    fn put(&mut self, bytes: &[u8], handles: &[Handle]) -> Result<usize, PutError>
+        ensures size { IfOk result (λ n. IsPutSize n bytes.now) }
+        ensures taken { Puts (Some self.old.held) (Some self.new.held) result bytes.now handles.now }
+        ensures cause { HasPutCause self.old.faults self.new.faults result }
+        // beyond the trait's: which calls fail, and all that was handed to it
+        ensures fails { IsErrOf result PutError.Fault ↔ Contains self.old.fails (counted self.old.calls) }
+        ensures all { IfOk result (λ n. n ≡ length bytes.now) }
+        ensures ok { OnOk result (self.new.held ≡ with_more bytes.now handles.now self.old.held) }
+        ensures err { OnErr result (self.new.held ≡ self.old.held) }
+        // what it counts, and what stays
+        ensures calls { self.new.calls ≡ counted self.old.calls }
+        ensures faults { self.new.faults ≡ faults_after_put result self.old.faults }
+        ensures same_fails { self.new.fails ≡ self.old.fails }
+    {
+        self.calls = self.calls.saturating_add(1);
+        if self.fails.contains(&self.calls) {
+            self.faults = self.faults.saturating_add(1);
+            return Err(PutError::Fault);
+        }
+        let before = self.bytes.len();
+        if self.bytes.extend_from_slice(bytes).is_err() {
+            return Err(PutError::NoMemory);
+        }
+        if self.handles.extend_from_slice(handles).is_err() {
+            self.bytes.truncate(before);
+            return Err(PutError::NoMemory);
+        }
+        Ok(bytes.len())
+    }
+}

@@ -1,0 +1,4 @@
+pub mod Least
+pub mod OneMore
+pub mod Parts
+pub mod WorkedRows

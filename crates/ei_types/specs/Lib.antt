@@ -1,0 +1,5 @@
+pub mod Enums
+pub mod Capability
+pub mod Twelve
+pub mod Errors
+pub mod Texts

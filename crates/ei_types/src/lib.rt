@@ -1,0 +1,15 @@
+//! The small types that both ends share: enums of the protocol, capabilities and sets of them, the
+//! twelve interfaces that a handshake settles, and the errors of a session.
+//!
+//! There are no messages here and no state. Begin with `DeviceCapability` and `Error`.
+#![tactic(auto)]
+
+mod capability;
+mod enums;
+mod error;
+mod twelve;
+
+pub use capability::{DeviceCapabilities, DeviceCapability};
+pub use enums::ContextType;
+pub use error::{Error, EventError, HandshakeError, RequestError};
+pub use twelve::{interfaces, known_interfaces};
