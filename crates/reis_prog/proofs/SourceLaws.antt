@@ -9,7 +9,8 @@ use Rattle.ei_spec.specs.Piece.{Piece}
 use Rattle.ei_backend.specs.Outside.{HandsOut}
 use Rattle.reis_prog.specs.Text.{line_bytes, piece_before, pieces_of, bad_line_before, bad_line_of, number_from}
 use Rattle.reis_prog.specs.Held.{FindsNewline, Moves, line_len, line_skip}
-use Rattle.reis_prog.specs.HexSource.{LaterText, HandsLine, IsAtEnd}
+use Rattle.reis_prog.specs.HexSource.{Reading, reading_of, fresh, LaterText, LaterReading, LaterSource, HandsLine, IsAtEnd}
+use Rattle.reis_prog.specs.declared.hex_source.HexSource.{HexSource}
 use Rattle.reis_prog.proofs.TextLaws.{pieces_of-first, bad_line_of-first}
 
 pub some_not_none : (o : Option ℕ) → is_some o ≡ true → o ≡ None → ⊥
@@ -163,3 +164,10 @@ pub told_at_end : (left : Option (List ℕ)) (held rest t : List ℕ) → left �
 told_at_end left held rest t is told end =
     let same : rest ≡ t = cc in
     subst (λ (v : List ℕ). IsAtEnd (held ++ v)) same end
+
+-- the bad line that a source over a fresh input met is the first of the text
+pub first_bad_line : {I : Type 0} (text : I → Option (List ℕ)) (later : I → I → Type 0) (x y : HexSource I) (input : I) (t : List ℕ) (n : ℕ) →
+    reading_of x ≡ fresh input → LaterSource text later x y → text input ≡ Some t → (reading_of y).bad ≡ Some n → number_from 0 (bad_line_of t) ≡ Some n
+first_bad_line text later x y input t n new l told met =
+    let r : LaterReading text later (fresh input) (reading_of y) = subst (λ (v : Reading _). LaterReading text later v (reading_of y)) new l.reading in
+    r.number refl n met t told

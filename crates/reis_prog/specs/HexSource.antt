@@ -1,6 +1,7 @@
 -- A source over the lines of an input.
 use Rattle.std.specs.Prelude.{◌≡◌, ◌<◌, ◌⊎◌, ℕ, ◌+◌, ◌-◌, ◌^◌, min, length, List, [], ◌∷◌, ◌++◌, take, slice_get, Option, Some, None, IsSome, Result, Ok, Err, false, refl}
 use Rattle.std.specs.Option.{option_map}
+use Rattle.std.specs.Borrow.{GName}
 use Rattle.std.proofs.Common.{◌∙◌, sym, ap, append_assoc, arith, length-append, inl, inr}
 use Rattle.ei_spec.specs.Piece.{Piece}
 use Rattle.ei_backend.specs.declared.outside.Fault.{Fault}
@@ -29,6 +30,10 @@ answer_of s = s.last
 -- the reading of an input that was not asked yet
 abbrev pub fresh : {I : Type 0} → I → Reading I
 fresh input = record { input = input; held = []; line = 0; bad = None; bad_faults = 0 }
+
+-- the name of the reference that a source holds
+abbrev pub reference_of : {I : Type 0} → HexSource I → GName
+reference_of s = s.input.ghost_name
 
 -- the pieces left, where the input tells its text
 abbrev pub left_of : {I : Type 0} → (I → Option (List ℕ)) → Reading I → Option (List Piece)
@@ -97,7 +102,7 @@ EndsTruly text r last = last ≡ answers.End → (t : List ℕ) → text r.input
 
 -- the same input is borrowed still, its reading went on, and the last answer stays true
 pub record LaterSource {I : Type 0} (text : I → Option (List ℕ)) (later : I → I → Type 0) (x y : HexSource I) : Type 0 where
-  pub same_reference : x.input.ghost_name ≡ y.input.ghost_name
+  pub same_reference : reference_of x ≡ reference_of y
   pub reading : LaterReading text later (reading_of x) (reading_of y)
   pub truly : AnswersTruly (reading_of x) (answer_of x) → AnswersTruly (reading_of y) (answer_of y)
   pub ends : (t : List ℕ) → text (reading_of x).input ≡ Some t → EndsTruly text (reading_of x) (answer_of x) → EndsTruly text (reading_of y) (answer_of y)

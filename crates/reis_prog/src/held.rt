@@ -41,7 +41,8 @@ impl Model for Held {
     ghost invariant = { λ h. IsBuffer h.room.items h.start h.end h.scanned };
 }
 
-fn zeroed(alloc: Global, n: usize) -> Result<Vec<u8>, NoMemory>
+/// Room for bytes.
+pub(crate) fn zeroed(alloc: Global, n: usize) -> Result<Vec<u8>, NoMemory>
     ensures { IfOk result (λ v. length v.items ≡ n) }
 {
     Ok(vec![in alloc; 0u8; n]?)

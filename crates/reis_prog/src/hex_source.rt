@@ -48,11 +48,11 @@ fn decode_line(line: &[u8], bytes: &mut [u8]) -> Option<usize>
 impl<'a, I: Input> HexSource<'a, I> {
     ghost use Rattle.ei_backend.specs.Outside.{HasCause};
     ghost use Rattle.ei_backend.specs.declared.outside.LastAnswer.TheVariants as answers;
-    ghost use Rattle.reis_prog.specs.HexSource.{reading_of, answer_of, fresh, faults_of, LaterReading, NextPiece, IsAtEnd};
+    ghost use Rattle.reis_prog.specs.HexSource.{reference_of, reading_of, answer_of, fresh, faults_of, LaterReading, NextPiece, IsAtEnd};
 
     /// `NoMemory` where there is none for the longest line.
     pub fn new(alloc: Global, input: &'a mut I) -> Result<HexSource<'a, I>, NoMemory>
-        ensures same_reference { IfOk result (λ s. s.input.ghost_name ≡ input.entry.ghost_name) }
+        ensures same_reference { IfOk result (λ s. reference_of s ≡ input.entry.ghost_name) }
         ensures fresh { IfOk result (λ s. reading_of s ≡ fresh input.old) }
         ensures unasked { IfOk result (λ s. answer_of s ≡ answers.Nothing) }
     {
@@ -63,7 +63,7 @@ impl<'a, I: Input> HexSource<'a, I> {
     /// The same with the room made before, so that the input is not lent where there is no memory.
     pub(crate) fn over(held: Held, input: &'a mut I) -> HexSource<'a, I>
         requires { held ≡ [] }
-        ensures same_reference { result.input.ghost_name ≡ input.entry.ghost_name }
+        ensures same_reference { reference_of result ≡ input.entry.ghost_name }
         ensures fresh { reading_of result ≡ fresh input.old }
         ensures unasked { answer_of result ≡ answers.Nothing }
     {
@@ -79,7 +79,7 @@ impl<'a, I: Input> HexSource<'a, I> {
 
     /// Gives the input back.
     pub(crate) fn close(self) -> &'a mut I
-        ensures same_reference { result.ghost_name ≡ self.entry.input.ghost_name }
+        ensures same_reference { result.ghost_name ≡ reference_of self.entry }
         ensures same { result.now ≡ (reading_of self.entry).input }
     {
         self.input
@@ -104,7 +104,7 @@ impl<'a, I: Input> HexSource<'a, I> {
         ensures refused { IsSome (reading_of self.old).bad → IsErr result × ((reading_of self.new).input ≡ (reading_of self.old).input) }
         ensures cause { HasCause (faults_of I.faults (reading_of self.old)) (faults_of I.faults (reading_of self.new)) result }
         ensures input_cause { (reading_of self.new).bad ≡ None → HasCause (I.faults (reading_of self.old).input) (I.faults (reading_of self.new).input) result }
-        ensures same_reference { self.new.input.ghost_name ≡ self.old.input.ghost_name }
+        ensures same_reference { reference_of self.new ≡ reference_of self.old }
         ensures later { LaterReading I.text I.later (reading_of self.old) (reading_of self.new) }
     {
         if self.bad.is_some() {

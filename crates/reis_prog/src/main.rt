@@ -10,6 +10,9 @@ mod report;
 mod std_io;
 mod words;
 
+#[cfg(test)]
+mod tests;
+
 use std::io;
 
 fn main(rt: HostRuntime) -> io::Result<()> {

@@ -2,9 +2,11 @@
 //!
 //! They tell nothing of what they give and take. Each error of theirs counts as a fault.
 
-ghost use Rattle.std.specs.Prelude.{◌≡◌, ◌≤◌, ◌-◌};
+ghost use Rattle.std.specs.Prelude.{◌≡◌, ◌<◌, ◌≤◌, ◌-◌, ℕ, List, None, Some, IfOk, length};
 ghost use Rattle.std.specs.Time.{instant_nanos};
-ghost use Rattle.reis_prog.specs.StdIo.{counted, whole_micros};
+ghost use Rattle.ei_backend.specs.Memory.{counted};
+ghost use Rattle.ei_backend.specs.Outside.{HasCause, HasPutCause, Fetches, Puts, IsPutSize, Reads};
+ghost use Rattle.reis_prog.specs.StdIo.{Counts, ReadsOrRepeats, whole_micros};
 
 use ei_backend::{Clock, Fault, Input, PutError, Sink};
 use ei_spec::Handle;
@@ -35,7 +37,6 @@ impl<R: Read + Drop> StdInput<R> {
 }
 
 impl<R: Read + Drop> Input for StdInput<R> {
-    ghost use Rattle.std.specs.Prelude.{None};
 
     ghost text = { λ _. None };
 
@@ -47,7 +48,14 @@ impl<R: Read + Drop> Input for StdInput<R> {
 
     ghost later_trans = { λ _ _ _ _ _. tt };
 
-    fn fetch(&mut self, bytes: &mut [u8]) -> Result<usize, Fault> {
+    fn fetch(&mut self, bytes: &mut [u8]) -> Result<usize, Fault>
+        requires { 0 < length bytes.old }
+        ensures size { IfOk result (λ n. n ≤ length bytes.new) }
+        ensures text { Fetches None None result bytes.new }
+        ensures cause { HasCause self.old.faults self.new.faults result }
+        // beyond the trait's
+        ensures counts { Counts result self.old.faults self.new.faults }
+    {
         match self.reader.read(bytes) {
             Ok(n) => Ok(n),
             Err(_) => {
@@ -74,7 +82,6 @@ impl<W: Write + Drop> StdOutput<W> {
 }
 
 impl<W: Write + Drop> Sink for StdOutput<W> {
-    ghost use Rattle.std.specs.Prelude.{None};
 
     ghost taken = { λ _. None };
 
@@ -86,7 +93,13 @@ impl<W: Write + Drop> Sink for StdOutput<W> {
 
     ghost later_trans = { λ _ _ _ _ _. tt };
 
-    fn put(&mut self, bytes: &[u8], _handles: &[Handle]) -> Result<usize, PutError> {
+    fn put(&mut self, bytes: &[u8], _handles: &[Handle]) -> Result<usize, PutError>
+        ensures size { IfOk result (λ n. IsPutSize n bytes.now) }
+        ensures taken { Puts None None result bytes.now _handles.now }
+        ensures cause { HasPutCause self.old.faults self.new.faults result }
+        // beyond the trait's
+        ensures counts { Counts result self.old.faults self.new.faults }
+    {
         match self.writer.write(bytes) {
             Ok(n) if n > 0 || bytes.is_empty() => Ok(n),
             _ => {
@@ -135,7 +148,6 @@ impl<'a, C: TimeSource> StdClock<'a, C> {
 }
 
 impl<C: TimeSource> Clock for StdClock<'_, C> {
-    ghost use Rattle.std.specs.Prelude.{None};
 
     ghost readings = { λ _. None };
 
@@ -147,7 +159,13 @@ impl<C: TimeSource> Clock for StdClock<'_, C> {
 
     ghost later_trans = { λ _ _ _ _ _. tt };
 
-    fn now(&mut self) -> u64 {
+    fn now(&mut self) -> u64
+        ensures reading { (told : List ℕ) → None ≡ Some told → Reads told None result }
+        ensures cause { self.old.faults ≤ self.new.faults }
+        // beyond the trait's
+        ensures fails { ReadsOrRepeats self.old.faults self.new.faults self.old.last result }
+        ensures last { self.new.last ≡ result }
+    {
         match self.reading() {
             Some(micros) => {
                 self.last = micros;

@@ -45,8 +45,14 @@ fn number(text: &str, limit: u32) -> Option<u32>
         return None;
     }
     match text.parse::<u32>() {
-        Ok(n) if n <= limit => Some(n),
-        _ => None,
+        Ok(n) => {
+            if n <= limit {
+                Some(n)
+            } else {
+                None
+            }
+        }
+        Err(_) => None,
     }
 }
 
