@@ -1,6 +1,6 @@
 -- The bytes held in a room, after a move, a read and a scan.
-use Rattle.std.proofs.Common.{◌≡◌, ◌<◌, ◌≤◌, ℕ, ◌+◌, ◌-◌, List, [], ◌∷◌, ◌++◌, length, take, drop, refl, ap, sym, ◌∙◌, append_assoc, length-drop, length-append, arith, Some}
-use Rattle.std.proofs.lemmas.List.{take-append-drop, take-append-le, take-take, length-take-le, take_all, take_at, drop-take, drop-append-le, drop-drop}
+use Rattle.std.proofs.Common.{◌≡◌, ◌≤◌, ℕ, ◌+◌, ◌-◌, List, [], ◌∷◌, ◌++◌, length, take, drop, ap, sym, ◌∙◌, append_assoc, length-drop, arith, Some}
+use Rattle.std.proofs.lemmas.List.{take-append-drop, take-append-le, length-take-le, take_all, take_at, drop-take, drop-append-le, drop-drop}
 use Rattle.std.proofs.lemmas.List.Edits.{take-paste}
 use Rattle.std.proofs.Math.Seq.{take-append-add}
 use Rattle.std.specs.List.{copy_within}
@@ -18,7 +18,7 @@ moved xs i j le lt =
     let i_n : i + (j - i) ≡ j = omega arith in
     let room : j - i ≤ length (drop i xs) = omega (arith, length-drop i xs) in
     ap (λ k. take k (copy_within xs i j 0)) (sym zero_n) ∙ take-paste xs 0 (drop i xs) (j - i) (omega arith) room
-      ∙ sym (ap (λ k. drop i (take k xs)) (sym i_n) ∙ drop-take i (j - i) xs)
+    ∙ sym (ap (λ k. drop i (take k xs)) (sym i_n) ∙ drop-take i (j - i) xs)
 
 -- the bytes between two places of a room
 pub between : (xs : List ℕ) (i j : ℕ) → i ≤ j → take (j - i) (drop i xs) ≡ drop i (take j xs)
@@ -60,7 +60,7 @@ fetched old new (Ok n) room bytes post text e le lt f told =
     record {
       left_is = r.left;
       held =
-        ap (λ k. take (k + n) (take e room ++ (bytes ++ post))) (sym len) ∙ take-append-add (take e room) (bytes ++ post) n
+          ap (λ k. take (k + n) (take e room ++ (bytes ++ post))) (sym len) ∙ take-append-add (take e room) (bytes ++ post) n
           ∙ ap (λ t. take e room ++ t) (take-append-le n bytes post lt ∙ r.read);
       ends = r.ends;
     }
@@ -77,12 +77,12 @@ moves_by a text b left n r = record {
 pub finds_behind : (bytes : List ℕ) (k n : ℕ) → k ≤ length bytes → has_newline (take k bytes) ≡ false → FindsNewline (Some n) (drop k bytes) → FindsNewline (Some (k + n)) bytes
 finds_behind bytes k n le quiet f = record {
   before =
-    let parts : take (k + n) bytes ≡ take k bytes ++ take n (drop k bytes) =
+      let parts : take (k + n) bytes ≡ take k bytes ++ take n (drop k bytes) =
       ap (take (k + n)) (sym (take-append-drop k bytes)) ∙ ap (λ j. take (j + n) (take k bytes ++ drop k bytes)) (sym (length-take-le k bytes le)) ∙ take-append-add (take k bytes) (drop k bytes) n in
-    ap has_newline parts ∙ has_newline-append (take k bytes) (take n (drop k bytes)) quiet ∙ f.before;
+      ap has_newline parts ∙ has_newline-append (take k bytes) (take n (drop k bytes)) quiet ∙ f.before;
   here =
-    let next : k + (n + 1) ≡ k + n + 1 = omega arith in
-    sym (drop-drop n k bytes) ∙ f.here ∙ ap (λ t. 10 ∷ t) (drop-drop (n + 1) k bytes ∙ ap (λ j. drop j bytes) next);
+      let next : k + (n + 1) ≡ k + n + 1 = omega arith in
+      sym (drop-drop n k bytes) ∙ f.here ∙ ap (λ t. 10 ∷ t) (drop-drop (n + 1) k bytes ∙ ap (λ j. drop j bytes) next);
   within = omega (arith, length-drop k bytes, f.within);
 }
 
@@ -137,7 +137,7 @@ grown : (bytes : List ℕ) (s e n : ℕ) → s ≤ e → e ≤ length bytes → 
 grown bytes s e n order within =
     let len : length (take e bytes) ≡ e = length-take-le e bytes within in
     let parts : take (e + n) bytes ≡ take e bytes ++ take n (drop e bytes) =
-      ap (take (e + n)) (sym (take-append-drop e bytes)) ∙ ap (λ k. take (k + n) (take e bytes ++ drop e bytes)) (sym len) ∙ take-append-add (take e bytes) (drop e bytes) n in
+    ap (take (e + n)) (sym (take-append-drop e bytes)) ∙ ap (λ k. take (k + n) (take e bytes ++ drop e bytes)) (sym len) ∙ take-append-add (take e bytes) (drop e bytes) n in
     ap (drop s) parts ∙ drop-append-le s (take e bytes) (take n (drop e bytes)) (omega (arith, len))
 
 -- the buffer once its bytes were moved and more were read behind them
@@ -149,9 +149,9 @@ read_buffer room moved b start end scanned s e n is same order len full front fi
   within = omega arith;
   looked_at = omega (arith, is.looked_at);
   quiet =
-    let long : length (drop s (take e b)) ≡ e - s = held_len b s e order (omega arith) in
-    let shorter : scanned ≤ length (drop s (take e b)) = omega (arith, is.looked_at) in
-    ap (λ t. has_newline (take scanned t)) (grown b s e n order (omega arith))
+      let long : length (drop s (take e b)) ≡ e - s = held_len b s e order (omega arith) in
+      let shorter : scanned ≤ length (drop s (take e b)) = omega (arith, is.looked_at) in
+      ap (λ t. has_newline (take scanned t)) (grown b s e n order (omega arith))
       ∙ ap has_newline (take-append-le scanned (drop s (take e b)) (take n (drop e b)) shorter)
       ∙ ap (λ t. has_newline (take scanned (drop s t))) front
       ∙ ap (λ t. has_newline (take scanned t)) same ∙ is.quiet;
@@ -163,11 +163,15 @@ pub read_held : (moved b held text : List ℕ) (left : Option (List ℕ)) (s e n
 read_held moved b held text left s e n is order within r = record {
   left_is = r.left_is;
   held =
-    let len : length (take e moved) ≡ e = length-take-le e moved within in
-    ap (drop s) r.held ∙ drop-append-le s (take e moved) (take n text) (omega (arith, len)) ∙ ap (λ t. t ++ take n text) is;
+      let len : length (take e moved) ≡ e = length-take-le e moved within in
+      ap (drop s) r.held ∙ drop-append-le s (take e moved) (take n text) (omega (arith, len)) ∙ ap (λ t. t ++ take n text) is;
   ends = r.ends;
 }
 
 -- a Vec's items after a write of all of them
 pub all_written : (xs ys : List ℕ) (n : ℕ) → length xs ≡ n → take n (xs ++ ys) ≡ xs
 all_written xs ys n len = take_at xs ys n len
+
+-- and what a reference to them all sees
+pub sees_all : (xs ys now : List ℕ) (n : ℕ) → now ≡ take n (xs ++ ys) → length xs ≡ n → now ≡ xs
+sees_all xs ys now n is len = is ∙ take_at xs ys n len

@@ -1,5 +1,5 @@
 -- One put after another.
-use Rattle.std.proofs.Common.{◌≡◌, ◌+◌, ℕ, List, [], ◌++◌, take, drop, refl, ap, sym, ◌∙◌, append_assoc, Some}
+use Rattle.std.proofs.Common.{◌≡◌, ◌+◌, ℕ, List, [], ◌++◌, take, drop, ap, sym, ◌∙◌, append_assoc, Some}
 use Rattle.std.proofs.lemmas.List.{append-nil}
 use Rattle.std.proofs.Math.Seq.{take-add}
 use Rattle.std.specs.Prelude.{Option}
@@ -14,4 +14,4 @@ pub put_on : (held : Piece) (text slice : List ℕ) (i n : ℕ) (mid new : Optio
     ((h : Piece) → mid ≡ Some h → new ≡ Some (with_more (take n slice) [] h)) → Holds held (take (i + n) text) new
 put_on held text slice i n mid new has is puts =
     puts (with_more (take i text) [] held) has ∙ ap (λ t. Some (with_more (take n t) [] (with_more (take i text) [] held))) is
-      ∙ ap (λ h. Some h) (with_both held (take i text) (take n (drop i text)) ∙ ap (λ t. with_more t [] held) (sym (take-add i n text)))
+    ∙ ap (λ h. Some h) (with_both held (take i text) (take n (drop i text)) ∙ ap (λ t. with_more t [] held) (sym (take-add i n text)))

@@ -1,5 +1,5 @@
 -- What becomes of the unread text where a line is handed out, or is bad, or none comes.
-use Rattle.std.proofs.Common.{◌≡◌, ◌<◌, ◌≤◌, ◌⊎◌, inl, inr, ℕ, ◌+◌, ◌-◌, ◌^◌, zero, suc, List, [], ◌∷◌, ◌++◌, length, take, drop, refl, ap, sym, ◌∙◌, subst, append_assoc, arith, Some}
+use Rattle.std.proofs.Common.{◌≡◌, ◌<◌, inl, inr, ℕ, ◌+◌, ◌-◌, ◌^◌, zero, suc, List, [], ◌∷◌, ◌++◌, length, take, drop, refl, ap, sym, ◌∙◌, subst, append_assoc, arith, Some}
 use Rattle.std.proofs.lemmas.List.{append-nil, take-append-drop}
 use Rattle.std.specs.Prelude.{min, Option, None, is_some}
 use Rattle.std.specs.Prelude.{true, false, slice_get}
@@ -41,13 +41,13 @@ first_pieces : (held text mid rest slice : List ℕ) (found : Option ℕ) → Fi
     pieces_of (held ++ text) ≡ piece_before (line_bytes slice) (pieces_of (drop (line_skip found mid) mid ++ rest))
 first_pieces held text mid rest slice found f is =
     ap pieces_of f.same ∙ pieces_of-first found mid rest f.place f.ends
-      ∙ ap (λ t. piece_before (line_bytes t) (pieces_of (drop (line_skip found mid) mid ++ rest))) (sym is)
+    ∙ ap (λ t. piece_before (line_bytes t) (pieces_of (drop (line_skip found mid) mid ++ rest))) (sym is)
 
 first_bad : (held text mid rest slice : List ℕ) (found : Option ℕ) → FindsFirst held text mid rest found → slice ≡ take (line_len found mid) mid →
     bad_line_of (held ++ text) ≡ bad_line_before slice (bad_line_of (drop (line_skip found mid) mid ++ rest))
 first_bad held text mid rest slice found f is =
     ap bad_line_of f.same ∙ bad_line_of-first found mid rest f.place f.ends
-      ∙ ap (λ t. bad_line_before t (bad_line_of (drop (line_skip found mid) mid ++ rest))) (sym is)
+    ∙ ap (λ t. bad_line_before t (bad_line_of (drop (line_skip found mid) mid ++ rest))) (sym is)
 
 spelled_before : (l bytes : List ℕ) (others : Option ℕ) → line_bytes l ≡ Some bytes → bad_line_before l others ≡ option_map (λ n. n + 1) others
 spelled_before [] bytes others is = cc
@@ -75,15 +75,15 @@ handed_out held text mid rest slice new bytes left found line now f is spells go
       rest = rest;
       left_is = left_is;
       same =
-        f.same ∙ ap (λ t. t ++ rest) (sym (take-append-drop skip mid)) ∙ append_assoc (take skip mid) (drop skip mid) rest
+          f.same ∙ ap (λ t. t ++ rest) (sym (take-append-drop skip mid)) ∙ append_assoc (take skip mid) (drop skip mid) rest
           ∙ ap (λ t. take skip mid ++ (t ++ rest)) (sym gone) ∙ ap (λ t. t ++ (new ++ rest)) (sym (append-nil (take skip mid)));
       one_each = refl;
       handed =
-        first_pieces held text mid rest slice found f is ∙ ap (λ o. piece_before o (pieces_of (drop skip mid ++ rest))) spells
+          first_pieces held text mid rest slice found f is ∙ ap (λ o. piece_before o (pieces_of (drop skip mid ++ rest))) spells
           ∙ ap (λ t. record { bytes = bytes; handles = [] } ∷ pieces_of (t ++ rest)) (sym gone);
       grown = omega (arith, next);
       bad =
-        ap (number_from line) (first_bad held text mid rest slice found f is ∙ spelled_before slice bytes (bad_line_of (drop skip mid ++ rest)) spells)
+          ap (number_from line) (first_bad held text mid rest slice found f is ∙ spelled_before slice bytes (bad_line_of (drop skip mid ++ rest)) spells)
           ∙ number_next line now (bad_line_of (drop skip mid ++ rest)) next ∙ ap (λ t. number_from now (bad_line_of (t ++ rest))) (sym gone);
     }
 
@@ -105,7 +105,7 @@ pub bad_number : (held text mid rest slice : List ℕ) (found : Option ℕ) (lin
     number_from line (bad_line_of (held ++ text)) ≡ Some now
 bad_number held text mid rest slice found line now f is spells some next =
     ap (number_from line) (first_bad held text mid rest slice found f is ∙ bad_before slice (bad_line_of (drop (line_skip found mid) mid ++ rest)) spells some)
-      ∙ ap (λ n. Some n) (sym next)
+    ∙ ap (λ n. Some n) (sym next)
 
 -- nothing stands before the first newline, or nothing is held
 at_end : (found : Option ℕ) (mid rest : List ℕ) → FindsNewline found mid → (found ≡ None → length mid < 131073 → rest ≡ []) → line_len found mid ≡ 0 → IsAtEnd (mid ++ rest)

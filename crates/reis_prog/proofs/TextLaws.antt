@@ -1,8 +1,7 @@
 -- The first line of a text, and what the others spell.
-use Rattle.std.proofs.Common.{◌≡◌, ◌<◌, ◌≤◌, ◌⊎◌, inl, inr, ℕ, ◌+◌, zero, suc, List, [], ◌∷◌, ◌++◌, length, get_or, take, drop, refl, ap, sym, ◌∙◌, append_assoc, length-append, arith, Some}
+use Rattle.std.proofs.Common.{◌≡◌, ◌<◌, ◌≤◌, ◌⊎◌, inl, inr, ℕ, ◌+◌, List, [], ◌∷◌, ◌++◌, length, get_or, take, drop, refl, ap, sym, ◌∙◌, append_assoc, length-append, arith, Some}
 use Rattle.std.proofs.lemmas.List.{append-nil, take-append-drop, take_all, take_more, drop_all}
 use Rattle.std.specs.Prelude.{Bool, true, false, ◌==◌, ◌||◌, nat_lt, if◌then◌else◌, Option, None}
-use Rattle.ei_spec.specs.Piece.{Piece}
 use Rattle.reis_prog.specs.Text.{has_newline, onto, split, line_bytes, piece_before, pieces_of_lines, pieces_of, bad_line_before, bad_line_of_lines, bad_line_of}
 use Rattle.reis_prog.specs.Held.{FindsNewline, line_len, line_skip}
 
@@ -50,9 +49,9 @@ split_line (Some m) n held rest is f =
     let a = take m held in
     let b = drop (m + 1) held in
     let whole : held ++ rest ≡ a ++ (10 ∷ (b ++ rest)) =
-      ap (λ t. t ++ rest) (sym (take-append-drop m held) ∙ ap (λ t. a ++ t) f.here) ∙ append_assoc a (10 ∷ b) rest in
+    ap (λ t. t ++ rest) (sym (take-append-drop m held) ∙ ap (λ t. a ++ t) f.here) ∙ append_assoc a (10 ∷ b) rest in
     let lines : split (held ++ rest) ≡ a ∷ split (b ++ rest) =
-      ap split whole ∙ split_quiet a (10 ∷ (b ++ rest)) f.before ∙ ap (λ t. t ∷ split (b ++ rest)) (append-nil a) in
+    ap split whole ∙ split_quiet a (10 ∷ (b ++ rest)) f.before ∙ ap (λ t. t ∷ split (b ++ rest)) (append-nil a) in
     lines ∙ ap (λ k. take k held ∷ split (drop (k + 1) held ++ rest)) same
 
 -- a line that is too long spells nothing
@@ -88,12 +87,12 @@ pieces_of-first None held rest f ends =
     let all : take (length held) held ≡ held = take_all (length held) held (omega arith) in
     let gone : drop (length held) held ≡ [] = drop_all (length held) held (omega arith) in
     rw (all, gone) (elim (full_or (length held)) [
-      inl full ↦
-        let long : 131072 < length held = omega arith in
-        ap pieces_of_lines (split_quiet held rest f) ∙ none_onto held (split rest) long ∙ rw (too_long held long) refl
-    | inr less ↦
-        let none : rest ≡ [] = ends refl less in
-        rw none (ap pieces_of_lines (split_quiet held [] f) ∙ ap (λ t. piece_before (line_bytes t) []) (append-nil held))
+      | inl full ↦
+          let long : 131072 < length held = omega arith in
+          ap pieces_of_lines (split_quiet held rest f) ∙ none_onto held (split rest) long ∙ rw (too_long held long) refl
+      | inr less ↦
+          let none : rest ≡ [] = ends refl less in
+          rw none (ap pieces_of_lines (split_quiet held [] f) ∙ ap (λ t. piece_before (line_bytes t) []) (append-nil held))
     ])
 
 -- the number of the first bad line: the first line's, or one more than among the others
@@ -106,10 +105,10 @@ bad_line_of-first None held rest f ends =
     let all : take (length held) held ≡ held = take_all (length held) held (omega arith) in
     let gone : drop (length held) held ≡ [] = drop_all (length held) held (omega arith) in
     rw (all, gone) (elim (full_or (length held)) [
-      inl full ↦
-        let long : 131072 < length held = omega arith in
-        ap bad_line_of_lines (split_quiet held rest f) ∙ bad_onto held (split rest) long ∙ sym (too_long_is_bad held _ long)
-    | inr less ↦
-        let none : rest ≡ [] = ends refl less in
-        rw none (ap bad_line_of_lines (split_quiet held [] f) ∙ ap (λ t. bad_line_before t None) (append-nil held))
+      | inl full ↦
+          let long : 131072 < length held = omega arith in
+          ap bad_line_of_lines (split_quiet held rest f) ∙ bad_onto held (split rest) long ∙ sym (too_long_is_bad held _ long)
+      | inr less ↦
+          let none : rest ≡ [] = ends refl less in
+          rw none (ap bad_line_of_lines (split_quiet held [] f) ∙ ap (λ t. bad_line_before t None) (append-nil held))
     ])

@@ -1,6 +1,6 @@
 -- What `parse` gives of a plain decimal.
 use Rattle.std.proofs.Common.{◌≡◌, ◌<◌, ◌≤◌, ◌^◌, ◌⊎◌, inl, inr, ℕ, List, [], ◌∷◌, length, refl, ap, sym, ◌∙◌, arith, rules, Ok, Err, Some, None}
-use Rattle.std.specs.Prelude.{Bool, true, false, ◌&&◌, not, ◌==◌, nat_le, if◌then◌else◌, Option, Result}
+use Rattle.std.specs.Prelude.{Bool, true, false, ◌&&◌, not, ◌==◌, nat_le, Result}
 use Rattle.std.specs.Char.{is_ascii_digit}
 use Rattle.std.specs.List.{list_all}
 use Rattle.std.specs.Str.{all_ascii_digits}
@@ -51,5 +51,5 @@ pub parsed_none : {E : Type 0} (bs : List ℕ) (limit : ℕ) (r : Result ℕ E) 
 parsed_none bs limit r e h is plain fits =
     let p = rw is at (parse_digits own 32 bs r h (digits_of_plain bs plain)) in
     let over : limit < decimal_of bs =
-      elim (below_or (decimal_of bs) (2 ^ 32)) [ inl below ↦ absurd (p (length_of_plain bs plain, below)) | inr above ↦ omega arith ] in
+    elim (below_or (decimal_of bs) (2 ^ 32)) [ inl below ↦ absurd (p (length_of_plain bs plain, below)) | inr above ↦ omega arith ] in
     sym (over_limit bs limit plain over)

@@ -1,5 +1,5 @@
 -- The bytes of a text that were read and not yet handed out.
-use Rattle.std.specs.Prelude.{◌≡◌, ◌<◌, ◌≤◌, ◌+◌, ◌-◌, ℕ, List, [], ◌∷◌, ◌++◌, length, take, drop, true, false, Option, Some, None}
+use Rattle.std.specs.Prelude.{◌≡◌, ◌<◌, ◌≤◌, ◌+◌, ◌-◌, ℕ, List, [], ◌∷◌, ◌++◌, length, take, drop, false, Option, Some, None}
 use Rattle.reis_prog.specs.Text.{has_newline}
 
 -- the bytes held lie from the start to the end in the room, and no newline stands in those scanned

@@ -148,11 +148,11 @@ number_on : {I : Type 0} (text : I → Option (List ℕ)) (later : I → I → T
 number_on text later x y z a b none n is t told =
     let p = a.lines t told in
     elim (some_or_none y.bad) [
-      inl unmet ↦ p.bad ∙ b.number unmet n is p.rest p.left_is
-    | inr met ↦
-        let here = a.number none met.0 met.1 t told in
-        let still : z.bad ≡ Some met.0 = b.kept met.0 met.1 in
-        here ∙ sym still ∙ is
+      | inl unmet ↦ p.bad ∙ b.number unmet n is p.rest p.left_is
+      | inr met ↦
+          let here = a.number none met.0 met.1 t told in
+          let still : z.bad ≡ Some met.0 = b.kept met.0 met.1 in
+          here ∙ sym still ∙ is
     ]
 
 LaterReading-trans : {I : Type 0} (text : I → Option (List ℕ)) (later : I → I → Type 0) → ((x y z : I) → later x y → later y z → later x z) →
@@ -163,9 +163,9 @@ LaterReading-trans text later r x y z a b = record {
   unmet = λ none. let k = b.unmet none in let h = a.unmet k.0 in (h.0, h.1 ∙ k.1);
   number = number_on text later x y z a b;
   lines = λ t told.
-    let p = a.lines t told in
-    let q = b.lines p.rest p.left_is in
-    LaterText-trans x.held t y.held p.rest z.held (text y.input) (text z.input) x.line y.line z.line p refl q;
+      let p = a.lines t told in
+      let q = b.lines p.rest p.left_is in
+      LaterText-trans x.held t y.held p.rest z.held (text y.input) (text z.input) x.line y.line z.line p refl q;
 }
 
 pub LaterSource-trans : {I : Type 0} (text : I → Option (List ℕ)) (later : I → I → Type 0) → ((x y z : I) → later x y → later y z → later x z) →

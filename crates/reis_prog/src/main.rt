@@ -8,10 +8,9 @@ mod held;
 mod hex_source;
 mod report;
 mod std_io;
-mod words;
-
 #[cfg(test)]
 mod tests;
+mod words;
 
 use std::io;
 

@@ -23,7 +23,11 @@ pub(crate) fn push_line(out: &mut Vec<u8>, line: &str) -> Result<(), NoMemory>
 }
 
 /// Puts the line of the reply bytes behind the report. Where there is no memory the report stays.
-pub(crate) fn push_reply_line(alloc: Global, out: &mut Vec<u8>, reply: &[u8]) -> Result<(), NoMemory>
+pub(crate) fn push_reply_line(
+    alloc: Global,
+    out: &mut Vec<u8>,
+    reply: &[u8],
+) -> Result<(), NoMemory>
     ensures ok { OnOk result (out.new.items ≡ out.old.items ++ reply_line reply.now) }
     ensures err { OnErr result (out.new.items ≡ out.old.items) }
 {

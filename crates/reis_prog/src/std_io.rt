@@ -37,7 +37,6 @@ impl<R: Read + Drop> StdInput<R> {
 }
 
 impl<R: Read + Drop> Input for StdInput<R> {
-
     ghost text = { λ _. None };
 
     ghost faults = { λ s. s.faults };
@@ -82,7 +81,6 @@ impl<W: Write + Drop> StdOutput<W> {
 }
 
 impl<W: Write + Drop> Sink for StdOutput<W> {
-
     ghost taken = { λ _. None };
 
     ghost faults = { λ s. s.faults };
@@ -148,7 +146,6 @@ impl<'a, C: TimeSource> StdClock<'a, C> {
 }
 
 impl<C: TimeSource> Clock for StdClock<'_, C> {
-
     ghost readings = { λ _. None };
 
     ghost faults = { λ s. s.faults };

@@ -11,9 +11,11 @@ use ei_backend::{Clock, Fault, Input, MemoryText, PutError, Sink, Source, Tray};
 use ei_spec::Handle;
 use ei_wire::{EiText, NoMemory};
 use std::alloc::Global;
+use std::cell::Cell;
 use std::io;
+use std::io::{Read, Write};
 use std::test::Fail;
-use std::time::Duration;
+use std::time::{self, Duration};
 
 /// A text that comes in cuts of one size.
 #[derive(Drop)]
@@ -66,7 +68,11 @@ fn one_take<S: Source>(alloc: Global, source: &mut S, said: &mut String) -> Resu
 }
 
 /// So many takes, and the bad line.
-fn takes<I: Input>(alloc: Global, input: &mut I, count: u32) -> Result<(String, Option<u64>), NoMemory> {
+fn takes<I: Input>(
+    alloc: Global,
+    input: &mut I,
+    count: u32,
+) -> Result<(String, Option<u64>), NoMemory> {
     let mut source = HexSource::new(alloc, input)?;
     let mut said = String::new(alloc);
     for _ in 0..count {
@@ -133,7 +139,10 @@ fn takes_the_words_of_serve_alone(rt: HostRuntime) -> Result<(), Fail> {
     let alloc = rt.alloc();
     for (line, command) in [
         ("serve 5 32 200", Some(Command::Serve(5, 32, 200))),
-        ("serve 0 127 4294967295", Some(Command::Serve(0, 127, 4294967295))),
+        (
+            "serve 0 127 4294967295",
+            Some(Command::Serve(0, 127, 4294967295)),
+        ),
         ("serve 5 128 200", None),
         ("serve 4294967296 32 200", None),
         ("serve 05 32 200", None),
@@ -161,5 +170,82 @@ fn writes_a_report(rt: HostRuntime) -> Result<(), Fail> {
     let mut tray = Tray::new(alloc);
     write_all(&mut tray, &report)?;
     assert_eq!(rt; tray.bytes(), b"reply 00abff\nend eof\n".as_slice());
+    Ok(())
+}
+
+/// A stream that fails, and then moves nothing.
+#[derive(Drop)]
+struct Broken {
+    failed: bool,
+}
+
+impl Read for Broken {
+    fn read(&mut self, _buf: &mut [u8]) -> io::Result<usize> {
+        if self.failed {
+            return Ok(0);
+        }
+        self.failed = true;
+        Err(io::Error::from(io::ErrorKind::BrokenPipe))
+    }
+}
+
+impl Write for Broken {
+    fn write(&mut self, _buf: &[u8]) -> io::Result<usize> {
+        self.read(&mut [])
+    }
+
+    fn flush(&mut self) -> io::Result<()> {
+        Ok(())
+    }
+}
+
+/// A clock that is read from here.
+#[derive(Drop)]
+struct Ticks {
+    now: Cell<Option<u64>>,
+}
+
+impl time::Clock for Ticks {
+    fn monotonic(&self) -> io::Result<Duration> {
+        match self.now.get() {
+            Some(micros) => Ok(Duration::from_micros(micros)),
+            None => Err(io::Error::from(io::ErrorKind::Unsupported)),
+        }
+    }
+
+    fn since_1970(&self) -> io::Result<Duration> {
+        self.monotonic()
+    }
+}
+
+#[test]
+fn passes_on_the_standard_streams(rt: HostRuntime) -> Result<(), Fail> {
+    let mut room = [0; 8];
+    let mut input = StdInput::new(b"abc".as_slice());
+    assert_eq!(rt; input.fetch(&mut room), Ok(3));
+    assert_eq!(rt; &room[..3], b"abc".as_slice());
+    assert_eq!(rt; input.fetch(&mut room), Ok(0));
+    let mut input = StdInput::new(Broken { failed: false });
+    assert_eq!(rt; input.fetch(&mut room), Err(Fault));
+    assert_eq!(rt; input.fetch(&mut room), Ok(0));
+
+    let mut output = StdOutput::new(Vec::new(rt.alloc()));
+    assert_eq!(rt; output.put(b"abc", &[]), Ok(3));
+    let mut output = StdOutput::new(Broken { failed: false });
+    assert_eq!(rt; output.put(b"abc", &[]), Err(PutError::Fault));
+    assert_eq!(rt; output.put(b"abc", &[]), Err(PutError::Fault));
+    Ok(())
+}
+
+#[test]
+fn counts_microseconds_from_the_start(rt: HostRuntime) -> Result<(), Fail> {
+    let ticks = Ticks {
+        now: Cell::new(Some(1000)),
+    };
+    let mut clock = StdClock::new(&ticks);
+    for (now, reading) in [(None, 0), (Some(1007), 7), (None, 7), (Some(1500), 500)] {
+        ticks.now.set(now);
+        assert_eq!(rt; clock.now(), reading, "at {now:?}");
+    }
     Ok(())
 }

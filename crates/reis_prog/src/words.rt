@@ -8,7 +8,8 @@ ghost use Rattle.reis_prog.specs.Words.{is_plain, number_of};
 use ei_wire::EiText;
 
 /// What is written where the words are refused.
-pub(crate) const USAGE: &str = "usage: reis serve <serial> <capabilities> <pieces> | trace <serial> <capabilities> <pieces> | demo <groups> <start>\n";
+pub(crate) const USAGE: &str =
+    "usage: reis serve <serial> <capabilities> <pieces> | trace <serial> <capabilities> <pieces> | demo <groups> <start>\n";
 
 /// The largest set of capabilities: seven bits.
 const CAPABILITIES: u32 = 127;
@@ -45,13 +46,7 @@ fn number(text: &str, limit: u32) -> Option<u32>
         return None;
     }
     match text.parse::<u32>() {
-        Ok(n) => {
-            if n <= limit {
-                Some(n)
-            } else {
-                None
-            }
-        }
+        Ok(n) => { if n <= limit { Some(n) } else { None } }
         Err(_) => None,
     }
 }

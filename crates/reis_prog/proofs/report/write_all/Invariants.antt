@@ -1,4 +1,4 @@
-use Rattle.std.proofs.Common.{◌≡◌, ◌≤◌, ◌-◌, [], Some, length, take}
+use Rattle.std.proofs.Common.{◌≡◌, ◌≤◌, ◌-◌, Some, length, take}
 use Rattle.ei_backend.specs.Outside.{Piece}
 use Rattle.reis_prog.specs.Report.{Holds}
 use Rattle.reis_prog.proofs.report.write_all.Given as goal

@@ -1,4 +1,4 @@
-use Rattle.std.proofs.Common.{◌≡◌, sym, ap, ◌∙◌, arith, true}
+use Rattle.std.proofs.Common.{◌≡◌, sym, ap, ◌∙◌, true}
 use Rattle.reis_prog.specs.Words.{is_plain}
 use Rattle.reis_prog.proofs.WordLaws.{parsed, parsed_over, parsed_none}
 use Rattle.reis_prog.proofs.words.number.Goals as goal

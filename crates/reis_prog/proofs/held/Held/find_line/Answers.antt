@@ -1,4 +1,4 @@
-use Rattle.std.proofs.Common.{◌≡◌, arith, sym, ◌∙◌, false}
+use Rattle.std.proofs.Common.{◌≡◌, arith, false}
 use Rattle.std.specs.Prelude.{is_some}
 use Rattle.reis_prog.specs.Text.{has_newline}
 use Rattle.reis_prog.proofs.HeldLaws.{moves_on, moves_by, moves_kept, nothing_left, none_found, not_whole}
