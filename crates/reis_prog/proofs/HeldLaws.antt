@@ -175,3 +175,7 @@ all_written xs ys n len = take_at xs ys n len
 -- and what a reference to them all sees
 pub sees_all : (xs ys now : List ℕ) (n : ℕ) → now ≡ take n (xs ++ ys) → length xs ≡ n → now ≡ xs
 sees_all xs ys now n is len = is ∙ take_at xs ys n len
+
+-- the bytes held, behind a move of what the reference saw
+pub moved_from : (moved slice room : List ℕ) (s e start end : ℕ) → drop s (take e moved) ≡ drop start (take end slice) → slice ≡ room → drop s (take e moved) ≡ drop start (take end room)
+moved_from moved slice room s e start end same is = same ∙ ap (λ t. drop start (take end t)) is

@@ -24,7 +24,7 @@ none_if_not_some (Some x) e = cc
 pub not_both : (o : Option ℕ) (n : ℕ) → o ≡ None → o ≡ Some n → ⊥
 not_both o n none some = cc
 
-pub rest_is : (left : Option (List ℕ)) (rest : List ℕ) → left ≡ Some rest → left ≡ Some [] → rest ≡ []
+rest_is : (left : Option (List ℕ)) (rest : List ℕ) → left ≡ Some rest → left ≡ Some [] → rest ≡ []
 rest_is left rest is none = cc
 
 mapped : (f : List ℕ → List Piece) (o : Option (List ℕ)) (ps : List Piece) → option_map f o ≡ Some ps → (t : List ℕ) × (o ≡ Some t) × (f t ≡ ps)
@@ -36,6 +36,23 @@ pub record FindsFirst (held text mid rest : List ℕ) (found : Option ℕ) : Typ
   pub same : held ++ text ≡ mid ++ rest
   pub place : FindsNewline found mid
   pub ends : found ≡ None → length mid < 131073 → rest ≡ []
+
+pub first_of : (held text mid : List ℕ) (left : Option (List ℕ)) (found : Option ℕ) (m : Moves held text mid left) → FindsNewline found mid →
+    (found ≡ None → length mid < 131073 → left ≡ Some []) → FindsFirst held text mid m.rest found
+first_of held text mid left found m place ends =
+    record { same = m.same; place = place; ends = λ is less. rest_is left m.rest m.left_is (ends is less) }
+
+-- the line, as a slice of what is seen of the bytes held
+pub line_is : (found : Option ℕ) (seen held : List ℕ) (count : ℕ) → count ≡ line_len found seen → seen ≡ held → take count seen ≡ take (line_len found held) held
+line_is found seen held count is same = ap (λ n. take n seen) is ∙ ap (λ t. take (line_len found t) t) same
+
+-- what is held once the line was removed
+pub removed_is : (found : Option ℕ) (seen held new : List ℕ) (skip : ℕ) → skip ≡ line_skip found seen → seen ≡ held → new ≡ drop skip held → new ≡ drop (line_skip found held) held
+removed_is found seen held new skip is same gone = gone ∙ ap (λ n. drop n held) (is ∙ ap (line_skip found) same)
+
+-- no byte stands in the line
+pub no_line : (found : Option ℕ) (seen held : List ℕ) (count : ℕ) → count ≡ line_len found seen → seen ≡ held → count ≡ 0 → line_len found held ≡ 0
+no_line found seen held count is same none = ap (line_len found) (sym same) ∙ sym is ∙ none
 
 first_pieces : (held text mid rest slice : List ℕ) (found : Option ℕ) → FindsFirst held text mid rest found → slice ≡ take (line_len found mid) mid →
     pieces_of (held ++ text) ≡ piece_before (line_bytes slice) (pieces_of (drop (line_skip found mid) mid ++ rest))
