@@ -11,10 +11,10 @@ invariant_of-self-2 g c =
     let full : length c.fetch_behind.new.room ≡ room.len = omega arith in
     let slice : c.deref_mut-2.result.now ≡ moved = sees_all moved _ _ room.len c.deref_mut-2.ensures.value moved_full in
     rw (all_written c.fetch_behind.new.room _ _ full)
-      (read_buffer room.items moved c.fetch_behind.new.room _ _ _ _ e _ c.self.invariant
-        (moved_from moved c.deref_mut.result.now room.items _ e _ _ c.moved_to_front-start.ensures.same c.deref_mut.ensures.value)
-        c.moved_to_front-start.ensures.kept_order c.moved_to_front-start.ensures.kept_len (omega (arith, room.ok.0, c.self.invariant.room))
-        (c.fetch_behind.ensures.front ∙ ap (take e) slice) c.in_ok-count.ensures.fits)
+    (read_buffer room.items moved c.fetch_behind.new.room _ _ _ _ e _ c.self.invariant
+    (moved_from moved c.deref_mut.result.now room.items _ e _ _ c.moved_to_front-start.ensures.same c.deref_mut.ensures.value)
+    c.moved_to_front-start.ensures.kept_order c.moved_to_front-start.ensures.kept_len (omega (arith, room.ok.0, c.self.invariant.room))
+    (c.fetch_behind.ensures.front ∙ ap (take e) slice) c.in_ok-count.ensures.fits)
 
 pub returns-clause-text : goal.returns-clause-text
 returns-clause-text g c = λ text told.
@@ -25,7 +25,7 @@ returns-clause-text g c = λ text told.
     let full : length c.fetch_behind.new.room ≡ room.len = omega arith in
     let slice : c.deref_mut-2.result.now ≡ moved = sees_all moved _ _ room.len c.deref_mut-2.ensures.value moved_full in
     rw (all_written c.fetch_behind.new.room _ _ full)
-      (read_held moved c.fetch_behind.new.room c.args.self.now text _ _ e _
-        (moved_from moved c.deref_mut.result.now room.items _ e _ _ c.moved_to_front-start.ensures.same c.deref_mut.ensures.value ∙ c.self.view_is)
-        c.moved_to_front-start.ensures.kept_order (omega (arith, c.moved_to_front-start.ensures.room))
-        (rw slice at (c.in_ok-count.ensures.text text told)))
+    (read_held moved c.fetch_behind.new.room c.args.self.now text _ _ e _
+    (moved_from moved c.deref_mut.result.now room.items _ e _ _ c.moved_to_front-start.ensures.same c.deref_mut.ensures.value ∙ c.self.view_is)
+    c.moved_to_front-start.ensures.kept_order (omega (arith, c.moved_to_front-start.ensures.room))
+    (rw slice at (c.in_ok-count.ensures.text text told)))

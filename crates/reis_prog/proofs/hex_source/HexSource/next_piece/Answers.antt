@@ -47,8 +47,8 @@ returns-in-Some-clause-pieces g c = λ text told.
     let m = c.in_ok-found.ensures.text text told in
     let first = first_of _ text _ _ found m c.in_ok-found.ensures.place (λ is less. c.in_ok-found.ensures.ends (ap (λ o. Ok o) is) less text told) in
     hands_line _ text _ m.rest _ _ _ _ found _ first
-      (line_is found _ _ _ c.line_extent-count.ensures.count c.bytes-line.ensures) c.in-Some.ensures.spells
-      (removed_is found _ _ _ _ c.line_extent-count.ensures.skip c.bytes-line.ensures c.remove.ensures) m.left_is c.in-Some.ensures.size.0
+    (line_is found _ _ _ c.line_extent-count.ensures.count c.bytes-line.ensures) c.in-Some.ensures.spells
+    (removed_is found _ _ _ _ c.line_extent-count.ensures.skip c.bytes-line.ensures c.remove.ensures) m.left_is c.in-Some.ensures.size.0
 
 pub returns-in-Some-clause-later : goal.returns-in-Some-clause-later
 returns-in-Some-clause-later g c = record {
@@ -57,10 +57,10 @@ returns-in-Some-clause-later g c = record {
   unmet = λ none. (none, refl);
   number = λ none n is t told. absurd (not_both _ n none is);
   lines = λ text told.
-    let found = c.in_ok-found.found in
-    let m = c.in_ok-found.ensures.text text told in
-    let first = first_of _ text _ _ found m c.in_ok-found.ensures.place (λ is less. c.in_ok-found.ensures.ends (ap (λ o. Ok o) is) less text told) in
-    handed_out _ text _ m.rest _ _ _ _ found _ _ first
+      let found = c.in_ok-found.found in
+      let m = c.in_ok-found.ensures.text text told in
+      let first = first_of _ text _ _ found m c.in_ok-found.ensures.place (λ is less. c.in_ok-found.ensures.ends (ap (λ o. Ok o) is) less text told) in
+      handed_out _ text _ m.rest _ _ _ _ found _ _ first
       (line_is found _ _ _ c.line_extent-count.ensures.count c.bytes-line.ensures) c.in-Some.ensures.spells
       (removed_is found _ _ _ _ c.line_extent-count.ensures.skip c.bytes-line.ensures c.remove.ensures) m.left_is
       (omega (arith, c.saturating_add-self-in-Some.ensures));
@@ -74,10 +74,10 @@ returns-in-None-clause-later g c =
       kept = λ n is. absurd (not_both _ n unmet is);
       unmet = λ none. absurd (not_both _ _ none refl);
       number = λ none n is text told.
-        let found = c.in_ok-found.found in
-        let m = c.in_ok-found.ensures.text text told in
-        let first = first_of _ text _ _ found m c.in_ok-found.ensures.place (λ is less. c.in_ok-found.ensures.ends (ap (λ o. Ok o) is) less text told) in
-        bad_number _ text _ m.rest _ found _ _ first
+          let found = c.in_ok-found.found in
+          let m = c.in_ok-found.ensures.text text told in
+          let first = first_of _ text _ _ found m c.in_ok-found.ensures.place (λ is less. c.in_ok-found.ensures.ends (ap (λ o. Ok o) is) less text told) in
+          bad_number _ text _ m.rest _ found _ _ first
           (line_is found _ _ _ c.line_extent-count.ensures.count c.bytes-line.ensures) c.in-None.ensures.spells
           (omega (arith, c.line_extent-count.ensures.bound, c.if-count-eq0.false, length-take-le c.line_extent-count.result.0 c.bytes-line.result.now c.line_extent-count.ensures.bound))
           (omega (arith, c.saturating_add.ensures)) ∙ is;
