@@ -1,0 +1,19 @@
+use Rattle.std.proofs.Common.{◌≡◌, sym, ap, ◌∙◌, true}
+use Rattle.reis_prog.specs.Words.{is_plain}
+use Rattle.reis_prog.proofs.WordLaws.{parsed, parsed_over, parsed_none}
+use Rattle.reis_prog.proofs.words.number.Goals as goal
+
+pub returns-then-n-limit : goal.returns-then-n-limit
+returns-then-n-limit c =
+    let plain : is_plain c.args.text.now ≡ true = ap is_plain (sym c.as_bytes.ensures.value) ∙ sym c.is_plain.ensures ∙ c.if-not-is_plain.false in
+    parsed c.args.text.now _ _ c.parse.result c.parse.ensures.value.0 c.in-Ok.is plain c.if-n-limit.true
+
+pub returns-else-n-limit : goal.returns-else-n-limit
+returns-else-n-limit c =
+    let plain : is_plain c.args.text.now ≡ true = ap is_plain (sym c.as_bytes.ensures.value) ∙ sym c.is_plain.ensures ∙ c.if-not-is_plain.false in
+    parsed_over c.args.text.now _ _ c.parse.result c.parse.ensures.value.0 c.in-Ok.is plain c.if-n-limit.false
+
+pub returns-in-Err : goal.returns-in-Err
+returns-in-Err c =
+    let plain : is_plain c.args.text.now ≡ true = ap is_plain (sym c.as_bytes.ensures.value) ∙ sym c.is_plain.ensures ∙ c.if-not-is_plain.false in
+    parsed_none c.args.text.now _ c.parse.result _ c.parse.ensures.value.0 c.in-Err.is plain c.ranges.limit.fits

@@ -1,0 +1,6 @@
+pub mod Held
+pub mod HexSource
+pub mod Report
+pub mod StdIo
+pub mod Text
+pub mod Words

@@ -1,0 +1,189 @@
+//! Pieces as lines of hexadecimal digits.
+
+ghost use Rattle.std.specs.Prelude.{◌≡◌, ◌<◌, ◌≤◌, ◌+◌, ◌⊎◌, ℕ, List, [], None, Some, Ok, true, false, length, take, IfOk, IfSome, IsErr, IsSome, MatchOption, OnErr};
+ghost use Rattle.reis_prog.specs.Text.{line_bytes, has_newline};
+
+use crate::held::{Held, line_extent};
+use ei_backend::{Fault, Input, LastAnswer, Source, Taken};
+use ei_spec::Handle;
+use ei_wire::NoMemory;
+use std::alloc::Global;
+
+/// The longest line, without its newline.
+const LONGEST_LINE: usize = 131072;
+
+/// The pieces that the lines of an input spell.
+///
+/// A line has 2 to 131072 hexadecimal digits of either case, an even number, and ends at a newline or
+/// at the end of the text. An empty line ends the pieces. Any other line is bad: it counts as a fault
+/// at each call from then on.
+#[derive(Drop)]
+pub struct HexSource<'a, I: Input> {
+    input: &'a mut I,
+    held: Held,
+    /// How many lines were handed out.
+    line: u64,
+    bad: Option<u64>,
+    bad_faults: u64,
+    last: LastAnswer,
+}
+
+/// The bytes that a line spells, at the front of the slice.
+fn decode_line(line: &[u8], bytes: &mut [u8]) -> Option<usize>
+    requires some { 0 < length line.now }
+    requires room { 65536 ≤ length bytes.old }
+    ensures spells { MatchOption result (line_bytes line.now ≡ None) (λ n. line_bytes line.now ≡ Some (take n bytes.new)) }
+    ensures size { IfSome result (λ n. (0 < n) × (n ≤ 65536)) }
+{
+    if line.len() > LONGEST_LINE {
+        return None;
+    }
+    let count = line.len() / 2;
+    match hex::decode_to_slice(line, &mut bytes[..count]) {
+        Ok(()) => Some(count),
+        Err(_) => None,
+    }
+}
+
+impl<'a, I: Input> HexSource<'a, I> {
+    ghost use Rattle.ei_backend.specs.Outside.{HasCause};
+    ghost use Rattle.ei_backend.specs.declared.outside.LastAnswer.TheVariants as answers;
+    ghost use Rattle.reis_prog.specs.HexSource.{reference_of, reading_of, answer_of, fresh, faults_of, LaterReading, NextPiece, IsAtEnd};
+
+    /// `NoMemory` where there is none for the longest line.
+    pub fn new(alloc: Global, input: &'a mut I) -> Result<HexSource<'a, I>, NoMemory>
+        ensures same_reference { IfOk result (λ s. reference_of s ≡ input.entry.ghost_name) }
+        ensures fresh { IfOk result (λ s. reading_of s ≡ fresh input.old) }
+        ensures unasked { IfOk result (λ s. answer_of s ≡ answers.Nothing) }
+    {
+        let held = Held::new(alloc)?;
+        Ok(HexSource::over(held, input))
+    }
+
+    /// The same with the room made before, so that the input is not lent where there is no memory.
+    pub(crate) fn over(held: Held, input: &'a mut I) -> HexSource<'a, I>
+        requires { held ≡ [] }
+        ensures same_reference { reference_of result ≡ input.entry.ghost_name }
+        ensures fresh { reading_of result ≡ fresh input.old }
+        ensures unasked { answer_of result ≡ answers.Nothing }
+    {
+        HexSource {
+            input,
+            held,
+            line: 0,
+            bad: None,
+            bad_faults: 0,
+            last: LastAnswer::Nothing,
+        }
+    }
+
+    /// Gives the input back.
+    pub(crate) fn close(self) -> &'a mut I
+        ensures same_reference { result.ghost_name ≡ reference_of self.entry }
+        ensures same { result.now ≡ (reading_of self.entry).input }
+    {
+        self.input
+    }
+
+    /// The number, from 1, of the bad line that a `take` has met.
+    pub fn bad_line(&self) -> Option<u64>
+        ensures { result ≡ (reading_of self.now).bad }
+    {
+        self.bad
+    }
+
+    /// The next line's bytes. No byte is the end.
+    fn next_piece(&mut self, bytes: &mut [u8]) -> Result<usize, Fault>
+        requires { 65536 ≤ length bytes.old }
+        ensures size { IfOk result (λ n. n ≤ 65536) }
+        ensures pieces { (text : List ℕ) → I.text (reading_of self.old).input ≡ Some text →
+            NextPiece (reading_of self.old).held text result (reading_of self.new).held (I.text (reading_of self.new).input) bytes.new }
+        ensures end { result ≡ Ok 0 → IsAtEnd (reading_of self.new).held }
+        ensures fault { IsErr result → (has_newline (reading_of self.new).held ≡ false) ⊎ IsSome (reading_of self.new).bad }
+        ensures unasked { has_newline (reading_of self.old).held ≡ true → (reading_of self.new).input ≡ (reading_of self.old).input }
+        ensures refused { IsSome (reading_of self.old).bad → IsErr result × ((reading_of self.new).input ≡ (reading_of self.old).input) }
+        ensures cause { HasCause (faults_of I.faults (reading_of self.old)) (faults_of I.faults (reading_of self.new)) result }
+        ensures input_cause { (reading_of self.new).bad ≡ None → HasCause (I.faults (reading_of self.old).input) (I.faults (reading_of self.new).input) result }
+        ensures same_reference { reference_of self.new ≡ reference_of self.old }
+        ensures later { LaterReading I.text I.later (reading_of self.old) (reading_of self.new) }
+    {
+        if self.bad.is_some() {
+            self.bad_faults = self.bad_faults.saturating_add(1);
+            return Err(Fault);
+        }
+        let found = self.held.find_line(self.input)?;
+        let line = self.held.bytes();
+        let (count, skip) = line_extent(found, line);
+        if count == 0 {
+            return Ok(0);
+        }
+        match decode_line(&line[..count], bytes) {
+            Some(n) => {
+                self.held.remove(skip);
+                self.line = self.line.saturating_add(1);
+                Ok(n)
+            }
+            None => {
+                self.bad = Some(self.line.saturating_add(1));
+                self.bad_faults = self.bad_faults.saturating_add(1);
+                Err(Fault)
+            }
+        }
+    }
+}
+
+impl<'a, I: Input> Source for HexSource<'a, I> {
+    ghost use Rattle.std.specs.Prelude.{◌≡◌, ◌≤◌, ℕ, Some, None, length, IfOk, IsErr, true};
+    ghost use Rattle.ei_backend.specs.Outside.{Piece, HasCause, IsPieceSize, Takes, last_of};
+    ghost use Rattle.reis_prog.specs.Text.{has_newline};
+    ghost use Rattle.reis_prog.specs.HexSource.{reading_of, answer_of, left_of, faults_of, LaterSource, LaterSource-refl, LaterSource-trans};
+
+    ghost left = { λ s. left_of I.text (reading_of s) };
+
+    ghost faults = { λ s. faults_of I.faults (reading_of s) };
+
+    ghost last = { λ s. answer_of s };
+
+    ghost later = { λ x y. LaterSource I.text I.later x y };
+
+    ghost later_refl = { λ x. LaterSource-refl I.text I.later I.later_refl x };
+
+    ghost later_trans = { λ x y z a b. LaterSource-trans I.text I.later I.later_trans x y z a b };
+
+    fn take(&mut self, bytes: &mut [u8], _handles: &mut [Handle]) -> Result<Taken, Fault>
+        requires room { 65536 ≤ length bytes.old }
+        requires handle_room { 64 ≤ length _handles.old }
+        ensures size { IfOk result IsPieceSize }
+        ensures pieces { Takes (left_of I.text (reading_of self.old)) (left_of I.text (reading_of self.new)) result bytes.new _handles.new }
+        ensures cause { HasCause (faults_of I.faults (reading_of self.old)) (faults_of I.faults (reading_of self.new)) result }
+        ensures last { answer_of self.new ≡ last_of result }
+        ensures later { LaterSource I.text I.later self.old self.new }
+        // the input isn't asked while a whole line is held, nor behind a bad line
+        ensures unasked { has_newline (reading_of self.old).held ≡ true → (reading_of self.new).input ≡ (reading_of self.old).input }
+        ensures refused { (n : ℕ) → (reading_of self.old).bad ≡ Some n →
+            IsErr result × ((reading_of self.new).input ≡ (reading_of self.old).input) }
+        // where no bad line was met, a fault is the input's
+        ensures input_cause { (reading_of self.new).bad ≡ None → HasCause (I.faults (reading_of self.old).input) (I.faults (reading_of self.new).input) result }
+    {
+        match self.next_piece(bytes) {
+            Ok(0) => {
+                self.last = LastAnswer::End;
+                Ok(Taken {
+                    bytes: 0,
+                    handles: 0,
+                })
+            }
+            Ok(n) => {
+                self.last = LastAnswer::Piece;
+                Ok(Taken {
+                    bytes: n,
+                    handles: 0,
+                })
+            }
+            Err(e) => {
+                self.last = LastAnswer::Fault;
+                Err(e)
+            }
+        }
+    }
+}

@@ -1,0 +1,177 @@
+//! Standard input, standard output and the clock, as the outside of the program.
+//!
+//! They tell nothing of what they give and take. Each error of theirs counts as a fault.
+
+ghost use Rattle.std.specs.Prelude.{◌≡◌, ◌<◌, ◌≤◌, ◌-◌, ℕ, List, None, Some, IfOk, length};
+ghost use Rattle.std.specs.Time.{instant_nanos};
+ghost use Rattle.ei_backend.specs.Memory.{counted};
+ghost use Rattle.ei_backend.specs.Outside.{HasCause, HasPutCause, Fetches, Puts, IsPutSize, Reads};
+ghost use Rattle.reis_prog.specs.StdIo.{Counts, ReadsOrRepeats, whole_micros};
+
+use ei_backend::{Clock, Fault, Input, PutError, Sink};
+use ei_spec::Handle;
+use std::io::{Read, Write};
+use std::time::{Clock as TimeSource, Instant};
+
+/// One fault more, up to the last value of the count.
+fn count_fault(faults: &mut u64)
+    ensures counted { faults.new ≡ counted faults.old }
+    ensures later { faults.old ≤ faults.new }
+{
+    *faults = faults.saturating_add(1);
+}
+
+/// Standard input, of any reader.
+#[derive(Drop)]
+pub(crate) struct StdInput<R: Read + Drop> {
+    reader: R,
+    faults: u64,
+}
+
+impl<R: Read + Drop> StdInput<R> {
+    pub(crate) fn new(reader: R) -> Self
+        ensures { result.faults ≡ 0 }
+    {
+        StdInput { reader, faults: 0 }
+    }
+}
+
+impl<R: Read + Drop> Input for StdInput<R> {
+    ghost text = { λ _. None };
+
+    ghost faults = { λ s. s.faults };
+
+    ghost later = { λ _ _. Unit {0} };
+
+    ghost later_refl = { λ _. tt };
+
+    ghost later_trans = { λ _ _ _ _ _. tt };
+
+    fn fetch(&mut self, bytes: &mut [u8]) -> Result<usize, Fault>
+        requires { 0 < length bytes.old }
+        ensures size { IfOk result (λ n. n ≤ length bytes.new) }
+        ensures text { Fetches None None result bytes.new }
+        ensures cause { HasCause self.old.faults self.new.faults result }
+        // beyond the trait's
+        ensures counts { Counts result self.old.faults self.new.faults }
+    {
+        match self.reader.read(bytes) {
+            Ok(n) => Ok(n),
+            Err(_) => {
+                count_fault(&mut self.faults);
+                Err(Fault)
+            }
+        }
+    }
+}
+
+/// Standard output, of any writer. It has no place for handles.
+#[derive(Drop)]
+pub(crate) struct StdOutput<W: Write + Drop> {
+    writer: W,
+    faults: u64,
+}
+
+impl<W: Write + Drop> StdOutput<W> {
+    pub(crate) fn new(writer: W) -> Self
+        ensures { result.faults ≡ 0 }
+    {
+        StdOutput { writer, faults: 0 }
+    }
+}
+
+impl<W: Write + Drop> Sink for StdOutput<W> {
+    ghost taken = { λ _. None };
+
+    ghost faults = { λ s. s.faults };
+
+    ghost later = { λ _ _. Unit {0} };
+
+    ghost later_refl = { λ _. tt };
+
+    ghost later_trans = { λ _ _ _ _ _. tt };
+
+    fn put(&mut self, bytes: &[u8], _handles: &[Handle]) -> Result<usize, PutError>
+        ensures size { IfOk result (λ n. IsPutSize n bytes.now) }
+        ensures taken { Puts None None result bytes.now _handles.now }
+        ensures cause { HasPutCause self.old.faults self.new.faults result }
+        // beyond the trait's
+        ensures counts { Counts result self.old.faults self.new.faults }
+    {
+        match self.writer.write(bytes) {
+            Ok(n) if n > 0 || bytes.is_empty() => Ok(n),
+            _ => {
+                count_fault(&mut self.faults);
+                Err(PutError::Fault)
+            }
+        }
+    }
+}
+
+/// The microseconds since it was made.
+#[derive(Drop)]
+pub(crate) struct StdClock<'a, C: TimeSource> {
+    source: &'a C,
+    start: Option<Instant>,
+    last: u64,
+    faults: u64,
+}
+
+/// The whole microseconds from one instant to another.
+fn micros_between(start: Instant, end: Instant) -> u64
+    ensures { result ≡ whole_micros (instant_nanos end - instant_nanos start) }
+{
+    u64::try_from(end.duration_since(start).as_micros()).unwrap_or(u64::MAX)
+}
+
+impl<'a, C: TimeSource> StdClock<'a, C> {
+    /// Where the source has no time now, no later reading has one.
+    pub(crate) fn new(source: &'a C) -> Self
+        ensures { result.last ≡ 0 }
+    {
+        let start = Instant::now(source).ok();
+        let faults = if start.is_none() { 1 } else { 0 };
+        StdClock {
+            source,
+            start,
+            last: 0,
+            faults,
+        }
+    }
+
+    fn reading(&self) -> Option<u64> {
+        let now = Instant::now(self.source).ok()?;
+        Some(micros_between(self.start?, now))
+    }
+}
+
+impl<C: TimeSource> Clock for StdClock<'_, C> {
+    ghost readings = { λ _. None };
+
+    ghost faults = { λ s. s.faults };
+
+    ghost later = { λ _ _. Unit {0} };
+
+    ghost later_refl = { λ _. tt };
+
+    ghost later_trans = { λ _ _ _ _ _. tt };
+
+    fn now(&mut self) -> u64
+        ensures reading { (told : List ℕ) → None ≡ Some told → Reads told None result }
+        ensures cause { self.old.faults ≤ self.new.faults }
+        // beyond the trait's
+        ensures fails { ReadsOrRepeats self.old.faults self.new.faults self.old.last result }
+        ensures last { self.new.last ≡ result }
+    {
+        match self.reading() {
+            Some(micros) => {
+                self.last = micros;
+                micros
+            }
+            None => {
+                count_fault(&mut self.faults);
+                self.last
+            }
+        }
+    }
+}
