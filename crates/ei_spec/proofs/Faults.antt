@@ -36,13 +36,13 @@ unfolding letters_at
 letters_no_header n bytes = either (λ r. NoHeader r) (ltb (length bytes) n) (Err EndOfMessage)
     (utf8 (take n bytes) >>= λ t. cond (ltb (length bytes) (n + 1 + padding (n + 1))) (Err EndOfMessage) (Ok (t, drop (n + 1 + padding (n + 1)) bytes))) tt
     (bound (utf8 (take n bytes)) (λ t. cond (ltb (length bytes) (n + 1 + padding (n + 1))) (Err EndOfMessage) (Ok (t, drop (n + 1 + padding (n + 1)) bytes))) (utf8_no_header (take n bytes))
-      (λ t. either (λ r. NoHeader r) (ltb (length bytes) (n + 1 + padding (n + 1))) (Err EndOfMessage) (Ok (t, drop (n + 1 + padding (n + 1)) bytes)) tt tt))
+    (λ t. either (λ r. NoHeader r) (ltb (length bytes) (n + 1 + padding (n + 1))) (Err EndOfMessage) (Ok (t, drop (n + 1 + padding (n + 1)) bytes)) tt tt))
 
 text_no_header : (bytes : List ℕ) → NoHeader (text_at bytes)
 unfolding text_at
 text_no_header bytes = bound (number_at w32 bytes) (λ n. cond (eqb n.0 0) (Ok (None, n.1)) (letters_at (n.0 - 1) n.1 >>= λ t. Ok (Some t.0, t.1))) (number_no_header w32 bytes)
     (λ n. either (λ r. NoHeader r) (eqb n.0 0) (Ok (None, n.1)) (letters_at (n.0 - 1) n.1 >>= λ t. Ok (Some t.0, t.1)) tt
-      (bound (letters_at (n.0 - 1) n.1) (λ t. Ok (Some t.0, t.1)) (letters_no_header (n.0 - 1) n.1) (λ t. tt)))
+    (bound (letters_at (n.0 - 1) n.1) (λ t. Ok (Some t.0, t.1)) (letters_no_header (n.0 - 1) n.1) (λ t. tt)))
 
 some_text_no_header : (t : Option (List ℕ)) (rest : List ℕ) → NoHeader (some_text t rest)
 some_text_no_header None rest = tt
@@ -68,7 +68,7 @@ read_no_header Nullable s = of_bytes_no_header or_null s (text_at s.bytes) (text
 read_no_header Handle s = handle_no_header s (slice_get s.handles s.taken)
 read_no_header (Choice name values) s = of_bytes_no_header Word s (choice_at name values s.bytes)
     (bound (number_at w32 s.bytes) (λ n. cond (list_any (nat_eq n.0) values) (Ok n) (Err (InvalidVariant name n.0))) (number_no_header w32 s.bytes)
-      (λ n. either (λ r. NoHeader r) (list_any (nat_eq n.0) values) (Ok n) (Err (InvalidVariant name n.0)) tt tt))
+    (λ n. either (λ r. NoHeader r) (list_any (nat_eq n.0) values) (Ok n) (Err (InvalidVariant name n.0)) tt tt))
 
 abbrev pub StopsNoHeader : {A : Type 0} → Result A Stop → Type 0
 StopsNoHeader r = MatchResult r (λ _. Unit {0}) (λ e. IsNoHeader e.0)
