@@ -1,6 +1,6 @@
 //! The server's endpoint.
 
-ghost use Rattle.std.specs.Prelude.{◌≡◌, ◌≤◌, ◌<◌, ◌↔◌, ℕ, List, Some, IfOk, OnOk, OnErr, IsErrOf, true, false, map};
+ghost use Rattle.std.specs.Prelude.{◌≡◌, ◌≤◌, ◌<◌, ◌↔◌, ℕ, List, Some, IfOk, OnOk, OnErr, IsErrOf, true, false, length, map};
 ghost use Rattle.ei_spec.specs.Message.{message, size};
 ghost use Rattle.ei_wire.specs.Gives.{value_of_arg};
 ghost use Rattle.ei_wire.specs.declared.error.SendError.TheVariants as send_error;
@@ -87,6 +87,13 @@ impl Context {
         ensures later { K.later sink.old sink.new }
     {
         self.backend.flush(sink)
+    }
+
+    /// How many bytes came and are not read yet.
+    pub fn unread_len(&self) -> usize
+        ensures { result ≡ length self.now.unread }
+    {
+        self.backend.unread_len()
     }
 
     /// The handshake; `None` exactly where object 0 isn't there, after the connection was sent.

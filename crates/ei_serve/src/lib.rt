@@ -1,0 +1,13 @@
+//! A server's session over pieces of bytes: one handshake, one seat, and a client's requests until it
+//! disconnects.
+//!
+//! There is no input and no output here but through the traits of the outside. Begin with `serve`, the
+//! whole session, or with `Session`, which takes one piece a turn.
+#![tactic(auto)]
+
+mod phase;
+mod session;
+mod whole;
+
+pub use session::{Ended, Session, Setup, Turn};
+pub use whole::serve;
