@@ -74,12 +74,9 @@ impl EisRequestConverter {
     /// Queues what a request of the client means.
     ///
     /// `UnexpectedHandshakeEvent` for a request of the handshake. A refused call changes nothing.
-    pub fn handle_request<C: Clock>(
-        &mut self,
-        _clock: &mut C,
-        request: Request,
-    ) -> Result<(), Error>
-        ensures { Converts self.old request result self.new }
+    pub fn handle_request<C: Clock>(&mut self, clock: &mut C, request: Request) -> Result<(), Error>
+        ensures converts { Converts self.old request result self.new }
+        ensures later { C.later clock.old clock.new }
     {
         match request {
             Request::Handshake(_, _) => Err(Error::UnexpectedHandshakeEvent),

@@ -1,5 +1,12 @@
 //! The two phases of a session, message by message.
 
+ghost use Rattle.std.specs.Prelude.{◌≡◌, ◌≤◌, Some, IsErrOf, OnOk, OnErr, IfErr};
+ghost use Rattle.ei_types.specs.declared.error.Error.TheVariants as error;
+ghost use Rattle.ei_wire.specs.declared.error.ReadError.TheVariants as read_error;
+ghost use Rattle.ei_backend.specs.Outside.{Piece, Rose};
+ghost use Rattle.ei_serve.specs.Causes.{Greeted, GreetedInPart, NoFault, RefusesToStart};
+ghost use Rattle.ei_serve.specs.Asking.{AllKnown, Asks, header_length_of, requested_as, unreadable_as};
+
 use crate::session::Setup;
 use ei_backend::{Clock, PendingRequestResult, Sink, Source};
 use ei_handshake::{EisHandshakeResp, EisHandshaker};
@@ -46,7 +53,14 @@ impl Phase {
         alloc: Global,
         initial_serial: u32,
         sink: &mut K,
-    ) -> Result<Phase, Error> {
+    ) -> Result<Phase, Error>
+        ensures only { IfErr result RefusesToStart }
+        ensures greeted { OnOk result ((held : Piece) → K.taken sink.old ≡ Some held → Greeted held (K.taken sink.new)) }
+        ensures greeted_in_part { OnErr result ((held : Piece) → K.taken sink.old ≡ Some held → GreetedInPart held (K.taken sink.new)) }
+        ensures write_fault { IsErrOf result error.WriteFault → Rose (K.faults sink.old) (K.faults sink.new) }
+        ensures write_faults { K.faults sink.old ≤ K.faults sink.new }
+        ensures later_sink { K.later sink.old sink.new }
+    {
         let mut context = Context::new(alloc)?;
         let handshaker = EisHandshaker::new(alloc, &mut context, initial_serial)?;
         context.flush(sink)?;
@@ -71,7 +85,11 @@ impl Phase {
     }
 
     /// Takes a piece.
-    pub(crate) fn read<S: Source>(&mut self, source: &mut S) -> Result<usize, ReadError> {
+    pub(crate) fn read<S: Source>(&mut self, source: &mut S) -> Result<usize, ReadError>
+        ensures read_fault { IsErrOf result read_error.ReadFault → Rose (S.faults source.old) (S.faults source.new) }
+        ensures read_faults { S.faults source.old ≤ S.faults source.new }
+        ensures later_source { S.later source.old source.new }
+    {
         match self {
             Phase::Handshake(context, _) => context.read(source),
             Phase::Connected(converter) => converter.handle_mut().context_mut().read(source),
@@ -87,9 +105,15 @@ impl Phase {
         sink: &mut K,
         clock: &mut C,
         out: &mut Vec<EisRequest>,
-    ) -> Result<Step, Error> {
+    ) -> Result<Step, Error>
+        ensures write_fault { IsErrOf result error.WriteFault → Rose (K.faults sink.old) (K.faults sink.new) }
+        ensures write_faults { K.faults sink.old ≤ K.faults sink.new }
+        ensures later_sink { K.later sink.old sink.new }
+        ensures no_read_fault { IsErrOf result error.ReadFault → ⊥ }
+        ensures later_clock { C.later clock.old clock.new }
+    {
         match self {
-            Phase::Handshake(context, handshaker) => match shake(context, handshaker, sink)? {
+            Phase::Handshake(context, handshaker) => match shake(context, handshaker)? {
                 Shaken::Waiting => Ok(Step::Waiting),
                 Shaken::Handled => Ok(Step::Handled),
                 Shaken::Complete(resp) => {
@@ -109,7 +133,12 @@ impl Phase {
         resp: EisHandshakeResp,
         setup: Setup,
         sink: &mut K,
-    ) -> Result<(), Error> {
+    ) -> Result<(), Error>
+        ensures write_fault { IsErrOf result error.WriteFault → Rose (K.faults sink.old) (K.faults sink.new) }
+        ensures write_faults { K.faults sink.old ≤ K.faults sink.new }
+        ensures later_sink { K.later sink.old sink.new }
+        ensures no_read_fault { IsErrOf result error.ReadFault → ⊥ }
+    {
         if let Phase::Handshake(context, _) = mem::replace(self, Phase::Over) {
             let mut converter = EisRequestConverter::new(
                 alloc,
@@ -135,7 +164,9 @@ fn is_required(name: &str) -> bool {
 }
 
 /// The length of a header, where that is what is wrong.
-fn header_length(error: &ParseError) -> Option<u32> {
+fn header_length(error: &ParseError) -> Option<u32>
+    ensures { result ≡ header_length_of error.now }
+{
     match error {
         ParseError::HeaderLength(length) => Some(*length),
         _ => None,
@@ -143,7 +174,9 @@ fn header_length(error: &ParseError) -> Option<u32> {
 }
 
 /// Why a message that can't be read is refused.
-fn unreadable(error: &ParseError) -> Error {
+fn unreadable(error: &ParseError) -> Error
+    ensures { result ≡ unreadable_as error.now }
+{
     match header_length(error) {
         Some(length) => Error::Parse(ParseError::HeaderLength(length)),
         None => Error::NotBuilt,
@@ -151,12 +184,25 @@ fn unreadable(error: &ParseError) -> Error {
 }
 
 /// The request at the front, or why it is refused.
-fn readable(pending: PendingRequestResult<Request>) -> Result<Request, Error> {
+fn requested(pending: Option<PendingRequestResult<Request>>) -> Result<Option<Request>, Error>
+    ensures { result ≡ requested_as pending }
+{
     match pending {
-        PendingRequestResult::Request(request) => Ok(request),
-        PendingRequestResult::ParseError(error) => Err(unreadable(&error)),
-        PendingRequestResult::InvalidObject(_) => Err(Error::NotBuilt),
+        None => Ok(None),
+        Some(PendingRequestResult::Request(request)) => Ok(Some(request)),
+        Some(PendingRequestResult::ParseError(error)) => Err(unreadable(&error)),
+        Some(PendingRequestResult::InvalidObject(_)) => Err(Error::NotBuilt),
     }
+}
+
+/// The next request that is whole, taken out, if there is one.
+#[tactic(auto, using(crate::proofs::Asked::asks))]
+fn next_request(context: &mut Context) -> Result<Option<Request>, Error>
+    ensures no_fault { NoFault result }
+    ensures asks { AllKnown context.old.table → Asks context.old result context.new }
+{
+    let pending = context.pending_request()?;
+    requested(pending)
 }
 
 /// Whether the server takes a request of the handshake.
@@ -168,7 +214,9 @@ fn is_taken(asked: &handshake::Request, handshaker: &EisHandshaker) -> bool {
 }
 
 /// The request of the handshake, if the server takes it.
-fn taken(request: Request, handshaker: &EisHandshaker) -> Result<Request, Error> {
+fn taken(request: Request, handshaker: &EisHandshaker) -> Result<Request, Error>
+    ensures { NoFault result }
+{
     match request {
         Request::Handshake(proxy, asked) => {
             if is_taken(&asked, handshaker) {
@@ -182,20 +230,15 @@ fn taken(request: Request, handshaker: &EisHandshaker) -> Result<Request, Error>
 }
 
 /// Handles the message at the front during the handshake.
-fn shake<K: Sink>(
-    context: &mut Context,
-    handshaker: &mut EisHandshaker,
-    sink: &mut K,
-) -> Result<Shaken, Error> {
-    let Some(pending) = context.pending_request()? else {
+fn shake(context: &mut Context, handshaker: &mut EisHandshaker) -> Result<Shaken, Error>
+    ensures { NoFault result }
+{
+    let Some(request) = next_request(context)? else {
         return Ok(Shaken::Waiting);
     };
-    let request = taken(readable(pending)?, handshaker)?;
+    let request = taken(request, handshaker)?;
     match handshaker.handle_request(context, request)? {
-        None => {
-            context.flush(sink)?;
-            Ok(Shaken::Handled)
-        }
+        None => Ok(Shaken::Handled),
         Some(resp) => Ok(Shaken::Complete(resp)),
     }
 }
@@ -205,11 +248,14 @@ fn converse<C: Clock>(
     converter: &mut EisRequestConverter,
     clock: &mut C,
     out: &mut Vec<EisRequest>,
-) -> Result<Step, Error> {
-    let Some(pending) = converter.handle_mut().context_mut().pending_request()? else {
+) -> Result<Step, Error>
+    ensures no_fault { NoFault result }
+    ensures later_clock { C.later clock.old clock.new }
+{
+    let Some(request) = next_request(converter.handle_mut().context_mut())? else {
         return Ok(Step::Waiting);
     };
-    match readable(pending)? {
+    match request {
         Request::Connection(proxy, asked) => {
             converter.handle_request(clock, Request::Connection(proxy, asked))?;
             hand_out(converter, out)?;
@@ -220,7 +266,9 @@ fn converse<C: Clock>(
 }
 
 /// Hands out the request that is queued.
-fn hand_out(converter: &mut EisRequestConverter, out: &mut Vec<EisRequest>) -> Result<(), Error> {
+fn hand_out(converter: &mut EisRequestConverter, out: &mut Vec<EisRequest>) -> Result<(), Error>
+    ensures { NoFault result }
+{
     if let Some(request) = converter.next_request() {
         out.push(request)?;
     }

@@ -1,5 +1,10 @@
 //! A session, piece by piece.
 
+ghost use Rattle.std.specs.Prelude.{◌≡◌, ◌≤◌, Some, IsErrOf, OnOk, OnErr, IfErr};
+ghost use Rattle.ei_types.specs.declared.error.Error.TheVariants as error;
+ghost use Rattle.ei_backend.specs.Outside.{Piece, Rose};
+ghost use Rattle.ei_serve.specs.Causes.{Greeted, GreetedInPart, RefusesToStart};
+
 use crate::phase::{Phase, Step};
 use ei_backend::{Clock, Sink, Source};
 use ei_request::EisRequest;
@@ -51,7 +56,16 @@ impl Session {
     /// Starts a session and greets the client.
     ///
     /// `WriteFault` where the sink failed, `NoMemory` where memory ran out.
-    pub fn start<K: Sink>(alloc: Global, setup: Setup, sink: &mut K) -> Result<Session, Error> {
+    pub fn start<K: Sink>(alloc: Global, setup: Setup, sink: &mut K) -> Result<Session, Error>
+        ensures only { IfErr result RefusesToStart }
+        // the greeting goes out first
+        ensures greeted { OnOk result ((held : Piece) → K.taken sink.old ≡ Some held → Greeted held (K.taken sink.new)) }
+        ensures greeted_in_part { OnErr result ((held : Piece) → K.taken sink.old ≡ Some held → GreetedInPart held (K.taken sink.new)) }
+        // what the sink says
+        ensures write_fault { IsErrOf result error.WriteFault → Rose (K.faults sink.old) (K.faults sink.new) }
+        ensures write_faults { K.faults sink.old ≤ K.faults sink.new }
+        ensures later_sink { K.later sink.old sink.new }
+    {
         let phase = Phase::start(alloc, setup.initial_serial, sink)?;
         Ok(Session {
             alloc,
@@ -80,7 +94,18 @@ impl Session {
         sink: &mut K,
         clock: &mut C,
         out: &mut Vec<EisRequest>,
-    ) -> Result<Turn, Error> {
+    ) -> Result<Turn, Error>
+        // what the source says
+        ensures read_fault { IsErrOf result error.ReadFault → Rose (S.faults source.old) (S.faults source.new) }
+        ensures read_faults { S.faults source.old ≤ S.faults source.new }
+        ensures later_source { S.later source.old source.new }
+        // what the sink says
+        ensures write_fault { IsErrOf result error.WriteFault → Rose (K.faults sink.old) (K.faults sink.new) }
+        ensures write_faults { K.faults sink.old ≤ K.faults sink.new }
+        ensures later_sink { K.later sink.old sink.new }
+        // what the clock says
+        ensures later_clock { C.later clock.old clock.new }
+    {
         let answer = self.take_turn(source, sink, clock, out);
         if !matches!(answer, Ok(Turn::GoOn)) {
             self.phase = Phase::Over;
@@ -95,7 +120,15 @@ impl Session {
         sink: &mut K,
         clock: &mut C,
         out: &mut Vec<EisRequest>,
-    ) -> Result<Turn, Error> {
+    ) -> Result<Turn, Error>
+        ensures read_fault { IsErrOf result error.ReadFault → Rose (S.faults source.old) (S.faults source.new) }
+        ensures read_faults { S.faults source.old ≤ S.faults source.new }
+        ensures later_source { S.later source.old source.new }
+        ensures write_fault { IsErrOf result error.WriteFault → Rose (K.faults sink.old) (K.faults sink.new) }
+        ensures write_faults { K.faults sink.old ≤ K.faults sink.new }
+        ensures later_sink { K.later sink.old sink.new }
+        ensures later_clock { C.later clock.old clock.new }
+    {
         if !self.take_piece(source)? {
             return if self.phase.is_connected() {
                 Ok(Turn::End)
@@ -107,7 +140,12 @@ impl Session {
     }
 
     /// Takes a piece; false at the source's end.
-    fn take_piece<S: Source>(&mut self, source: &mut S) -> Result<bool, Error> {
+    fn take_piece<S: Source>(&mut self, source: &mut S) -> Result<bool, Error>
+        ensures read_fault { IsErrOf result error.ReadFault → Rose (S.faults source.old) (S.faults source.new) }
+        ensures read_faults { S.faults source.old ≤ S.faults source.new }
+        ensures later_source { S.later source.old source.new }
+        ensures no_write_fault { IsErrOf result error.WriteFault → ⊥ }
+    {
         let is_full = self.taken >= self.setup.pieces;
         match self.phase.read(source) {
             Ok(_) | Err(ReadError::HandleLimit) if is_full => Err(Error::PieceLimit),
@@ -121,12 +159,19 @@ impl Session {
     }
 
     /// Handles every whole message.
+    #[tactic(auto, using(crate::proofs::Causes::rose_since))]
     fn handle_messages<K: Sink, C: Clock>(
         &mut self,
         sink: &mut K,
         clock: &mut C,
         out: &mut Vec<EisRequest>,
-    ) -> Result<Turn, Error> {
+    ) -> Result<Turn, Error>
+        ensures write_fault { IsErrOf result error.WriteFault → Rose (K.faults sink.old) (K.faults sink.new) }
+        ensures write_faults { K.faults sink.old ≤ K.faults sink.new }
+        ensures later_sink { K.later sink.old sink.new }
+        ensures no_read_fault { IsErrOf result error.ReadFault → ⊥ }
+        ensures later_clock { C.later clock.old clock.new }
+    {
         // Each message has bytes, so there are no more messages than bytes.
         for _message in 0..=self.phase.unread_len() {
             match self.phase.step(self.alloc, self.setup, sink, clock, out)? {

@@ -1,0 +1,54 @@
+-- What a session says of the outside.
+use Rattle.std.proofs.Common.{◌≡◌, false, ◌≤◌, ◌+◌, ◌-◌, ◌^◌, ℕ, zero, suc, List, [], ◌∷◌, ◌++◌, length, take, Option, Some, Result, Ok, Err, refl, sym, ap, ◌∙◌, arith}
+use Rattle.std.specs.Prelude.{min, OnErr}
+use Rattle.std.specs.Option.{ForSome}
+use Rattle.std.proofs.lemmas.List.{append-nil}
+use Rattle.std.proofs.Math.Nat.{le_trans, min-le_left, min-le_right, le-min}
+use Rattle.ei_spec.specs.declared.handle.Handle.{Handle}
+use Rattle.ei_spec.specs.Interface.{ObjectView}
+use Rattle.ei_spec.specs.Message.{bytes_of}
+use Rattle.ei_backend.specs.Outside.{Piece, Rose, with_more}
+use Rattle.ei_backend.specs.Outgoing.{beside, sent_front}
+use Rattle.ei_backend.specs.Table.{found, new_table, first_object, first_server_id}
+use Rattle.ei_backend.specs.Backend.{BackendView, new_backend, unsent_of}
+use Rattle.ei_handshake.specs.Handshaker.{sends}
+use Rattle.ei_session.specs.Replies.{greeting, greeting_to}
+use Rattle.ei_serve.specs.Causes.{Greeted, GreetedInPart}
+use Rattle.ei_serve.proofs.Standing.{found_first}
+
+-- a count that rose since a later value rose since an earlier one
+pub rose_since : (a b c : ℕ) → a ≤ b → Rose b c → Rose a c
+rose_since a b c h r = le_trans {n = min (a + 1) (2 ^ 64 - 1)} {m = min (b + 1) (2 ^ 64 - 1)} (le-min (le_trans (min-le_left (a + 1) (2 ^ 64 - 1)) (omega (arith, h))) (min-le_right (a + 1) (2 ^ 64 - 1))) r
+
+-- the greeting, and no handle
+abbrev pub the_greeting : Piece
+the_greeting = record { bytes = bytes_of greeting; handles = [] }
+
+abbrev piece_of : List ℕ → Piece
+piece_of bytes = record { bytes = bytes; handles = [] }
+
+-- a new endpoint that greets has the greeting to send
+pub greets : (b new : BackendView) → b ≡ new_backend (new_table false first_server_id) → ForSome (found b.table 0) (λ handshake. new ≡ sends b (greeting_to handshake.id ∷ [])) → unsent_of new ≡ the_greeting
+greets b new e h =
+    let first : found b.table 0 ≡ Some (first_object false) = ap (λ (x : BackendView). found x.table 0) e ∙ found_first false first_server_id in
+    let sent : unsent_of new ≡ unsent_of (sends (new_backend (new_table false first_server_id)) (greeting ∷ [])) = ap unsent_of (h (first_object false) first) ∙ ap (λ (x : BackendView). unsent_of (sends x (greeting ∷ []))) e in
+    sent ∙ ap (λ (bytes : List ℕ). piece_of bytes) (append-nil (bytes_of greeting))
+
+-- no handle goes out beside any bytes
+no_beside : (n : ℕ) → beside n [] ≡ []
+no_beside zero = refl
+no_beside (suc n) = refl
+
+front_is : (n : ℕ) (waiting held : Piece) → waiting ≡ the_greeting → sent_front n waiting held ≡ with_more (take n (bytes_of greeting)) [] held
+front_is n waiting held e = rw e (ap (λ (handles : List Handle). with_more (take n (bytes_of greeting)) handles held) (no_beside n))
+
+-- what a sink has after the flush of the greeting
+pub greeted : (held waiting : Piece) (taken : Option Piece) → waiting ≡ the_greeting → taken ≡ Some (with_more waiting.bytes waiting.handles held) → Greeted held taken
+greeted held waiting taken w t = t ∙ ap (λ (x : Piece). Some (with_more x.bytes x.handles held)) w
+
+pub greeted_in_part : (held waiting : Piece) (taken : Option Piece) → waiting ≡ the_greeting → (n : ℕ) × (n ≤ length waiting.bytes) × (taken ≡ Some (sent_front n waiting held)) → GreetedInPart held taken
+greeted_in_part held waiting taken w h = (h.0, rw (← ap (λ (x : Piece). length x.bytes) w) h.1, h.2 ∙ ap (λ (x : Piece). Some x) (front_is h.0 waiting held w))
+
+pub on_err : {T E : Type 0} (r : Result T E) (P : Type 0) → P → OnErr r P
+on_err (Ok x) P p = tt
+on_err (Err e) P p = p

@@ -1,0 +1,141 @@
+-- The message at the front, as a server's endpoint takes it, and the arguments that the definitions read of it.
+use Rattle.std.proofs.Common.{◌≡◌, ℕ, ◌+◌, Bool, true, false, cond, eqb, List, [], ◌∷◌, length, drop, Option, Some, None, Result, Ok, Err, refl, sym, ap, ◌∙◌}
+use Rattle.std.specs.Prelude.{MatchOption}
+use Rattle.ei_spec.specs.declared.handle.Handle.{Handle}
+use Rattle.ei_spec.specs.declared.interface.KnownInterface.{KnownInterface}
+use Rattle.ei_spec.specs.declared.interface.KnownInterface.TheVariants as known
+use Rattle.ei_spec.specs.Value.{Value}
+use Rattle.ei_spec.specs.Interface.{Known, ObjectView, short_of}
+use Rattle.ei_spec.specs.Reading.{Fault, InvalidOpcode, HeaderLength, MessageLength, Unread, Stop, ◌then◌, stopping, all_at}
+use Rattle.ei_spec.specs.Rows.{Row, Nothing, rows, row_at}
+use Rattle.ei_spec.specs.Message.{Raw, size, Front, Short, Unlawful, Whole, front}
+use Rattle.ei_spec.proofs.Faults.{IsNoHeader, StopsNoHeader, all_no_header}
+use Rattle.ei_spec.proofs.Handleless.{AreNoHandles, Got, got_of, all_alike}
+use Rattle.ei_backend.specs.Table.{TableView, found}
+use Rattle.ei_backend.specs.Message.{Parsed, announce, some_row, row_read}
+use Rattle.ei_backend.specs.Backend.{BackendView, Outcome, outcome, body_read, Answer, Waits, Refused, Gone, Message, next, of_target, said_of}
+use Rattle.ei_session.specs.Arguments.{whole, body_of, row_args, request_args}
+use Rattle.ei_serve.specs.Asking.{AllKnown, Takes, Unreadable}
+use Rattle.ei_serve.proofs.NoHandles.{KeepsTaken, all_keeps}
+
+-- a row that announces nothing and takes no handle
+abbrev pub IsPlain : Option Row → Type 0
+IsPlain o = MatchOption o (Unit {0}) (λ r. (r.announces ≡ Nothing) × AreNoHandles r.kinds)
+
+choice : (b : Bool) (x y : Option Row) → IsPlain x → IsPlain y → IsPlain (cond b x y)
+choice true x y p q = p
+choice false x y p q = q
+
+-- each request that is built is one
+pub plain_rows : (interface : KnownInterface) (opcode : ℕ) → IsPlain (row_at opcode (rows false interface))
+plain_rows known.Handshake opcode = choice (eqb opcode 1) _ _ (refl, tt) (choice (eqb opcode 4) _ _ (refl, (tt, (tt, tt))) tt)
+plain_rows known.Connection opcode = choice (eqb opcode 1) _ _ (refl, tt) tt
+plain_rows known.Callback opcode = tt
+plain_rows known.Pingpong opcode = tt
+plain_rows known.Seat opcode = tt
+plain_rows known.Device opcode = tt
+plain_rows known.Pointer opcode = tt
+plain_rows known.PointerAbsolute opcode = tt
+plain_rows known.Scroll opcode = tt
+plain_rows known.Button opcode = tt
+plain_rows known.Keyboard opcode = tt
+plain_rows known.Touchscreen opcode = tt
+plain_rows known.Text opcode = tt
+
+-- what reading a body says, where the definitions read these arguments of it
+abbrev pub OutcomeIs : Option (List Value) → TableView → Outcome → Type 0
+OutcomeIs (Some values) t o = o ≡ record { said = Ok values; table = t; taken = 0 }
+OutcomeIs None t o = (f : Fault) × (o.said ≡ Err f) × IsNoHeader f
+
+abbrev said_if : Bool → List Value → ℕ → ℕ → Result (List Value) Fault
+said_if b values a n = cond b (Ok values) (Err (MessageLength a n))
+
+left_over : (b : Bool) (values : List Value) (a n taken : ℕ) (t : TableView) → taken ≡ 0 → OutcomeIs (cond b (Some values) None) t (record { said = said_if b values a n; table = t; taken = taken })
+left_over true values a n taken t e = rw e refl
+left_over false values a n taken t e = (MessageLength a n, refl, tt)
+
+parsed_is : (len : ℕ) (t : TableView) (values : List Value) (s : Unread) (vs : List Value) (rest : List ℕ) → values ≡ vs → s.bytes ≡ rest → s.taken ≡ 0 →
+    OutcomeIs (cond (eqb (length rest) 0) (Some vs) None) t (outcome len t (Ok (record { values = values; table = t; unread = s })))
+parsed_is len t values s vs rest e r k = rw (← e, ← r) (left_over (eqb (length s.bytes) 0) values (len + length s.bytes) len s.taken t k)
+
+abbrev announced : Row → TableView → Result (List Value × Unread) Stop → Result Parsed Stop
+announced r t a = a then λ x. stopping x.1.taken (announce r.announces r.kinds x.0 t) then λ u. Ok (record { values = x.0; table = u; unread = x.1 })
+
+abbrev got : List Value → List ℕ → Got (List Value)
+got value rest = record { value = value; rest = rest }
+
+row_case : (r : Row) (len : ℕ) (t : TableView) (a b : Result (List Value × Unread) Stop) → r.announces ≡ Nothing → got_of a ≡ got_of b → KeepsTaken {A = List Value} 0 a → StopsNoHeader a →
+    OutcomeIs (whole b) t (outcome len t (announced r t a))
+unfolding whole
+row_case r len t (Ok x) (Ok y) n e k h =
+    let same : got x.0 x.1.bytes ≡ got y.0 y.1.bytes = cc in
+    rw n (parsed_is len t x.0 x.1 y.0 y.1.bytes (ap (λ (g : Got (List Value)). g.value) same) (ap (λ (g : Got (List Value)). g.rest) same) k)
+row_case r len t (Ok x) (Err f) n e k h = absurd cc
+row_case r len t (Err f) (Ok y) n e k h = absurd cc
+row_case r len t (Err f) (Err g) n e k h = (f.0, refl, h)
+
+some_case : (o : Option Row) (short : List ℕ) (m : Raw) (handles : List Handle) (t : TableView) → IsPlain o →
+    OutcomeIs (row_args o m) t (outcome (size m) t (some_row o short m.opcode (record { bytes = m.body; handles = handles; taken = 0 }) t))
+unfolding row_args
+some_case None short m handles t p = (InvalidOpcode short m.opcode, refl, tt)
+some_case (Some r) short m handles t p =
+    let s : Unread = record { bytes = m.body; handles = handles; taken = 0 } in
+    row_case r (size m) t (all_at r.kinds s) (all_at r.kinds (body_of m)) p.0 (all_alike r.kinds s (body_of m) p.1 refl) (all_keeps r.kinds s 0 p.1 refl) (all_no_header r.kinds s)
+
+-- what a whole message says to an object of a known interface is what the definitions read of it
+pub body_is : (interface : KnownInterface) (target : ObjectView) (m : Raw) (handles : List Handle) (t : TableView) → target.interface ≡ Known interface →
+    OutcomeIs (request_args interface m) t (body_read false target m.opcode m.body handles t)
+unfolding request_args
+body_is interface target m handles t e = rw e (some_case (row_at m.opcode (rows false interface)) (short_of interface) m handles t (plain_rows interface m.opcode))
+
+-- ---- the next message, from what stands at the front
+
+abbrev said : Answer → BackendView → Answer × BackendView
+said a b = (a, b)
+
+abbrev answer_of : Answer × BackendView → Answer
+answer_of p = p.0
+
+abbrev backend_of : Answer × BackendView → BackendView
+backend_of p = p.1
+
+pub next_short : (b : BackendView) → front b.unread ≡ Short → next false b ≡ said Waits b
+next_short b e = rw e refl
+
+pub next_unlawful : (b : BackendView) (n : ℕ) → front b.unread ≡ Unlawful n → next false b ≡ said (Refused (HeaderLength n)) b
+next_unlawful b n e = rw e refl
+
+pub next_gone : (b : BackendView) (m : Raw) (rest : List ℕ) → front b.unread ≡ Whole m rest → found b.table m.id ≡ None → next false b ≡ said (Gone m.id) (record b { unread = rest })
+next_gone b m rest e n = rw (e, n) refl
+
+-- what is said of a body, and the endpoint after it
+pub record SaysOf (b : BackendView) (target : ObjectView) (m : Raw) (rest : List ℕ) (args : Option (List Value)) (o : Outcome) : Type 0 where
+  pub values : (vs : List Value) → args ≡ Some vs → (answer_of (said (said_of target m.opcode o.said) b) ≡ Message target m.opcode vs) × (o.table ≡ b.table) × (o.taken ≡ 0)
+  pub none : args ≡ None → (f : Fault) × (said_of target m.opcode o.said ≡ Refused f) × IsNoHeader f
+
+says : (b : BackendView) (target : ObjectView) (m : Raw) (rest : List ℕ) (args : Option (List Value)) (o : Outcome) → OutcomeIs args b.table o → SaysOf b target m rest args o
+says b target m rest (Some vs) o h = record {
+  values = λ ws e. let same : vs ≡ ws = cc in (ap (λ (x : Outcome). said_of target m.opcode x.said) h ∙ ap (Message target m.opcode) same, ap (λ (x : Outcome). x.table) h, ap (λ (x : Outcome). x.taken) h);
+  none = λ e. absurd cc;
+}
+says b target m rest None o h = record {
+  values = λ ws e. absurd cc;
+  none = λ e. (h.0, ap (said_of target m.opcode) h.1, h.2);
+}
+
+after_is : (b : BackendView) (t : TableView) (rest : List ℕ) (n : ℕ) → t ≡ b.table → n ≡ 0 → ◌≡◌ {A = BackendView} (record b { table = t; unread = rest; handles = drop n b.handles }) (record b { unread = rest })
+after_is b t rest n e z = rw (e, z) refl
+
+pub next_taken : (b : BackendView) (m : Raw) (rest : List ℕ) (target : ObjectView) (interface : KnownInterface) (vs : List Value) → front b.unread ≡ Whole m rest → found b.table m.id ≡ Some target → target.interface ≡ Known interface → request_args interface m ≡ Some vs →
+    (answer_of (next false b) ≡ Message target m.opcode vs) × (backend_of (next false b) ≡ record b { unread = rest })
+next_taken b m rest target interface vs e f k a =
+    let o = body_read false target m.opcode m.body b.handles b.table in
+    let h = (says b target m rest (request_args interface m) o (body_is interface target m b.handles b.table k)).values vs a in
+    rw (e, f) (h.0, after_is b o.table rest o.taken h.1 h.2)
+
+pub next_refused : (b : BackendView) (m : Raw) (rest : List ℕ) (target : ObjectView) (interface : KnownInterface) → front b.unread ≡ Whole m rest → found b.table m.id ≡ Some target → target.interface ≡ Known interface → request_args interface m ≡ None →
+    (f : Fault) × (answer_of (next false b) ≡ Refused f) × IsNoHeader f
+next_refused b m rest target interface e f k a =
+    let o = body_read false target m.opcode m.body b.handles b.table in
+    let h = (says b target m rest (request_args interface m) o (body_is interface target m b.handles b.table k)).none a in
+    rw (e, f) h

@@ -1,0 +1,11 @@
+use Rattle.std.proofs.Common.{◌≤◌}
+use Rattle.ei_serve.proofs.whole.serve.Given as goal
+
+abbrev pub invariant-loop-turn : goal.invariant-loop-turn
+invariant-loop-turn g l = record {
+  read_faults : g.S.Source.faults l.fn.source ≤ g.S.Source.faults l.source;
+  write_faults : g.K.Sink.faults l.fn.sink ≤ g.K.Sink.faults l.sink;
+  later_source : g.S.Source.later l.fn.source l.source;
+  later_sink : g.K.Sink.later l.fn.sink l.sink;
+  later_clock : g.C.Clock.later l.fn.clock l.clock;
+}

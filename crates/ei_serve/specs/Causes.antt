@@ -1,0 +1,32 @@
+-- What the answers of a session say of the outside.
+use Rattle.std.specs.Prelude.{◌≡◌, ℕ, ◌≤◌, List, [], length, take, Option, Some, Result, Ok, Err}
+use Rattle.ei_spec.specs.Piece.{Piece}
+use Rattle.ei_spec.specs.Message.{bytes_of}
+use Rattle.ei_backend.specs.Outside.{with_more}
+use Rattle.ei_session.specs.Replies.{greeting}
+use Rattle.ei_types.specs.declared.error.Error.{Error}
+use Rattle.ei_types.specs.declared.error.Error.TheVariants as error
+
+-- a sink that told what it held has the greeting behind that
+abbrev pub Greeted : Piece → Option Piece → Type 0
+Greeted held taken = taken ≡ Some (with_more (bytes_of greeting) [] held)
+
+-- or only the front of the greeting
+abbrev pub GreetedInPart : Piece → Option Piece → Type 0
+GreetedInPart held taken = (n : ℕ) × (n ≤ length (bytes_of greeting)) × (taken ≡ Some (with_more (take n (bytes_of greeting)) [] held))
+
+-- an error that says nothing of the outside
+abbrev pub IsInner : Error → Type 0
+IsInner error.ReadFault = ⊥
+IsInner error.WriteFault = ⊥
+IsInner e = Unit {0}
+
+abbrev pub NoFault : {T : Type 0} → Result T Error → Type 0
+NoFault (Ok x) = Unit {0}
+NoFault (Err e) = IsInner e
+
+-- how a start may be refused
+abbrev pub RefusesToStart : Error → Type 0
+RefusesToStart error.WriteFault = Unit {0}
+RefusesToStart error.NoMemory = Unit {0}
+RefusesToStart e = ⊥
