@@ -16,6 +16,10 @@ mod std_io;
 mod tests;
 mod words;
 
+ghost use Rattle.std.specs.Prelude.{◌≡◌, map, drop, IfOk};
+ghost use Rattle.std.specs.String.{string_bytes};
+ghost use Rattle.std.specs.Vec.Iter.{into_iter_items};
+
 use crate::std_io::{StdClock, StdInput, StdOutput};
 use ei_wire::{EiText, NoMemory};
 use std::alloc::Global;
@@ -25,9 +29,12 @@ use std::rt::Env;
 use std::{env, io};
 
 /// The words after the program's name.
-fn words_of(alloc: Global, arguments: Args) -> Result<Vec<EiText>, NoMemory> {
+fn words_of(alloc: Global, mut arguments: Args) -> Result<Vec<EiText>, NoMemory>
+    ensures { IfOk result (λ words. words.items ≡ map string_bytes (drop 1 (into_iter_items arguments))) }
+{
     let mut words = Vec::new(alloc);
-    for argument in arguments.skip(1) {
+    let _name = arguments.next();
+    'words: while let Some(argument) = arguments.next() {
         words.push(EiText::new(alloc, argument.as_str())?)?;
     }
     Ok(words)
