@@ -1,5 +1,6 @@
 pub mod HeldLaws
 pub mod ReportLaws
 pub mod SourceLaws
+pub mod TellLaws
 pub mod TextLaws
 pub mod WordLaws

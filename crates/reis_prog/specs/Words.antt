@@ -35,3 +35,7 @@ abbrev pub command_of : List (List ℕ) → Option Command
 command_of (name ∷ serial ∷ capabilities ∷ pieces ∷ []) =
     if bytes_eq name (codes "serve") then serve_of (number_of 4294967295 serial) (number_of 127 capabilities) (number_of 4294967295 pieces) else None
 command_of words = None
+
+-- the bits of a command's capabilities
+abbrev pub capabilities_of : Command → ℕ
+capabilities_of (Serve serial capabilities pieces) = capabilities

@@ -1,19 +1,60 @@
 //! The program `reis`: it serves a session from a text of hexadecimal lines, and reports.
 //!
-//! The protocol itself is not here. Begin with `HexSource`, the pieces that a text spells, and
-//! `Command`, the words that the program takes.
+//! The protocol itself is not here. Begin with `run`, the program over any input, output and clock,
+//! and `HexSource`, the pieces that a text spells.
 #![tactic(auto)]
 
 mod held;
 mod hex_source;
 mod report;
+mod request_line;
+mod run;
+#[cfg(test)]
+mod run_tests;
 mod std_io;
 #[cfg(test)]
 mod tests;
 mod words;
 
-use std::io;
+ghost use Rattle.std.specs.Prelude.{◌≡◌, map, drop, IfOk};
+ghost use Rattle.std.specs.String.{string_bytes};
+ghost use Rattle.std.specs.Vec.Iter.{into_iter_items};
 
-fn main(rt: HostRuntime) -> io::Result<()> {
-    rt.print(words::USAGE)
+use crate::std_io::{StdClock, StdInput, StdOutput};
+use ei_wire::{EiText, NoMemory};
+use std::alloc::Global;
+use std::env::Args;
+use std::process::ExitCode;
+use std::rt::Env;
+use std::{env, io};
+
+/// The words after the program's name.
+fn words_of(alloc: Global, mut arguments: Args) -> Result<Vec<EiText>, NoMemory>
+    ensures { IfOk result (λ words. words.items ≡ map string_bytes (drop 1 (into_iter_items arguments))) }
+{
+    let mut words = Vec::new(alloc);
+    let _name = arguments.next();
+    'words: while let Some(argument) = arguments.next() {
+        words.push(EiText::new(alloc, argument.as_str())?)?;
+    }
+    Ok(words)
+}
+
+/// The words that the program was started with: none where one of them isn't text.
+fn started_with<R: Env + AllocGlobal>(rt: &R) -> Result<Vec<EiText>, NoMemory> {
+    match env::args(rt) {
+        Ok(arguments) => words_of(rt.alloc(), arguments),
+        Err(e) if e.kind() == io::ErrorKind::OutOfMemory => Err(NoMemory),
+        Err(_) => Ok(Vec::new(rt.alloc())),
+    }
+}
+
+fn main(rt: HostRuntime) -> ExitCode {
+    let Ok(words) = started_with(&rt) else {
+        return ExitCode::from(run::NO_MEMORY);
+    };
+    let mut input = StdInput::new(rt.stdin());
+    let mut output = StdOutput::new(rt.stdout());
+    let mut clock = StdClock::new(&rt);
+    ExitCode::from(run::run(rt.alloc(), &words, &mut input, &mut output, &mut clock))
 }

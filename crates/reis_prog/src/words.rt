@@ -1,6 +1,6 @@
 //! The words that the program takes.
 
-ghost use Rattle.std.specs.Prelude.{◌≡◌};
+ghost use Rattle.std.specs.Prelude.{◌≡◌, ◌≤◌, IfSome};
 ghost use Rattle.std.specs.Char.{is_ascii_digit};
 ghost use Rattle.std.specs.List.{list_all};
 ghost use Rattle.reis_prog.specs.Words.{is_plain, number_of};
@@ -40,7 +40,8 @@ fn is_plain(text: &[u8]) -> bool
 
 /// The number of a plain decimal that is at most the limit.
 fn number(text: &str, limit: u32) -> Option<u32>
-    ensures { result ≡ number_of limit text.now }
+    ensures value { result ≡ number_of limit text.now }
+    ensures within { IfSome result (λ n. n ≤ limit) }
 {
     if !is_plain(text.as_bytes()) {
         return None;
@@ -52,11 +53,12 @@ fn number(text: &str, limit: u32) -> Option<u32>
 }
 
 impl Command {
-    ghost use Rattle.reis_prog.specs.Words.{command_of};
+    ghost use Rattle.reis_prog.specs.Words.{command_of, capabilities_of};
 
     /// The command that the words are, exactly where they are one.
     pub(crate) fn from_words(words: &[EiText]) -> Option<Command>
-        ensures { result ≡ command_of words.now }
+        ensures command { result ≡ command_of words.now }
+        ensures within { IfSome result (λ command. capabilities_of command ≤ 127) }
     {
         match words {
             [name, serial, capabilities, pieces] if name.as_str() == "serve" => {
