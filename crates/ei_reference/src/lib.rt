@@ -1,0 +1,11 @@
+//! The definitions of a server's session as a program: plain and slow, and no part of the server.
+//!
+//! Each function is proved to compute one definition of `ei_session`, so that a test can compare the
+//! definitions with worked streams and with the server that runs. Begin with `read_stream`.
+#![tactic(auto)]
+
+mod message;
+mod request;
+
+pub use message::{Front, RawMessage, front_of};
+pub use request::{Announcement, announced, is_disconnect, is_finish};
