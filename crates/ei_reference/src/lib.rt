@@ -1,11 +1,18 @@
 //! The definitions of a server's session as a program: plain and slow, and no part of the server.
 //!
 //! Each function is proved to compute one definition of `ei_session`, so that a test can compare the
-//! definitions with worked streams and with the server that runs. Begin with `read_stream`.
+//! definitions with worked streams and with the server that runs. Messages stand in slices with the
+//! newest first, as in the definitions. Begin with `read_stream`.
 #![tactic(auto)]
 
+mod built;
+mod handshake;
 mod message;
 mod request;
+mod stream;
 
+pub use built::{Verdict, is_built, judge};
+pub use handshake::{connected, settled};
 pub use message::{Front, RawMessage, front_of};
 pub use request::{Announcement, announced, is_disconnect, is_finish};
+pub use stream::{StopReason, StreamReading, read_stream};
