@@ -1,7 +1,7 @@
 //! Which messages a server takes, and where its stream ends.
 
 ghost use Rattle.std.specs.Prelude.{◌≡◌, IfOk, Some};
-ghost use Rattle.ei_session.specs.Built.{all_settled as all_settled_in, names_required as names_required_in, is_built as is_built_in, is_built_before as is_built_before_in, judge as judge_in};
+ghost use Rattle.ei_session.specs.Built.{all_settled as all_settled_in, names_required as names_required_in, is_built as is_built_in, is_built_before as is_built_before_in, is_last as is_last_in, judge as judge_in};
 ghost use Rattle.ei_reference.specs.Seen.{verdict_seen};
 
 use crate::handshake::{connected, settled};
@@ -71,14 +71,22 @@ pub fn is_built(alloc: Global, before: &[RawMessage], m: &RawMessage) -> Result<
     }
 }
 
+/// Whether nothing that follows the message is looked at.
+#[tactic(auto, unfolding(ei_session::specs::Built::is_last))]
+pub(crate) fn is_last(before: &[RawMessage], m: &RawMessage) -> bool
+    ensures { result ≡ is_last_in before.now m.now }
+{
+    connected(before) && is_disconnect(m)
+}
+
 /// What becomes of the message, which comes after those before.
-#[tactic(auto, unfolding(ei_session::specs::Built::judge, ei_session::specs::Built::refusal, ei_session::specs::Built::is_last))]
+#[tactic(auto, unfolding(ei_session::specs::Built::judge, ei_session::specs::Built::refusal))]
 pub fn judge(alloc: Global, before: &[RawMessage], m: &RawMessage) -> Result<Verdict, NoMemory>
     ensures { IfOk result (λ v. verdict_seen v ≡ judge_in before.now m.now) }
 {
     if !is_built(alloc, before, m)? {
         Ok(Verdict::NotBuilt)
-    } else if connected(before) && is_disconnect(m) {
+    } else if is_last(before, m) {
         Ok(Verdict::Final)
     } else {
         Ok(Verdict::Accepted)

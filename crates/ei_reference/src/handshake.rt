@@ -2,7 +2,7 @@
 
 ghost use Rattle.std.specs.Prelude.{◌≡◌, IfOk};
 ghost use Rattle.ei_spec.specs.Interface.{name_of, server_version as version_of_server};
-ghost use Rattle.ei_session.specs.Handshake.{connected as connected_in, announces, settled as settled_in};
+ghost use Rattle.ei_session.specs.Handshake.{connected as connected_in, announces, settled as settled_in, is_the_finish as is_the_finish_in, version as version_in};
 
 use crate::message::RawMessage;
 use crate::request::{announced, is_finish};
@@ -18,6 +18,14 @@ pub fn connected(messages: &[RawMessage]) -> bool
         None => false,
         Some((m, before)) => is_finish(m) || connected(before),
     }
+}
+
+/// Whether the message, which comes after those before, is the first finish.
+#[tactic(auto, unfolding(ei_session::specs::Handshake::is_the_finish))]
+pub(crate) fn is_the_finish(before: &[RawMessage], m: &RawMessage) -> bool
+    ensures { result ≡ is_the_finish_in before.now m.now }
+{
+    is_finish(m) && !connected(before)
 }
 
 /// The version that the server has of an interface.
@@ -66,4 +74,17 @@ pub fn settled(
             None => settled(alloc, before, interface),
         },
     }
+}
+
+/// The version in which objects of the interface are made: 1 where none is settled.
+#[tactic(auto, unfolding(ei_session::specs::Handshake::version))]
+pub(crate) fn version(
+    alloc: Global,
+    before: &[RawMessage],
+    interface: KnownInterface,
+) -> Result<u32, NoMemory>
+    ensures { IfOk result (λ v. v ≡ version_in before.now interface) }
+{
+    let version = settled(alloc, before, interface)?;
+    Ok(version.unwrap_or(1))
 }

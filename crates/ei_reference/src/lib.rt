@@ -6,13 +6,24 @@
 #![tactic(auto)]
 
 mod built;
+mod events;
+mod handed;
 mod handshake;
 mod message;
+mod pieces;
 mod request;
+mod sessions;
+mod setup;
 mod stream;
+mod write;
 
 pub use built::{Verdict, is_built, judge};
+pub use events::replies;
+pub use handed::{Request, framed};
 pub use handshake::{connected, settled};
 pub use message::{Front, RawMessage, front_of};
+pub use pieces::Piece;
 pub use request::{Announcement, announced, is_disconnect, is_finish};
+pub use sessions::{Answer, Outcome, session};
+pub use setup::Setup;
 pub use stream::{StopReason, StreamReading, read_stream};
