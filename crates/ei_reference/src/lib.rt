@@ -27,3 +27,6 @@ pub use request::{Announcement, announced, is_disconnect, is_finish};
 pub use sessions::{Answer, Outcome, session};
 pub use setup::Setup;
 pub use stream::{StopReason, StreamReading, read_stream};
+
+#[cfg(test)]
+mod tests;
