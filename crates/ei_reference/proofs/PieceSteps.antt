@@ -14,10 +14,12 @@ no_bytes [] out e = sym (append-nil out)
 no_bytes (p ∷ others) out e = absurd (omega arith)
 
 -- the bytes of the first piece, and behind them those of the others
-pub bytes_behind : (pieces others : List Piece) (p : Piece) (out first all : List ℕ) → pieces ≡ p ∷ others → first ≡ out ++ p.bytes → all ≡ first ++ stream others → all ≡ out ++ stream pieces
+pub bytes_behind : (pieces others : List Piece) (p seen : Piece) (out part first all : List ℕ) → pieces ≡ p ∷ others → seen ≡ p → part ≡ seen.bytes → first ≡ out ++ part → all ≡ first ++ stream others →
+    all ≡ out ++ stream pieces
 unfolding stream
-bytes_behind pieces others p out first all is e f =
-    f ∙ ap (λ (x : List ℕ). x ++ stream others) e ∙ append_assoc out p.bytes (stream others) ∙ ap (λ (x : List Piece). out ++ stream x) (sym is)
+bytes_behind pieces others p seen out part first all is same e f g =
+    let bytes = f ∙ ap (λ (x : List ℕ). out ++ x) (e ∙ ap (λ (q : Piece). q.bytes) same) in
+    g ∙ ap (λ (x : List ℕ). x ++ stream others) bytes ∙ append_assoc out p.bytes (stream others) ∙ ap (λ (x : List Piece). out ++ stream x) (sym is)
 
 pub no_handles : (pieces : List Piece) (most : ℕ) → length pieces ≡ 0 → ltb most (handle_count pieces) ≡ false
 unfolding handle_count
