@@ -2,7 +2,8 @@
 //!
 //! Each function is proved to compute one definition of `ei_session`, so that a test can compare the
 //! definitions with worked streams and with the server that runs. Messages stand in slices with the
-//! newest first, as in the definitions. Begin with `read_stream`.
+//! newest first, as in the definitions. The only error is `NoMemory`, which may come in place of any
+//! answer. Begin with `read_stream`.
 #![tactic(auto)]
 
 mod built;
