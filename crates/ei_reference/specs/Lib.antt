@@ -1,0 +1,4 @@
+pub mod Front
+pub mod Seen
+pub mod Ended
+pub mod Codes
