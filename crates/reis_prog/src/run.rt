@@ -119,7 +119,10 @@ fn session<I: Input, C: Clock>(
     clock: &mut C,
     reply: &mut Tray,
     requests: &mut Vec<EisRequest>,
-) -> Result<Ended, Error> {
+) -> Result<Ended, Error>
+    ensures later_input { I.later input.old input.new }
+    ensures later_clock { C.later clock.old clock.new }
+{
     let held = Held::new(alloc)?;
     let mut source = HexSource::over(held, input);
     let answer = serve(alloc, &mut source, reply, clock, setup, requests);
@@ -137,6 +140,8 @@ fn serve_and_tell<I: Input, O: Sink, C: Clock>(
 ) -> u8
     ensures told { (held : Piece) → O.taken output.old ≡ Some held → TellsReport held result (O.taken output.new) }
     ensures served { result ≡ 2 → ⊥ }
+    ensures later_input { I.later input.old input.new }
+    ensures later_clock { C.later clock.old clock.new }
     ensures fault { result ≡ 4 → Rose (O.faults output.old) (O.faults output.new) }
     ensures count { O.faults output.old ≤ O.faults output.new }
     ensures later { O.later output.old output.new }
@@ -184,6 +189,9 @@ pub fn run<I: Input, O: Sink, C: Clock>(
     ensures report { IsSome (command_of words.now) → (held : Piece) → O.taken output.old ≡ Some held →
         TellsReport held result (O.taken output.new) }
     ensures served { IsSome (command_of words.now) → result ≡ 2 → ⊥ }
+    // the input and the clock
+    ensures later_input { I.later input.old input.new }
+    ensures later_clock { C.later clock.old clock.new }
     // the output
     ensures fault { result ≡ 4 → Rose (O.faults output.old) (O.faults output.new) }
     ensures count { O.faults output.old ≤ O.faults output.new }
