@@ -1,4 +1,5 @@
 pub mod HeldLaws
+pub mod ReadFaults
 pub mod ReportLaws
 pub mod SourceLaws
 pub mod TellLaws

@@ -1,5 +1,5 @@
 -- What the program writes, and the status that it ends with.
-use Rattle.std.specs.Prelude.{◌≡◌, ◌≤◌, ◌⊎◌, ℕ, List, [], ◌∷◌, ◌++◌, length, take, codes, Option, Result, Ok, Err}
+use Rattle.std.specs.Prelude.{◌≡◌, ◌≤◌, ◌⊎◌, ℕ, List, [], ◌∷◌, ◌++◌, length, take, codes, Option, Some, IsSome, Result, Ok, Err}
 use Rattle.ei_backend.specs.Outside.{Piece}
 use Rattle.ei_request.specs.declared.event.EisRequest.{EisRequest}
 use Rattle.ei_serve.specs.declared.session.Ended.{Ended}
@@ -8,6 +8,7 @@ use Rattle.ei_types.specs.Texts.{error_text}
 use Rattle.ei_types.specs.declared.error.Error.{Error}
 use Rattle.ei_types.specs.declared.error.Error.TheVariants as error
 use Rattle.reis_prog.specs.Report.{line_of, reply_line, Holds}
+use Rattle.reis_prog.specs.Text.{bad_line_of}
 use Rattle.reis_prog.specs.RequestLine.{request_text}
 
 -- a line for each request
@@ -36,6 +37,10 @@ status_of_error e = 1
 abbrev pub status_of : Result Ended Error → ℕ
 status_of (Ok e) = 0
 status_of (Err e) = status_of_error e
+
+-- where an input told its text, a line of it is bad
+abbrev pub HasBadLine : Option (List ℕ) → Type 0
+HasBadLine told = (text : List ℕ) → told ≡ Some text → IsSome (bad_line_of text)
 
 -- a front of the text went to the sink
 abbrev pub HoldsFront : Piece → List ℕ → Option Piece → Type 0

@@ -1,11 +1,12 @@
 //! The program, over any input, output and clock.
 
-ghost use Rattle.std.specs.Prelude.{◌≡◌, ◌≤◌, ◌<◌, ◌⊎◌, ◌++◌, ℕ, Some, None, IfOk, OnOk, IsSome};
+ghost use Rattle.std.specs.Prelude.{◌≡◌, ◌≤◌, ◌<◌, ◌⊎◌, ◌++◌, ℕ, Some, None, IfOk, OnOk, IsErrOf, IsSome};
 ghost use Rattle.std.specs.String.{string_bytes};
 ghost use Rattle.ei_types.specs.Capability.{bits_of};
+ghost use Rattle.ei_types.specs.declared.error.Error.TheVariants as error;
 ghost use Rattle.ei_backend.specs.Outside.{Piece, Rose};
 ghost use Rattle.reis_prog.specs.Words.{command_of};
-ghost use Rattle.reis_prog.specs.Run.{end_text, request_lines, report_of, status_of, Tells, TellsReport};
+ghost use Rattle.reis_prog.specs.Run.{end_text, request_lines, report_of, status_of, HasBadLine, Tells, TellsReport};
 
 use crate::held::Held;
 use crate::hex_source::HexSource;
@@ -120,6 +121,7 @@ fn session<I: Input, C: Clock>(
     reply: &mut Tray,
     requests: &mut Vec<EisRequest>,
 ) -> Result<Ended, Error>
+    ensures read_fault { IsErrOf result error.ReadFault → Rose (I.faults input.old) (I.faults input.new) ⊎ HasBadLine (I.text input.old) }
     ensures later_input { I.later input.old input.new }
     ensures later_clock { C.later clock.old clock.new }
 {
@@ -131,6 +133,7 @@ fn session<I: Input, C: Clock>(
 }
 
 /// Serves, and tells the report.
+#[tactic(auto, using(crate::proofs::ReadFaults::only_read_fault))]
 fn serve_and_tell<I: Input, O: Sink, C: Clock>(
     alloc: Global,
     setup: Setup,
@@ -140,6 +143,7 @@ fn serve_and_tell<I: Input, O: Sink, C: Clock>(
 ) -> u8
     ensures told { (held : Piece) → O.taken output.old ≡ Some held → TellsReport held result (O.taken output.new) }
     ensures served { result ≡ 2 → ⊥ }
+    ensures read_fault { result ≡ 3 → Rose (I.faults input.old) (I.faults input.new) ⊎ HasBadLine (I.text input.old) }
     ensures later_input { I.later input.old input.new }
     ensures later_clock { C.later clock.old clock.new }
     ensures fault { result ≡ 4 → Rose (O.faults output.old) (O.faults output.new) }
@@ -190,6 +194,7 @@ pub fn run<I: Input, O: Sink, C: Clock>(
         TellsReport held result (O.taken output.new) }
     ensures served { IsSome (command_of words.now) → result ≡ 2 → ⊥ }
     // the input and the clock
+    ensures read_fault { result ≡ 3 → Rose (I.faults input.old) (I.faults input.new) ⊎ HasBadLine (I.text input.old) }
     ensures later_input { I.later input.old input.new }
     ensures later_clock { C.later clock.old clock.new }
     // the output
