@@ -1,11 +1,10 @@
 -- What a session says of the outside.
-use Rattle.std.proofs.Common.{◌≡◌, false, ◌≤◌, ◌+◌, ◌-◌, ◌^◌, ℕ, zero, suc, List, [], ◌∷◌, ◌++◌, length, take, Option, Some, Result, Ok, Err, refl, sym, ap, ◌∙◌, arith}
+use Rattle.std.proofs.Common.{◌≡◌, false, ◌≤◌, ◌+◌, ◌-◌, ◌^◌, ℕ, zero, suc, List, [], ◌∷◌, length, take, Option, Some, Result, Ok, Err, refl, ap, ◌∙◌, arith}
 use Rattle.std.specs.Prelude.{min, OnErr}
 use Rattle.std.specs.Option.{ForSome}
 use Rattle.std.proofs.lemmas.List.{append-nil}
 use Rattle.std.proofs.Math.Nat.{le_trans, min-le_left, min-le_right, le-min}
 use Rattle.ei_spec.specs.declared.handle.Handle.{Handle}
-use Rattle.ei_spec.specs.Interface.{ObjectView}
 use Rattle.ei_spec.specs.Message.{bytes_of}
 use Rattle.ei_backend.specs.Outside.{Piece, Rose, with_more}
 use Rattle.ei_backend.specs.Outgoing.{beside, sent_front}

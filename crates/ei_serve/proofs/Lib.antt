@@ -3,3 +3,16 @@ pub mod Causes
 pub mod NoHandles
 pub mod Standing
 pub mod Taking
+pub mod Going
+pub mod Stepping
+pub mod Handling
+pub mod ShakingFront
+pub mod ShakingSteps
+pub mod ShakingVersions
+pub mod ConversingRequests
+pub mod ConversingSeat
+pub mod Turns
+pub mod Histories
+pub mod Reading
+pub mod Serves
+pub mod Running

@@ -1,5 +1,5 @@
 -- The message at the front, as a server's endpoint takes it, and the arguments that the definitions read of it.
-use Rattle.std.proofs.Common.{◌≡◌, ℕ, ◌+◌, Bool, true, false, cond, eqb, List, [], ◌∷◌, length, drop, Option, Some, None, Result, Ok, Err, refl, sym, ap, ◌∙◌}
+use Rattle.std.proofs.Common.{◌≡◌, ℕ, ◌+◌, Bool, true, false, cond, eqb, List, length, drop, Option, Some, None, Result, Ok, Err, refl, ap, ◌∙◌}
 use Rattle.std.specs.Prelude.{MatchOption}
 use Rattle.ei_spec.specs.declared.handle.Handle.{Handle}
 use Rattle.ei_spec.specs.declared.interface.KnownInterface.{KnownInterface}
@@ -8,14 +8,13 @@ use Rattle.ei_spec.specs.Value.{Value}
 use Rattle.ei_spec.specs.Interface.{Known, ObjectView, short_of}
 use Rattle.ei_spec.specs.Reading.{Fault, InvalidOpcode, HeaderLength, MessageLength, Unread, Stop, ◌then◌, stopping, all_at}
 use Rattle.ei_spec.specs.Rows.{Row, Nothing, rows, row_at}
-use Rattle.ei_spec.specs.Message.{Raw, size, Front, Short, Unlawful, Whole, front}
+use Rattle.ei_spec.specs.Message.{Raw, size, Short, Unlawful, Whole, front}
 use Rattle.ei_spec.proofs.Faults.{IsNoHeader, StopsNoHeader, all_no_header}
 use Rattle.ei_spec.proofs.Handleless.{AreNoHandles, Got, got_of, all_alike}
 use Rattle.ei_backend.specs.Table.{TableView, found}
-use Rattle.ei_backend.specs.Message.{Parsed, announce, some_row, row_read}
-use Rattle.ei_backend.specs.Backend.{BackendView, Outcome, outcome, body_read, Answer, Waits, Refused, Gone, Message, next, of_target, said_of}
+use Rattle.ei_backend.specs.Message.{Parsed, announce, some_row}
+use Rattle.ei_backend.specs.Backend.{BackendView, Outcome, outcome, body_read, Answer, Waits, Refused, Gone, Message, next, said_of}
 use Rattle.ei_session.specs.Arguments.{whole, body_of, row_args, request_args}
-use Rattle.ei_serve.specs.Asking.{AllKnown, Takes, Unreadable}
 use Rattle.ei_serve.proofs.NoHandles.{KeepsTaken, all_keeps}
 
 -- a row that announces nothing and takes no handle

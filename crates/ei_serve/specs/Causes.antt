@@ -1,5 +1,5 @@
 -- What the answers of a session say of the outside.
-use Rattle.std.specs.Prelude.{◌≡◌, ℕ, ◌≤◌, List, [], length, take, Option, Some, Result, Ok, Err}
+use Rattle.std.specs.Prelude.{◌≡◌, ℕ, ◌≤◌, [], length, take, Option, Some, Result, Ok, Err}
 use Rattle.ei_spec.specs.Piece.{Piece}
 use Rattle.ei_spec.specs.Message.{bytes_of}
 use Rattle.ei_backend.specs.Outside.{with_more}

@@ -5,8 +5,11 @@
 //! whole session, or with `Session`, which takes one piece a turn.
 #![tactic(auto)]
 
+mod asking;
+mod conversing;
 mod phase;
 mod session;
+mod shaking;
 mod whole;
 
 pub use session::{Ended, Session, Setup, Turn};

@@ -1,20 +1,30 @@
 //! The two phases of a session, message by message.
 
-ghost use Rattle.std.specs.Prelude.{◌≡◌, ◌≤◌, Some, IsErrOf, OnOk, OnErr, IfErr};
+ghost use Rattle.std.specs.Prelude.{◌≡◌, ◌≤◌, ◌↔◌, List, [], ℕ, true, false, length, Some, IsTrue, IsErrOf, OnOk, OnErr, IfOk, IfErr};
+ghost use Rattle.ei_spec.specs.declared.handle.Handle.{Handle};
+ghost use Rattle.ei_spec.specs.Message.{Raw};
 ghost use Rattle.ei_types.specs.declared.error.Error.TheVariants as error;
 ghost use Rattle.ei_wire.specs.declared.error.ReadError.TheVariants as read_error;
 ghost use Rattle.ei_backend.specs.Outside.{Piece, Rose};
+ghost use Rattle.ei_backend.specs.declared.outside.LastAnswer.TheVariants as answers;
+ghost use Rattle.ei_session.specs.Setup.{Setup as Started};
+ghost use Rattle.ei_session.specs.Handshake.{connected, is_finish};
+ghost use Rattle.ei_serve.specs.declared.phase.Phase.TheVariants as phases;
 ghost use Rattle.ei_serve.specs.Causes.{Greeted, GreetedInPart, NoFault, RefusesToStart};
-ghost use Rattle.ei_serve.specs.Asking.{AllKnown, Asks, header_length_of, requested_as, unreadable_as};
+ghost use Rattle.ei_serve.specs.Standing.{StandsAt, setup_of};
+ghost use Rattle.ei_serve.specs.Steps.{Steps, HandsOverIn, ConnectsPhase};
+ghost use Rattle.ei_serve.specs.Taking.{ReadsPhase};
+ghost use Rattle.ei_serve.specs.Turning.{HandlesAll};
 
-use crate::session::Setup;
-use ei_backend::{Clock, PendingRequestResult, Sink, Source};
+use crate::conversing::{connect, converse};
+use crate::session::{Setup, Turn};
+use crate::shaking::{Shaken, shake};
+use ei_backend::{Clock, Sink, Source};
 use ei_handshake::{EisHandshakeResp, EisHandshaker};
 use ei_request::{EisRequest, EisRequestConverter};
-use ei_server::{Context, Request, handshake};
-use ei_spec::KnownInterface;
+use ei_server::Context;
 use ei_types::Error;
-use ei_wire::{ParseError, ReadError};
+use ei_wire::ReadError;
 use std::alloc::Global;
 use std::mem;
 
@@ -39,14 +49,6 @@ pub(crate) enum Step {
     Disconnect,
 }
 
-/// What became of the message at the front during the handshake.
-#[derive(Drop)]
-enum Shaken {
-    Waiting,
-    Handled,
-    Complete(EisHandshakeResp),
-}
-
 impl Phase {
     /// Greets the client.
     pub(crate) fn start<K: Sink>(
@@ -54,6 +56,7 @@ impl Phase {
         initial_serial: u32,
         sink: &mut K,
     ) -> Result<Phase, Error>
+        ensures stands { (setup : Started) → setup.serial ≡ initial_serial → IfOk result (λ phase. StandsAt setup [] [] [] phase) }
         ensures only { IfErr result RefusesToStart }
         ensures greeted { OnOk result ((held : Piece) → K.taken sink.old ≡ Some held → Greeted held (K.taken sink.new)) }
         ensures greeted_in_part { OnErr result ((held : Piece) → K.taken sink.old ≡ Some held → GreetedInPart held (K.taken sink.new)) }
@@ -67,16 +70,24 @@ impl Phase {
         Ok(Phase::Handshake(context, handshaker))
     }
 
-    pub(crate) fn is_over(&self) -> bool {
+    /// Whether it is over.
+    pub(crate) fn is_over(&self) -> bool
+        ensures { IsTrue result ↔ (self.now ≡ phases.Over) }
+    {
         matches!(self, Phase::Over)
     }
 
-    pub(crate) fn is_connected(&self) -> bool {
+    /// Whether the connection stands.
+    pub(crate) fn is_connected(&self) -> bool
+        ensures { (setup : Started) (past : List Raw) (rest : List ℕ) (handles : List Handle) → StandsAt setup past rest handles self.now → result ≡ connected past }
+    {
         matches!(self, Phase::Connected(_))
     }
 
     /// How many bytes came and are not read yet.
-    pub(crate) fn unread_len(&self) -> usize {
+    pub(crate) fn unread_len(&self) -> usize
+        ensures { (setup : Started) (past : List Raw) (rest : List ℕ) (handles : List Handle) → StandsAt setup past rest handles self.now → result ≡ length rest }
+    {
         match self {
             Phase::Handshake(context, _) => context.unread_len(),
             Phase::Connected(converter) => converter.handle().context().unread_len(),
@@ -86,6 +97,13 @@ impl Phase {
 
     /// Takes a piece.
     pub(crate) fn read<S: Source>(&mut self, source: &mut S) -> Result<usize, ReadError>
+        ensures reads { (setup : Started) (past : List Raw) (rest : List ℕ) (handles : List Handle) →
+            StandsAt setup past rest handles self.old →
+            ReadsPhase setup past rest handles result self.new (S.left source.old) (S.left source.new) }
+        ensures last_end { (setup : Started) (past : List Raw) (rest : List ℕ) (handles : List Handle) →
+            StandsAt setup past rest handles self.old →
+            IsErrOf result read_error.UnexpectedEof → S.last source.new ≡ answers.End }
+        ensures last_fault { IsErrOf result read_error.ReadFault → S.last source.new ≡ answers.Fault }
         ensures read_fault { IsErrOf result read_error.ReadFault → Rose (S.faults source.old) (S.faults source.new) }
         ensures read_faults { S.faults source.old ≤ S.faults source.new }
         ensures later_source { S.later source.old source.new }
@@ -106,6 +124,9 @@ impl Phase {
         clock: &mut C,
         out: &mut Vec<EisRequest>,
     ) -> Result<Step, Error>
+        ensures steps { (past : List Raw) (rest : List ℕ) (handles : List Handle) →
+            StandsAt (setup_of setup) past rest handles self.old →
+            Steps (setup_of setup) past rest handles result self.new out.old.items out.new.items (K.taken sink.old) (K.taken sink.new) }
         ensures write_fault { IsErrOf result error.WriteFault → Rose (K.faults sink.old) (K.faults sink.new) }
         ensures write_faults { K.faults sink.old ≤ K.faults sink.new }
         ensures later_sink { K.later sink.old sink.new }
@@ -126,7 +147,7 @@ impl Phase {
         }
     }
 
-    /// Goes over to the connection, and announces the seat.
+    /// Goes over to the connection.
     fn connect<K: Sink>(
         &mut self,
         alloc: Global,
@@ -134,143 +155,49 @@ impl Phase {
         setup: Setup,
         sink: &mut K,
     ) -> Result<(), Error>
+        ensures connects { (before : List Raw) (finish : Raw) (after : List ℕ) (handles : List Handle) →
+            connected before ≡ false → is_finish finish ≡ true →
+            HandsOverIn (setup_of setup) before after handles resp self.old →
+            ConnectsPhase (setup_of setup) before finish after handles result self.new (K.taken sink.old) (K.taken sink.new) }
         ensures write_fault { IsErrOf result error.WriteFault → Rose (K.faults sink.old) (K.faults sink.new) }
         ensures write_faults { K.faults sink.old ≤ K.faults sink.new }
         ensures later_sink { K.later sink.old sink.new }
         ensures no_read_fault { IsErrOf result error.ReadFault → ⊥ }
     {
-        if let Phase::Handshake(context, _) = mem::replace(self, Phase::Over) {
-            let mut converter = EisRequestConverter::new(
-                alloc,
-                context,
-                resp,
-                setup.initial_serial,
-            );
-            let handle = converter.handle_mut();
-            handle.add_seat(None, setup.capabilities)?;
-            handle.context_mut().flush(sink)?;
-            *self = Phase::Connected(converter);
-        }
+        let Phase::Handshake(context, _) = mem::replace(self, Phase::Over) else {
+            return Ok(());
+        };
+        *self = Phase::Connected(connect(alloc, context, resp, setup, sink)?);
         Ok(())
     }
-}
 
-/// Whether a client must announce the interface of this name.
-fn is_required(name: &str) -> bool {
-    matches!(
-        KnownInterface::from_name(name),
-        Some(KnownInterface::Connection | KnownInterface::Callback | KnownInterface::Pingpong)
-    )
-}
-
-/// The length of a header, where that is what is wrong.
-fn header_length(error: &ParseError) -> Option<u32>
-    ensures { result ≡ header_length_of error.now }
-{
-    match error {
-        ParseError::HeaderLength(length) => Some(*length),
-        _ => None,
-    }
-}
-
-/// Why a message that can't be read is refused.
-fn unreadable(error: &ParseError) -> Error
-    ensures { result ≡ unreadable_as error.now }
-{
-    match header_length(error) {
-        Some(length) => Error::Parse(ParseError::HeaderLength(length)),
-        None => Error::NotBuilt,
-    }
-}
-
-/// The request at the front, or why it is refused.
-fn requested(pending: Option<PendingRequestResult<Request>>) -> Result<Option<Request>, Error>
-    ensures { result ≡ requested_as pending }
-{
-    match pending {
-        None => Ok(None),
-        Some(PendingRequestResult::Request(request)) => Ok(Some(request)),
-        Some(PendingRequestResult::ParseError(error)) => Err(unreadable(&error)),
-        Some(PendingRequestResult::InvalidObject(_)) => Err(Error::NotBuilt),
-    }
-}
-
-/// The next request that is whole, taken out, if there is one.
-#[tactic(auto, using(crate::proofs::Asked::asks))]
-fn next_request(context: &mut Context) -> Result<Option<Request>, Error>
-    ensures no_fault { NoFault result }
-    ensures asks { AllKnown context.old.table → Asks context.old result context.new }
-{
-    let pending = context.pending_request()?;
-    requested(pending)
-}
-
-/// Whether the server takes a request of the handshake.
-fn is_taken(asked: &handshake::Request, handshaker: &EisHandshaker) -> bool {
-    match asked {
-        handshake::Request::Finish => handshaker.has_required(),
-        handshake::Request::InterfaceVersion { name, .. } => is_required(name.as_str()),
-    }
-}
-
-/// The request of the handshake, if the server takes it.
-fn taken(request: Request, handshaker: &EisHandshaker) -> Result<Request, Error>
-    ensures { NoFault result }
-{
-    match request {
-        Request::Handshake(proxy, asked) => {
-            if is_taken(&asked, handshaker) {
-                Ok(Request::Handshake(proxy, asked))
-            } else {
-                Err(Error::NotBuilt)
+    /// Handles every whole message.
+    #[tactic(auto, using(crate::proofs::Causes::rose_since))]
+    pub(crate) fn handle_messages<K: Sink, C: Clock>(
+        &mut self,
+        alloc: Global,
+        setup: Setup,
+        sink: &mut K,
+        clock: &mut C,
+        out: &mut Vec<EisRequest>,
+    ) -> Result<Turn, Error>
+        ensures handles { (past : List Raw) (rest : List ℕ) (handles : List Handle) →
+            StandsAt (setup_of setup) past rest handles self.old →
+            HandlesAll (setup_of setup) past rest handles result self.new out.old.items out.new.items (K.taken sink.old) (K.taken sink.new) }
+        ensures write_fault { IsErrOf result error.WriteFault → Rose (K.faults sink.old) (K.faults sink.new) }
+        ensures write_faults { K.faults sink.old ≤ K.faults sink.new }
+        ensures later_sink { K.later sink.old sink.new }
+        ensures no_read_fault { IsErrOf result error.ReadFault → ⊥ }
+        ensures later_clock { C.later clock.old clock.new }
+    {
+        // Each message has bytes, so there are no more messages than bytes.
+        for _message in 0..self.unread_len() {
+            match self.step(alloc, setup, sink, clock, out)? {
+                Step::Waiting => return Ok(Turn::GoOn),
+                Step::Handled => {}
+                Step::Disconnect => return Ok(Turn::Disconnect),
             }
         }
-        Request::Connection(_, _) => Err(Error::NotBuilt),
+        Ok(Turn::GoOn)
     }
-}
-
-/// Handles the message at the front during the handshake.
-fn shake(context: &mut Context, handshaker: &mut EisHandshaker) -> Result<Shaken, Error>
-    ensures { NoFault result }
-{
-    let Some(request) = next_request(context)? else {
-        return Ok(Shaken::Waiting);
-    };
-    let request = taken(request, handshaker)?;
-    match handshaker.handle_request(context, request)? {
-        None => Ok(Shaken::Handled),
-        Some(resp) => Ok(Shaken::Complete(resp)),
-    }
-}
-
-/// Handles the message at the front of the connection.
-fn converse<C: Clock>(
-    converter: &mut EisRequestConverter,
-    clock: &mut C,
-    out: &mut Vec<EisRequest>,
-) -> Result<Step, Error>
-    ensures no_fault { NoFault result }
-    ensures later_clock { C.later clock.old clock.new }
-{
-    let Some(request) = next_request(converter.handle_mut().context_mut())? else {
-        return Ok(Step::Waiting);
-    };
-    match request {
-        Request::Connection(proxy, asked) => {
-            converter.handle_request(clock, Request::Connection(proxy, asked))?;
-            hand_out(converter, out)?;
-            Ok(Step::Disconnect)
-        }
-        Request::Handshake(_, _) => Err(Error::NotBuilt),
-    }
-}
-
-/// Hands out the request that is queued.
-fn hand_out(converter: &mut EisRequestConverter, out: &mut Vec<EisRequest>) -> Result<(), Error>
-    ensures { NoFault result }
-{
-    if let Some(request) = converter.next_request() {
-        out.push(request)?;
-    }
-    Ok(())
 }

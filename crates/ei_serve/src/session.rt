@@ -1,11 +1,18 @@
 //! A session, piece by piece.
 
-ghost use Rattle.std.specs.Prelude.{◌≡◌, ◌≤◌, Some, IsErrOf, OnOk, OnErr, IfErr};
+ghost use Rattle.std.specs.Prelude.{◌≡◌, ◌≤◌, ◌↔◌, List, [], ℕ, ◌<◌, ◌^◌, nat_le, Some, Ok, false, IsTrue, IsErrOf, OnOk, OnErr, IfOk, IfErr};
+ghost use Rattle.ei_spec.specs.declared.handle.Handle.{Handle};
+ghost use Rattle.ei_spec.specs.Message.{Raw};
+ghost use Rattle.ei_session.specs.Setup.{Setup as Started};
 ghost use Rattle.ei_types.specs.declared.error.Error.TheVariants as error;
 ghost use Rattle.ei_backend.specs.Outside.{Piece, Rose};
 ghost use Rattle.ei_serve.specs.Causes.{Greeted, GreetedInPart, RefusesToStart};
+ghost use Rattle.ei_backend.specs.declared.outside.LastAnswer.TheVariants as answers;
+ghost use Rattle.ei_serve.specs.Standing.{Stands, StandsAt, IsOver, setup_of};
+ghost use Rattle.ei_serve.specs.Taking.{TakesPiece, piece_came};
+ghost use Rattle.ei_serve.specs.Turning.{Turns, IsAtEnd, goes_on, at_end};
 
-use crate::phase::{Phase, Step};
+use crate::phase::Phase;
 use ei_backend::{Clock, Sink, Source};
 use ei_request::EisRequest;
 use ei_types::{DeviceCapabilities, Error};
@@ -57,6 +64,8 @@ impl Session {
     ///
     /// `WriteFault` where the sink failed, `NoMemory` where memory ran out.
     pub fn start<K: Sink>(alloc: Global, setup: Setup, sink: &mut K) -> Result<Session, Error>
+        // it stands for no pieces
+        ensures stands { IfOk result (λ session. Stands (setup_of setup) [] session) }
         ensures only { IfErr result RefusesToStart }
         // the greeting goes out first
         ensures greeted { OnOk result ((held : Piece) → K.taken sink.old ≡ Some held → Greeted held (K.taken sink.new)) }
@@ -76,7 +85,9 @@ impl Session {
     }
 
     /// Whether an answer other than `GoOn` came.
-    pub fn is_over(&self) -> bool {
+    pub fn is_over(&self) -> bool
+        ensures { IsTrue result ↔ IsOver self.now }
+    {
         self.phase.is_over()
     }
 
@@ -95,6 +106,12 @@ impl Session {
         clock: &mut C,
         out: &mut Vec<EisRequest>,
     ) -> Result<Turn, Error>
+        // over a session that stands for the pieces taken so far
+        ensures turns { (setup : Started) (pieces : List Piece) → Stands setup pieces self.old →
+            Turns setup pieces result self.new (S.left source.old) (S.left source.new) out.old.items out.new.items (K.taken sink.old) (K.taken sink.new) }
+        ensures last_end { (setup : Started) (pieces : List Piece) → Stands setup pieces self.old → IsAtEnd result → S.last source.new ≡ answers.End }
+        ensures last_fault { IsErrOf result error.ReadFault → S.last source.new ≡ answers.Fault }
+        ensures over { goes_on result ≡ false → IsOver self.new }
         // what the source says
         ensures read_fault { IsErrOf result error.ReadFault → Rose (S.faults source.old) (S.faults source.new) }
         ensures read_faults { S.faults source.old ≤ S.faults source.new }
@@ -106,14 +123,10 @@ impl Session {
         // what the clock says
         ensures later_clock { C.later clock.old clock.new }
     {
-        let answer = self.take_turn(source, sink, clock, out);
-        if !matches!(answer, Ok(Turn::GoOn)) {
-            self.phase = Phase::Over;
-        }
-        answer
+        self.take_turn(source, sink, clock, out)
     }
 
-    /// The turn, with the phase left as it is at an answer.
+    /// The turn. The session is over after an answer other than `GoOn`.
     fn take_turn<S: Source, K: Sink, C: Clock>(
         &mut self,
         source: &mut S,
@@ -121,6 +134,39 @@ impl Session {
         clock: &mut C,
         out: &mut Vec<EisRequest>,
     ) -> Result<Turn, Error>
+        ensures turns { (setup : Started) (pieces : List Piece) → Stands setup pieces self.old →
+            Turns setup pieces result self.new (S.left source.old) (S.left source.new) out.old.items out.new.items (K.taken sink.old) (K.taken sink.new) }
+        ensures last_end { (setup : Started) (pieces : List Piece) → Stands setup pieces self.old → IsAtEnd result → S.last source.new ≡ answers.End }
+        ensures last_fault { IsErrOf result error.ReadFault → S.last source.new ≡ answers.Fault }
+        ensures over { goes_on result ≡ false → IsOver self.new }
+        ensures read_fault { IsErrOf result error.ReadFault → Rose (S.faults source.old) (S.faults source.new) }
+        ensures read_faults { S.faults source.old ≤ S.faults source.new }
+        ensures later_source { S.later source.old source.new }
+        ensures write_fault { IsErrOf result error.WriteFault → Rose (K.faults sink.old) (K.faults sink.new) }
+        ensures write_faults { K.faults sink.old ≤ K.faults sink.new }
+        ensures later_sink { K.later sink.old sink.new }
+        ensures later_clock { C.later clock.old clock.new }
+    {
+        let answer = self.try_turn(source, sink, clock, out);
+        if goes_on(&answer) {
+            return answer;
+        }
+        self.phase = Phase::Over;
+        answer
+    }
+
+    /// The turn, with the phase left as it is at an answer.
+    fn try_turn<S: Source, K: Sink, C: Clock>(
+        &mut self,
+        source: &mut S,
+        sink: &mut K,
+        clock: &mut C,
+        out: &mut Vec<EisRequest>,
+    ) -> Result<Turn, Error>
+        ensures turns { (setup : Started) (pieces : List Piece) → Stands setup pieces self.old →
+            Turns setup pieces result self.new (S.left source.old) (S.left source.new) out.old.items out.new.items (K.taken sink.old) (K.taken sink.new) }
+        ensures last_end { (setup : Started) (pieces : List Piece) → Stands setup pieces self.old → IsAtEnd result → S.last source.new ≡ answers.End }
+        ensures last_fault { IsErrOf result error.ReadFault → S.last source.new ≡ answers.Fault }
         ensures read_fault { IsErrOf result error.ReadFault → Rose (S.faults source.old) (S.faults source.new) }
         ensures read_faults { S.faults source.old ≤ S.faults source.new }
         ensures later_source { S.later source.old source.new }
@@ -130,56 +176,68 @@ impl Session {
         ensures later_clock { C.later clock.old clock.new }
     {
         if !self.take_piece(source)? {
-            return if self.phase.is_connected() {
-                Ok(Turn::End)
-            } else {
-                Err(Error::UnexpectedEof)
-            };
+            return at_end(self.phase.is_connected());
         }
-        self.handle_messages(sink, clock, out)
+        self.phase
+            .handle_messages(self.alloc, self.setup, sink, clock, out)
     }
 
     /// Takes a piece; false at the source's end.
     fn take_piece<S: Source>(&mut self, source: &mut S) -> Result<bool, Error>
+        ensures takes { (setup : Started) (pieces : List Piece) → Stands setup pieces self.old →
+            TakesPiece setup pieces self.old result self.new (S.left source.old) (S.left source.new) }
         ensures read_fault { IsErrOf result error.ReadFault → Rose (S.faults source.old) (S.faults source.new) }
         ensures read_faults { S.faults source.old ≤ S.faults source.new }
         ensures later_source { S.later source.old source.new }
         ensures no_write_fault { IsErrOf result error.WriteFault → ⊥ }
+        ensures last_end { (setup : Started) (pieces : List Piece) → Stands setup pieces self.old → result ≡ Ok false → S.last source.new ≡ answers.End }
+        ensures last_fault { IsErrOf result error.ReadFault → S.last source.new ≡ answers.Fault }
     {
-        let is_full = self.taken >= self.setup.pieces;
-        match self.phase.read(source) {
-            Ok(_) | Err(ReadError::HandleLimit) if is_full => Err(Error::PieceLimit),
-            Ok(_) => {
-                self.taken = self.taken.saturating_add(1);
-                Ok(true)
-            }
-            Err(ReadError::UnexpectedEof) => Ok(false),
-            Err(error) => Err(Error::from(error)),
+        let is_full = is_full(self.taken, self.setup.pieces);
+        let read = self.phase.read(source);
+        if !piece_came(is_full, read)? {
+            return Ok(false);
         }
+        self.taken = self.taken.saturating_add(1);
+        Ok(true)
     }
+}
 
-    /// Handles every whole message.
-    #[tactic(auto, using(crate::proofs::Causes::rose_since))]
-    fn handle_messages<K: Sink, C: Clock>(
-        &mut self,
-        sink: &mut K,
-        clock: &mut C,
-        out: &mut Vec<EisRequest>,
-    ) -> Result<Turn, Error>
-        ensures write_fault { IsErrOf result error.WriteFault → Rose (K.faults sink.old) (K.faults sink.new) }
-        ensures write_faults { K.faults sink.old ≤ K.faults sink.new }
-        ensures later_sink { K.later sink.old sink.new }
-        ensures no_read_fault { IsErrOf result error.ReadFault → ⊥ }
-        ensures later_clock { C.later clock.old clock.new }
-    {
-        // Each message has bytes, so there are no more messages than bytes.
-        for _message in 0..=self.phase.unread_len() {
-            match self.phase.step(self.alloc, self.setup, sink, clock, out)? {
-                Step::Waiting => return Ok(Turn::GoOn),
-                Step::Handled => {}
-                Step::Disconnect => return Ok(Turn::Disconnect),
-            }
-        }
-        Ok(Turn::GoOn)
+/// Whether as many pieces were taken as may be.
+fn is_full(taken: u32, limit: u32) -> bool
+    ensures is { result ≡ nat_le limit taken }
+    ensures in_range { limit < 2 ^ 32 }
+{
+    taken >= limit
+}
+
+/// Whether a piece came, where no more may be taken or where one may.
+fn piece_came(is_full: bool, read: Result<usize, ReadError>) -> Result<bool, Error>
+    ensures { result ≡ piece_came is_full read }
+{
+    match read {
+        Ok(_) if is_full => Err(Error::PieceLimit),
+        Ok(_) => Ok(true),
+        Err(ReadError::HandleLimit) if is_full => Err(Error::PieceLimit),
+        Err(ReadError::UnexpectedEof) => Ok(false),
+        Err(error) => Err(Error::from(error)),
     }
+}
+
+/// What the source's end means, after the connection or before it.
+fn at_end(is_connected: bool) -> Result<Turn, Error>
+    ensures { result ≡ at_end is_connected }
+{
+    if is_connected {
+        Ok(Turn::End)
+    } else {
+        Err(Error::UnexpectedEof)
+    }
+}
+
+/// Whether the session goes on after the answer.
+fn goes_on(answer: &Result<Turn, Error>) -> bool
+    ensures { result ≡ goes_on answer.now }
+{
+    matches!(answer, Ok(Turn::GoOn))
 }

@@ -1,8 +1,11 @@
 use Rattle.std.proofs.Common.{◌≤◌}
+use Rattle.ei_serve.specs.Standing.{setup_of}
+use Rattle.ei_serve.proofs.Running.{Running}
 use Rattle.ei_serve.proofs.whole.serve.Given as goal
 
 abbrev pub invariant-loop-turn : goal.invariant-loop-turn
 invariant-loop-turn g l = record {
+  running : Running (setup_of l.fn.setup) l._turn l.session (g.S.Source.left l.fn.source) (g.S.Source.left l.source) l.fn.out.items l.out.items (g.K.Sink.taken l.fn.sink) (g.K.Sink.taken l.sink);
   read_faults : g.S.Source.faults l.fn.source ≤ g.S.Source.faults l.source;
   write_faults : g.K.Sink.faults l.fn.sink ≤ g.K.Sink.faults l.sink;
   later_source : g.S.Source.later l.fn.source l.source;

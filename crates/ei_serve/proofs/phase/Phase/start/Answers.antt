@@ -3,6 +3,7 @@ use Rattle.ei_backend.specs.Outside.{Piece}
 use Rattle.ei_serve.specs.Causes.{GreetedInPart}
 use Rattle.ei_serve.proofs.Standing.{handshake_there}
 use Rattle.ei_serve.proofs.Causes.{greets, greeted, greeted_in_part, on_err}
+use Rattle.ei_serve.proofs.Reading.{starts}
 use Rattle.ei_serve.proofs.phase.Phase.start.Goals as goal
 
 pub new-requires-2 : goal.new-requires-2
@@ -15,3 +16,6 @@ returns-in_err-flush-clause-greeted_in_part g c = on_err c.from_residual-in_err-
 
 pub returns-clause-greeted : goal.returns-clause-greeted
 returns-clause-greeted g c = λ held told. greeted held _ _ (greets _ _ c.in_ok-context.ensures c.in_ok-handshaker.ensures.greets) (c.in_ok-flush.ensures.took held told)
+
+pub returns-clause-stands : goal.returns-clause-stands
+returns-clause-stands g c = λ setup same. starts setup c.args.initial_serial _ _ _ _ c.in_ok-context.ensures c.in_ok-handshaker.ensures.greets c.in_ok-handshaker.ensures.fresh c.in_ok-flush.ensures.stops c.in_ok-flush.ensures.kept same

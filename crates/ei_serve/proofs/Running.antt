@@ -1,0 +1,113 @@
+-- A session on its way: what it took, gave and replied since its start.
+use Rattle.std.proofs.Common.{◌≡◌, ℕ, zero, suc, ◌+◌, ◌≤◌, List, [], ◌∷◌, ◌++◌, length, take, drop, Option, Some, refl, ap, sym, subst, ◌∙◌, arith}
+use Rattle.std.specs.Prelude.{slice_get}
+use Rattle.std.proofs.lemmas.List.{length-append, drop-drop}
+use Rattle.std.proofs.lemmas.Grind.{flat_map-append}
+use Rattle.ei_spec.specs.Message.{Raw, front, bytes_of, all_bytes}
+use Rattle.ei_spec.specs.Piece.{Piece, stream, handle_count}
+use Rattle.ei_spec.specs.Stream.{Waiting, Reading, reading, read, read_within}
+use Rattle.ei_session.specs.Setup.{Setup}
+use Rattle.ei_session.specs.Framed.{framed}
+use Rattle.ei_session.specs.Replies.{replies}
+use Rattle.ei_session.specs.Built.{Refusal as Cause}
+use Rattle.ei_session.specs.Session.{accepted, reading_of}
+use Rattle.ei_backend.specs.Outside.{with_more}
+use Rattle.ei_request.specs.declared.event.EisRequest.{EisRequest}
+use Rattle.ei_serve.specs.declared.session.Session.{Session}
+use Rattle.ei_serve.specs.Standing.{Stands, StandsAt, setup_of}
+use Rattle.ei_serve.specs.Steps.{Gives, Replies}
+use Rattle.ei_serve.specs.Taking.{Hands, with_next}
+use Rattle.ei_serve.specs.Turning.{GoesOn}
+use Rattle.ei_serve.specs.Serving.{Replied}
+use Rattle.ei_serve.proofs.Going.{gives_none, gives_then, more_more}
+
+-- of the pieces told, the first n were taken, and they are these
+pub record Took (told : List Piece) (left : Option (List Piece)) (n : ℕ) (pieces : List Piece) : Type 0 where
+  pub within : n ≤ length told
+  pub left_is : left ≡ Some (drop n told)
+  pub are : take n told ≡ pieces
+
+-- after n turns
+pub record Running (setup : Setup) (n : ℕ) (s : Session) (left_old left_new : Option (List Piece)) (out_old out_new : List EisRequest) (took_old took_new : Option Piece) : Type 0 where
+  pub pieces : List Piece
+  pub count : length pieces ≡ n
+  pub stands : Stands setup pieces s
+  pub took : (told : List Piece) → left_old ≡ Some told → Took told left_new n pieces
+  pub gives : Gives setup [] (accepted (stream pieces)) out_old out_new
+  pub replied : Replied setup (accepted (stream pieces)) took_old took_new
+
+-- ---- the pieces told
+
+-- the first piece of those behind n others is the next
+front_more : (n : ℕ) (told : List Piece) (piece : Piece) → slice_get (drop n told) 0 ≡ Some piece → (take (n + 1) told ≡ take n told ++ piece ∷ []) × (n + 1 ≤ length told)
+front_more zero [] piece e = absurd cc
+front_more zero (p ∷ told) piece e = let same : p ≡ piece = cc in (ap (λ (x : Piece). x ∷ []) same, omega arith)
+front_more (suc n) [] piece e = absurd cc
+front_more (suc n) (p ∷ told) piece e =
+    let h = front_more n told piece e in
+    let shift : suc n + 1 ≡ suc (n + 1) = omega arith in
+    (ap (λ (k : ℕ). take k (p ∷ told)) shift ∙ ap (λ (x : List Piece). p ∷ x) h.0, omega (arith, h.1))
+
+pub took_more : (told : List Piece) (left left_new : Option (List Piece)) (n : ℕ) (pieces : List Piece) (piece : Piece) → Took told left n pieces → Hands left piece left_new → Took told left_new (n + 1) (with_next pieces piece)
+took_more told left left_new n pieces piece t hands =
+    let h = hands (drop n told) t.left_is in
+    let f = front_more n told piece h.first in
+    record {
+      within = f.1;
+      left_is = h.left_is ∙ ap (λ (x : List Piece). Some x) (drop-drop 1 n told);
+      are = f.0 ∙ ap (λ (x : List Piece). x ++ piece ∷ []) t.are;
+    }
+
+-- ---- the replies
+
+joined_bytes : (a b : List Raw) → all_bytes (a ++ b) ≡ all_bytes a ++ all_bytes b
+joined_bytes a b = flat_map-append bytes_of a b
+
+pub replied_then : (setup : Setup) (a b : List Raw) (x y z : Option Piece) → Replied setup a x y → Replies setup a b y z → Replied setup b x z
+replied_then setup a b x y z r s held told =
+    let q = s (with_more (all_bytes (replies setup a)) [] held) (r held told) in
+    q.2 ∙ ap (λ (t : Piece). Some t) (more_more (all_bytes (replies setup a)) (all_bytes q.0) held)
+    ∙ ap (λ (t : List ℕ). Some (with_more t [] held)) (sym (joined_bytes (replies setup a) q.0) ∙ ap all_bytes (sym q.1))
+
+-- ---- one turn more
+
+pub goes_on : (setup : Setup) (n : ℕ) (s t : Session) (left left_now left_new : Option (List Piece)) (x y z : List EisRequest) (a b c : Option Piece) (r : Running setup n s left left_now x y a b) → GoesOn setup r.pieces t left_now left_new y z b c → Running setup (n + 1) t left left_new x z a c
+goes_on setup n s t left left_now left_new x y z a b c r g = record {
+  pieces = with_next r.pieces g.piece;
+  count = length-append r.pieces (g.piece ∷ []) ∙ ap (λ (k : ℕ). k + 1) r.count;
+  stands = g.stands;
+  took = λ told e. took_more told left_now left_new n r.pieces g.piece (r.took told e) g.hands;
+  gives = gives_then setup [] (accepted (stream r.pieces)) (accepted (stream (with_next r.pieces g.piece))) x y z r.gives g.goes.gives;
+  replied = replied_then setup (accepted (stream r.pieces)) (accepted (stream (with_next r.pieces g.piece))) a b c r.replied g.goes.replies;
+}
+
+-- nothing is read of no pieces
+pub nothing_read : reading_of (stream []) ≡ reading [] [] Waiting
+unfolding reading_of stream read read_within front
+nothing_read = refl
+
+none_accepted : accepted (stream []) ≡ []
+none_accepted = ap (λ (r : Reading Cause). r.past) nothing_read
+
+-- a session that just started stands for no pieces
+pub stands_for_none : (setup : Setup) (s : Session) → setup_of s.setup ≡ setup → StandsAt setup [] [] [] s.phase → s.taken ≡ 0 → Stands setup [] s
+unfolding handle_count
+stands_for_none setup s started phase taken = record {
+  started = started;
+  goes_on = λ k low high. absurd (omega (arith, low, high));
+  waits = ap (λ (r : Reading Cause). r.stop) nothing_read;
+  unread = [];
+  phase = subst (λ (r : Reading Cause). StandsAt setup r.past r.rest [] s.phase) (sym nothing_read) phase;
+  handles = refl;
+  taken = taken;
+}
+
+pub starts : (setup : Setup) (s : Session) (left : Option (List Piece)) (out : List EisRequest) (old new : Option Piece) → Stands setup [] s → Replied setup [] old new → Running setup 0 s left left out out old new
+starts setup s left out old new stands r = record {
+  pieces = [];
+  count = refl;
+  stands = stands;
+  took = λ told e. record { within = omega arith; left_is = e; are = refl };
+  gives = gives_none setup [] (accepted (stream [])) out (λ readings. ap (framed setup readings) none_accepted);
+  replied = subst (λ (m : List Raw). Replied setup m old new) (sym none_accepted) r;
+}

@@ -1,0 +1,44 @@
+use Rattle.std.proofs.Common.{◌∙◌, ap, Err}
+use Rattle.std.proofs.lemmas.Result.{err_from_is_err_and}
+use Rattle.ei_types.specs.declared.error.Error.{Error}
+use Rattle.ei_serve.specs.Standing.{setup_of}
+use Rattle.ei_serve.proofs.Going.{goes_none}
+use Rattle.ei_serve.proofs.Stepping.{steps_refused, steps_cut_off, goes_quiet, goes_finish, converses}
+use Rattle.ei_serve.proofs.phase.Phase.step.Goals as goal
+
+pub returns-in_err-shake-in-Handshake-clause-steps : goal.returns-in_err-shake-in-Handshake-clause-steps
+returns-in_err-shake-in-Handshake-clause-steps g c = λ past rest handles h.
+    let p = err_from_is_err_and c.from_residual.result c.from_residual.ensures.1 in
+    let s = rw c.in-Handshake.is at h in
+    steps_refused (setup_of c.args.setup) past rest handles _ _ _ c.args.out.now.items _ (p.1 ∙ ap (λ (e : Error). Err e) p.2) (c.in_err-shake-in-Handshake.ensures.shakes (setup_of c.args.setup) past rest handles s)
+
+pub returns-in_err-connect-in-Complete-clause-steps : goal.returns-in_err-connect-in-Complete-clause-steps
+returns-in_err-connect-in-Complete-clause-steps g c = λ past rest handles h.
+    let p = err_from_is_err_and c.from_residual-in_err-connect-in-Complete.result c.from_residual-in_err-connect-in-Complete.ensures.1 in
+    let s = rw c.in-Handshake.is at h in
+    let k = rw c.in-Complete.is at (c.in_ok-shake-in-Handshake.ensures.shakes (setup_of c.args.setup) past rest handles s) in
+    steps_cut_off (setup_of c.args.setup) past rest handles _ _ k.0 k.1 _ c.args.out.now.items _ _ (p.1 ∙ ap (λ (e : Error). Err e) p.2) s.unfinished k.2 k.3 k.4 (c.in_err-connect-in-Complete.ensures.connects past k.0 k.1 handles s.unfinished k.4 k.5)
+
+pub returns-in-Waiting-clause-steps : goal.returns-in-Waiting-clause-steps
+returns-in-Waiting-clause-steps g c = λ past rest handles h.
+    let s = rw c.in-Handshake.is at h in
+    let k = rw c.in-Waiting.is at (c.in_ok-shake-in-Handshake.ensures.shakes (setup_of c.args.setup) past rest handles s) in
+    (k.0, k.1, goes_none (setup_of c.args.setup) past c.args.out.now.items _)
+
+pub returns-in-Handled-clause-steps : goal.returns-in-Handled-clause-steps
+returns-in-Handled-clause-steps g c = λ past rest handles h.
+    let s = rw c.in-Handshake.is at h in
+    let k = rw c.in-Handled.is at (c.in_ok-shake-in-Handshake.ensures.shakes (setup_of c.args.setup) past rest handles s) in
+    (k.0, k.1, k.2, k.3, k.5, goes_quiet (setup_of c.args.setup) past k.0 c.args.out.now.items _ s.unfinished k.4)
+
+pub returns-in_ok-connect-in-Complete-clause-steps : goal.returns-in_ok-connect-in-Complete-clause-steps
+returns-in_ok-connect-in-Complete-clause-steps g c = λ past rest handles h.
+    let s = rw c.in-Handshake.is at h in
+    let k = rw c.in-Complete.is at (c.in_ok-shake-in-Handshake.ensures.shakes (setup_of c.args.setup) past rest handles s) in
+    let d = c.in_ok-connect-in-Complete.ensures.connects past k.0 k.1 handles s.unfinished k.4 k.5 in
+    (k.0, k.1, k.2, k.3, d.0, goes_finish (setup_of c.args.setup) past k.0 c.args.out.now.items _ _ s.unfinished k.4 d.1)
+
+pub returns-in-Connected-clause-steps : goal.returns-in-Connected-clause-steps
+returns-in-Connected-clause-steps g c = λ past rest handles h.
+    let s = rw c.in-Connected.is at h in
+    converses (setup_of c.args.setup) past rest handles _ _ _ _ _ _ s (c.converse.ensures.converses (setup_of c.args.setup) past rest handles s)

@@ -1,0 +1,91 @@
+-- What a session stands for: the pieces that it took.
+use Rattle.std.specs.Prelude.{◌≡◌, ℕ, ◌≤◌, true, false, List, [], length}
+use Rattle.ei_spec.specs.declared.handle.Handle.{Handle}
+use Rattle.ei_spec.specs.declared.interface.KnownInterface.{KnownInterface}
+use Rattle.ei_spec.specs.declared.interface.KnownInterface.TheVariants as known
+use Rattle.ei_spec.specs.Interface.{Known, ObjectView}
+use Rattle.ei_spec.specs.Message.{Raw}
+use Rattle.ei_spec.specs.Piece.{Piece, stream, handle_count}
+use Rattle.ei_spec.specs.Stream.{Waiting}
+use Rattle.ei_types.specs.Capability.{bits_of}
+use Rattle.ei_session.specs.Setup.{Setup}
+use Rattle.ei_session.specs.Handshake.{connected, settled, version}
+use Rattle.ei_session.specs.Session.{reading_of, accepted, is_over}
+use Rattle.ei_backend.specs.Table.{TableView, new_table, first_server_id, own, with_own, without}
+use Rattle.ei_backend.specs.Backend.{BackendView}
+use Rattle.ei_handshake.specs.Versions.{VersionMap}
+use Rattle.ei_handshake.specs.Handshaker.{HandshakerView, settled_in}
+use Rattle.ei_request.specs.Converter.{ConverterView}
+use Rattle.ei_serve.specs.declared.phase.Phase.{Phase}
+use Rattle.ei_serve.specs.declared.phase.Phase.TheVariants as phase
+use Rattle.ei_serve.specs.declared.session.Setup.{Setup as Started}
+use Rattle.ei_serve.specs.declared.session.Session.{Session}
+
+-- the setup as the definitions see it
+abbrev pub setup_of : Started → Setup
+setup_of s = record { serial = s.initial_serial; capabilities = bits_of s.capabilities; pieces = s.pieces }
+
+-- ---- the objects
+
+-- object 0 alone
+abbrev pub handshake_table : TableView
+handshake_table = new_table false first_server_id
+
+-- the connection, which stands in object 0's place
+abbrev pub connection_object : ObjectView
+connection_object = own handshake_table (Known known.Connection) 1
+
+abbrev pub connection_table : TableView
+connection_table = without (with_own handshake_table (Known known.Connection) 1) 0
+
+-- the connection and its seat
+abbrev pub seat_table : ℕ → TableView
+seat_table v = with_own connection_table (Known known.Seat) v
+
+-- ---- the phases
+
+-- an open endpoint over these objects that has nothing to send
+abbrev pub quiet : TableView → List ℕ → List Handle → BackendView
+quiet table unread handles = record { table = table; unread = unread; handles = handles; unsent = []; unsent_handles = []; closed = false }
+
+-- the versions are those that the messages settled
+abbrev pub AreSettled : VersionMap → List Raw → Type 0
+AreSettled versions past = (interface : KnownInterface) → settled_in versions interface ≡ settled past interface
+
+-- after these messages, with these bytes and handles unread, it shakes hands
+pub record ShakesHands (setup : Setup) (past : List Raw) (rest : List ℕ) (handles : List Handle) (b : BackendView) (h : HandshakerView) : Type 0 where
+  pub unfinished : connected past ≡ false
+  pub endpoint : b ≡ quiet handshake_table rest handles
+  pub serial : h.serial ≡ setup.serial
+  pub versions : AreSettled h.versions past
+
+-- or the connection stands
+pub record IsConnected (setup : Setup) (past : List Raw) (rest : List ℕ) (handles : List Handle) (c : ConverterView) : Type 0 where
+  pub finished : connected past ≡ true
+  pub endpoint : c.handle.ctx ≡ quiet (seat_table (version past known.Seat)) rest handles
+  pub proxy : c.handle.proxy ≡ connection_object
+  pub versions : AreSettled c.handle.negotiated past
+  pub serial : c.handle.last_serial ≡ setup.serial
+  pub queue : c.queue ≡ []
+
+abbrev pub StandsAt : Setup → List Raw → List ℕ → List Handle → Phase → Type 0
+StandsAt setup past rest handles (phase.Handshake b h) = ShakesHands setup past rest handles b h
+StandsAt setup past rest handles (phase.Connected c) = IsConnected setup past rest handles c
+StandsAt setup past rest handles phase.Over = ⊥
+
+-- ---- the session
+
+-- The session was started with the setup, took these pieces, and goes on: it handled the messages of their
+-- stream, and what follows them is unread.
+pub record Stands (setup : Setup) (pieces : List Piece) (s : Session) : Type 0 where
+  pub started : setup_of s.setup ≡ setup
+  pub goes_on : (k : ℕ) → 1 ≤ k → k ≤ length pieces → is_over setup pieces k ≡ false
+  pub waits : (reading_of (stream pieces)).stop ≡ Waiting
+  pub unread : List Handle
+  pub phase : StandsAt setup (accepted (stream pieces)) (reading_of (stream pieces)).rest unread s.phase
+  pub handles : length unread ≡ handle_count pieces
+  pub taken : s.taken ≡ length pieces
+
+-- whether an answer other than `GoOn` came
+abbrev pub IsOver : Session → Type 0
+IsOver s = s.phase ≡ phase.Over

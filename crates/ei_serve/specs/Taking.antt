@@ -1,0 +1,68 @@
+-- What a source hands a session, and what reading it does.
+use Rattle.std.specs.Prelude.{◌≡◌, ◌≤◌, ◌<◌, ℕ, ◌+◌, Bool, true, false, List, [], ◌∷◌, ◌++◌, length, Option, Some, Result, Ok, Err}
+use Rattle.ei_spec.specs.declared.handle.Handle.{Handle}
+use Rattle.ei_spec.specs.Message.{Raw}
+use Rattle.ei_spec.specs.Piece.{Piece, stream, handle_count}
+use Rattle.ei_session.specs.Setup.{Setup}
+use Rattle.ei_session.specs.Session.{reading_of, accepted}
+use Rattle.ei_backend.specs.Incoming.{IsFirst, Fits, Overflows}
+use Rattle.ei_types.specs.Errors.{error_of_read}
+use Rattle.ei_types.specs.declared.error.Error.{Error}
+use Rattle.ei_types.specs.declared.error.Error.TheVariants as error
+use Rattle.ei_wire.specs.declared.error.ReadError.{ReadError}
+use Rattle.ei_wire.specs.declared.error.ReadError.TheVariants as read_error
+use Rattle.ei_serve.specs.declared.phase.Phase.{Phase}
+use Rattle.ei_serve.specs.declared.session.Session.{Session}
+use Rattle.ei_serve.specs.Standing.{Stands, StandsAt, setup_of}
+
+-- a source that told its pieces handed out the first
+abbrev pub Hands : Option (List Piece) → Piece → Option (List Piece) → Type 0
+Hands old piece new = (pieces : List Piece) → old ≡ Some pieces → IsFirst pieces new piece
+
+-- or had none left
+abbrev pub HasNone : Option (List Piece) → Option (List Piece) → Type 0
+HasNone old new = (pieces : List Piece) → old ≡ Some pieces → (pieces ≡ []) × (new ≡ Some [])
+
+-- or keeps what it had
+abbrev pub Keeps : Option (List Piece) → Option (List Piece) → Type 0
+Keeps old new = (pieces : List Piece) → old ≡ Some pieces → new ≡ Some pieces
+
+-- what reading a piece does to a phase
+abbrev pub ReadsPhase : Setup → List Raw → List ℕ → List Handle → Result ℕ ReadError → Phase → Option (List Piece) → Option (List Piece) → Type 0
+ReadsPhase setup past rest handles (Ok n) p old new = (piece : Piece) × Hands old piece new × Fits n handles piece × StandsAt setup past (rest ++ piece.bytes) (handles ++ piece.handles) p
+ReadsPhase setup past rest handles (Err read_error.HandleLimit) p old new = (piece : Piece) × Hands old piece new × Overflows handles piece
+ReadsPhase setup past rest handles (Err read_error.UnexpectedEof) p old new = HasNone old new × StandsAt setup past rest handles p
+ReadsPhase setup past rest handles (Err read_error.ReadFault) p old new = Keeps old new
+ReadsPhase setup past rest handles (Err read_error.NoMemory) p old new = Keeps old new
+
+-- the pieces taken so far, and one more behind them
+abbrev pub with_next : List Piece → Piece → List Piece
+with_next pieces piece = pieces ++ piece ∷ []
+
+-- the session took one more piece and has not looked at it
+pub record Holds (setup : Setup) (pieces : List Piece) (piece : Piece) (s : Session) : Type 0 where
+  pub started : setup_of s.setup ≡ setup
+  pub room : length pieces < setup.pieces
+  pub unread : List Handle
+  pub phase : StandsAt setup (accepted (stream pieces)) ((reading_of (stream pieces)).rest ++ piece.bytes) unread s.phase
+  pub handles : length unread ≡ handle_count (with_next pieces piece)
+  pub few : handle_count (with_next pieces piece) ≤ 4096
+  pub taken : s.taken ≡ length pieces + 1
+
+-- whether a piece came, where no more may be taken or where one may
+abbrev pub piece_came : Bool → Result ℕ ReadError → Result Bool Error
+piece_came true (Ok n) = Err error.PieceLimit
+piece_came false (Ok n) = Ok true
+piece_came true (Err read_error.HandleLimit) = Err error.PieceLimit
+piece_came full (Err read_error.UnexpectedEof) = Ok false
+piece_came full (Err e) = Err (error_of_read e)
+
+-- what taking a piece answers
+abbrev pub TakesPiece : Setup → List Piece → Session → Result Bool Error → Session → Option (List Piece) → Option (List Piece) → Type 0
+TakesPiece setup pieces s (Ok true) t old new = (piece : Piece) × Hands old piece new × Holds setup pieces piece t
+TakesPiece setup pieces s (Ok false) t old new = HasNone old new × Stands setup pieces t
+TakesPiece setup pieces s (Err error.PieceLimit) t old new = (piece : Piece) × Hands old piece new × (setup.pieces ≤ length pieces)
+TakesPiece setup pieces s (Err error.HandleLimit) t old new = (piece : Piece) × Hands old piece new × (length pieces < setup.pieces) × (4096 < handle_count (with_next pieces piece))
+TakesPiece setup pieces s (Err error.ReadFault) t old new = Keeps old new
+TakesPiece setup pieces s (Err error.NoMemory) t old new = Keeps old new
+TakesPiece setup pieces s (Err e) t old new = ⊥
