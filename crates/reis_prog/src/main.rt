@@ -4,6 +4,8 @@
 //! and `HexSource`, the pieces that a text spells.
 #![tactic(auto)]
 
+#[cfg(test)]
+mod cut_tests;
 mod held;
 mod hex_source;
 mod report;

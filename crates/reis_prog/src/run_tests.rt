@@ -1,7 +1,7 @@
 //! Whole runs in memory: words and a text, then the report and the status.
 
 use crate::run::run;
-use ei_backend::{MemoryText, Readings, Tray};
+use ei_backend::{Input, MemoryText, Readings, Tray};
 use ei_wire::{EiText, NoMemory};
 use std::alloc::Global;
 use std::test::Fail;
@@ -18,13 +18,13 @@ const SHAKEN: &str = "\
     00000000000000001000000001000000\n";
 
 /// The message of a client that disconnects.
-const DISCONNECT: &str = "00000000000000ff1000000001000000";
+pub(crate) const DISCONNECT: &str = "00000000000000ff1000000001000000";
 
 /// The greeting.
 const GREETING: &str = "0000000000000000140000000000000001000000";
 
 /// The greeting, and the reply to the handshake.
-const REPLY: &str = "\
+pub(crate) const REPLY: &str = "\
     0000000000000000140000000000000001000000\
     000000000000000028000000010000000e00000065695f636f6e6e656374696f6e00000001000000\
     000000000000000024000000010000000c00000065695f63616c6c6261636b0001000000\
@@ -41,17 +41,26 @@ fn words_of(alloc: Global, line: &str) -> Result<Vec<EiText>, NoMemory> {
     Ok(words)
 }
 
-/// What is written of a text, and the status behind it.
-fn report_of(alloc: Global, line: &str, text: &str) -> Result<String, NoMemory> {
+/// What is written of an input, and the status behind it.
+pub(crate) fn report_over<I: Input>(
+    alloc: Global,
+    line: &str,
+    input: &mut I,
+) -> Result<String, NoMemory> {
     let words = words_of(alloc, line)?;
-    let mut input = MemoryText::new(alloc, text.as_bytes())?;
     let mut output = Tray::new(alloc);
     let mut clock = Readings::new(alloc, &[])?;
-    let status = run(alloc, &words, &mut input, &mut output, &mut clock);
+    let status = run(alloc, &words, input, &mut output, &mut clock);
     let mut report = String::from_utf8_lossy(alloc, output.bytes())?;
     let status = status.to_string(alloc)?;
     report.push_str(status.as_str())?;
     Ok(report)
+}
+
+/// The same of a text.
+fn report_of(alloc: Global, line: &str, text: &str) -> Result<String, NoMemory> {
+    let mut input = MemoryText::new(alloc, text.as_bytes())?;
+    report_over(alloc, line, &mut input)
 }
 
 /// Two texts, one behind the other.

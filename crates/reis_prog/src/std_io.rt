@@ -2,16 +2,16 @@
 //!
 //! They tell nothing of what they give and take. Each error of theirs counts as a fault.
 
-ghost use Rattle.std.specs.Prelude.{◌≡◌, ◌<◌, ◌≤◌, ◌-◌, ℕ, List, None, Some, IfOk, length};
-ghost use Rattle.std.specs.Time.{instant_nanos};
+ghost use Rattle.std.specs.Prelude.{◌≡◌, ◌<◌, ◌≤◌, ℕ, List, None, Some, IfOk, IfSome, length};
+ghost use Rattle.std.specs.Duration.{as_nanos};
 ghost use Rattle.ei_backend.specs.Memory.{counted};
 ghost use Rattle.ei_backend.specs.Outside.{HasCause, HasPutCause, Fetches, Puts, IsPutSize, Reads};
-ghost use Rattle.reis_prog.specs.StdIo.{Counts, ReadsOrRepeats, whole_micros};
+ghost use Rattle.reis_prog.specs.StdIo.{Counts, IsSince, ReadsOrRepeats, faults_of_start, whole_micros};
 
 use ei_backend::{Clock, Fault, Input, PutError, Sink};
 use ei_spec::Handle;
 use std::io::{Read, Write};
-use std::time::{Clock as TimeSource, Instant};
+use std::time::{Clock as TimeSource, Duration, Instant};
 
 /// One fault more, up to the last value of the count.
 fn count_fault(faults: &mut u64)
@@ -108,7 +108,9 @@ impl<W: Write + Drop> Sink for StdOutput<W> {
     }
 }
 
-/// The microseconds since it was made.
+/// The whole microseconds since it was made; where its source fails, its last answer, at first 0.
+///
+/// Of the time that a source tells, std says only that it is within a clock's range: it may go back.
 #[derive(Drop)]
 pub(crate) struct StdClock<'a, C: TimeSource> {
     source: &'a C,
@@ -117,17 +119,18 @@ pub(crate) struct StdClock<'a, C: TimeSource> {
     faults: u64,
 }
 
-/// The whole microseconds from one instant to another.
-fn micros_between(start: Instant, end: Instant) -> u64
-    ensures { result ≡ whole_micros (instant_nanos end - instant_nanos start) }
+/// The whole microseconds of a duration, up to the last value.
+fn micros_of(elapsed: Duration) -> u64
+    ensures { result ≡ whole_micros (as_nanos elapsed) }
 {
-    u64::try_from(end.duration_since(start).as_micros()).unwrap_or(u64::MAX)
+    u64::try_from(elapsed.as_micros()).unwrap_or(u64::MAX)
 }
 
 impl<'a, C: TimeSource> StdClock<'a, C> {
     /// Where the source has no time now, no later reading has one.
     pub(crate) fn new(source: &'a C) -> Self
-        ensures { result.last ≡ 0 }
+        ensures last { result.last ≡ 0 }
+        ensures faults { result.faults ≡ faults_of_start result.start }
     {
         let start = Instant::now(source).ok();
         let faults = if start.is_none() { 1 } else { 0 };
@@ -139,9 +142,13 @@ impl<'a, C: TimeSource> StdClock<'a, C> {
         }
     }
 
-    fn reading(&self) -> Option<u64> {
+    /// The microseconds from the start to the time that the source tells.
+    fn reading(&self) -> Option<u64>
+        ensures { IfSome result (IsSince self.now.start) }
+    {
+        let start = self.start?;
         let now = Instant::now(self.source).ok()?;
-        Some(micros_between(self.start?, now))
+        Some(micros_of(now.duration_since(start)))
     }
 }
 
@@ -160,8 +167,9 @@ impl<C: TimeSource> Clock for StdClock<'_, C> {
         ensures reading { (told : List ℕ) → None ≡ Some told → Reads told None result }
         ensures cause { self.old.faults ≤ self.new.faults }
         // beyond the trait's
-        ensures fails { ReadsOrRepeats self.old.faults self.new.faults self.old.last result }
+        ensures answers { ReadsOrRepeats self.old.start self.old.faults self.new.faults self.old.last result }
         ensures last { self.new.last ≡ result }
+        ensures same_start { self.new.start ≡ self.old.start }
     {
         match self.reading() {
             Some(micros) => {

@@ -2,6 +2,7 @@
 
 ghost use Rattle.std.specs.Prelude.{◌≡◌, IfOk, vec_len};
 
+use crate::cut_tests::CutText;
 use crate::held::zeroed;
 use crate::hex_source::HexSource;
 use crate::report::{push_line, push_reply_line, write_all};
@@ -16,34 +17,6 @@ use std::io;
 use std::io::{Read, Write};
 use std::test::Fail;
 use std::time::{self, Duration};
-
-/// A text that comes in cuts of one size.
-#[derive(Drop)]
-struct Cuts<'a> {
-    text: &'a [u8],
-    most: usize,
-}
-
-impl Input for Cuts<'_> {
-    ghost use Rattle.std.specs.Prelude.{None};
-
-    ghost text = { λ _. None };
-
-    ghost faults = { λ _. 0 };
-
-    ghost later = { λ _ _. Unit {0} };
-
-    ghost later_refl = { λ _. tt };
-
-    ghost later_trans = { λ _ _ _ _ _. tt };
-
-    fn fetch(&mut self, bytes: &mut [u8]) -> Result<usize, Fault> {
-        let count = self.text.len().min(bytes.len()).min(self.most);
-        bytes[..count].copy_from_slice(&self.text[..count]);
-        self.text = &self.text[count..];
-        Ok(count)
-    }
-}
 
 fn handles_room(alloc: Global) -> Result<Vec<Handle>, NoMemory>
     ensures { IfOk result (λ room. vec_len room ≡ 64) }
@@ -96,10 +69,8 @@ fn gives_the_pieces_of_a_text_in_any_cut(rt: HostRuntime) -> Result<(), Fail> {
         ("01\n02\n0", "01 02 fault fault ", Some(3)),
     ] {
         for most in [1, 7, 65536] {
-            let mut input = Cuts {
-                text: text.as_bytes(),
-                most,
-            };
+            let whole = MemoryText::new(alloc, text.as_bytes())?;
+            let mut input = CutText::new(whole, most);
             let (given, met) = takes(alloc, &mut input, 4)?;
             assert_eq!(rt; given.as_str(), said, "{text:?} in cuts of {most}");
             assert_eq!(rt; met, bad, "{text:?} in cuts of {most}");
@@ -113,10 +84,8 @@ fn knows_the_longest_line(rt: HostRuntime) -> Result<(), Fail> {
     let alloc = rt.alloc();
     for (len, bad) in [(131072, None), (131074, Some(1))] {
         let text = vec![in alloc; b'1'; len]?;
-        let mut input = Cuts {
-            text: &text,
-            most: 4096,
-        };
+        let whole = MemoryText::new(alloc, &text)?;
+        let mut input = CutText::new(whole, 4096);
         let (_, met) = takes(alloc, &mut input, 1)?;
         assert_eq!(rt; met, bad, "{len} digits");
     }
