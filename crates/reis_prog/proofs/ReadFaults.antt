@@ -1,5 +1,5 @@
 -- Why a session over lines has a read fault.
-use Rattle.std.proofs.Common.{◌≡◌, ◌≤◌, ◌+◌, ℕ, List, [], ◌++◌, Option, Some, None, Result, Ok, Err, refl, sym, ap, ◌∙◌, ◌⊎◌, inl, inr, subst, arith}
+use Rattle.std.proofs.Common.{◌≡◌, ℕ, List, Option, Some, None, Result, Ok, Err, refl, sym, ◌⊎◌, inl, inr, subst, arith}
 use Rattle.std.specs.Prelude.{IsSome}
 use Rattle.ei_backend.specs.Outside.{Rose}
 use Rattle.ei_serve.specs.declared.session.Ended.{Ended}
