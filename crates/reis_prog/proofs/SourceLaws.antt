@@ -124,6 +124,13 @@ bad_number held text mid rest slice found line now f is spells some next =
     ap (number_from line) (first_bad held text mid rest slice found f is ∙ bad_before slice (bad_line_of (drop (line_skip found mid) mid ++ rest)) spells some)
     ∙ ap (λ n. Some n) (sym next)
 
+-- and no piece is left
+pub none_left : (held text mid rest slice : List ℕ) (left : Option (List ℕ)) (found : Option ℕ) → FindsFirst held text mid rest found →
+    slice ≡ take (line_len found mid) mid → line_bytes slice ≡ None → left ≡ Some rest → option_map (λ t. pieces_of (mid ++ t)) left ≡ Some []
+none_left held text mid rest slice left found f is spells left_is =
+    ap (option_map (λ t. pieces_of (mid ++ t))) left_is
+    ∙ ap (λ v. Some v) (ap pieces_of (sym f.same) ∙ first_pieces held text mid rest slice found f is ∙ ap (λ o. piece_before o (pieces_of (drop (line_skip found mid) mid ++ rest))) spells)
+
 -- nothing stands before the first newline, or nothing is held
 at_end : (found : Option ℕ) (mid rest : List ℕ) → FindsNewline found mid → (found ≡ None → length mid < 131073 → rest ≡ []) → line_len found mid ≡ 0 → IsAtEnd (mid ++ rest)
 at_end None [] rest f ends none = inl (ends refl (omega arith))

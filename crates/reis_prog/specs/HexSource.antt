@@ -80,11 +80,13 @@ LaterText-none held text held_new left line m = record {
 }
 
 -- A reading goes on: a bad line stays the one that was met, and its number is that of the first bad line of the text that was unread.
+-- No piece is left from then on.
 pub record LaterReading {I : Type 0} (text : I → Option (List ℕ)) (later : I → I → Type 0) (x y : Reading I) : Type 0 where
   pub input : later x.input y.input
   pub kept : (n : ℕ) → x.bad ≡ Some n → y.bad ≡ Some n
   pub unmet : y.bad ≡ None → (x.bad ≡ None) × (x.bad_faults ≡ y.bad_faults)
   pub number : x.bad ≡ None → (n : ℕ) → y.bad ≡ Some n → (t : List ℕ) → text x.input ≡ Some t → number_from x.line (bad_line_of (x.held ++ t)) ≡ Some n
+  pub spent : x.bad ≡ None → (n : ℕ) → y.bad ≡ Some n → (t : List ℕ) → text x.input ≡ Some t → left_of text y ≡ Some []
   pub lines : (t : List ℕ) → text x.input ≡ Some t → LaterText x.held t y.held (text y.input) x.line y.line
 
 -- no line comes next: the text is at its end, or an empty line comes
@@ -113,6 +115,7 @@ LaterReading-refl text later r x same = record {
   kept = λ n is. is;
   unmet = λ none. (none, refl);
   number = λ none n is t told. cc;
+  spent = λ none n is t told. cc;
   lines = λ t told. LaterText-none x.held t x.held (text x.input) x.line (record { rest = t; left_is = told; same = refl });
 }
 
@@ -155,6 +158,25 @@ number_on text later x y z a b none n is t told =
           here ∙ sym still ∙ is
     ]
 
+none_behind : (a b : List Piece) → a ++ b ≡ [] → b ≡ []
+none_behind [] b e = e
+none_behind (p ∷ a) b e = cc
+
+none_of_some : (pieces : List Piece) → Some pieces ≡ Some [] → pieces ≡ []
+none_of_some pieces e = cc
+
+spent_on : {I : Type 0} (text : I → Option (List ℕ)) (later : I → I → Type 0) (x y z : Reading I) → LaterReading text later x y → LaterReading text later y z →
+    x.bad ≡ None → (n : ℕ) → z.bad ≡ Some n → (t : List ℕ) → text x.input ≡ Some t → left_of text z ≡ Some []
+spent_on text later x y z a b none n is t told =
+    let p = a.lines t told in
+    elim (some_or_none y.bad) [
+      | inl unmet ↦ b.spent unmet n is p.rest p.left_is
+      | inr met ↦
+          let q = b.lines p.rest p.left_is in
+          let gone = none_of_some (pieces_of (y.held ++ p.rest)) (sym (ap (option_map (λ v. pieces_of (y.held ++ v))) p.left_is) ∙ a.spent none met.0 met.1 t told) in
+          ap (option_map (λ v. pieces_of (z.held ++ v))) q.left_is ∙ ap (λ v. Some v) (none_behind q.pieces (pieces_of (z.held ++ q.rest)) (sym q.handed ∙ gone))
+    ]
+
 LaterReading-trans : {I : Type 0} (text : I → Option (List ℕ)) (later : I → I → Type 0) → ((x y z : I) → later x y → later y z → later x z) →
     (x y z : Reading I) → LaterReading text later x y → LaterReading text later y z → LaterReading text later x z
 LaterReading-trans text later r x y z a b = record {
@@ -162,6 +184,7 @@ LaterReading-trans text later r x y z a b = record {
   kept = λ n is. b.kept n (a.kept n is);
   unmet = λ none. let k = b.unmet none in let h = a.unmet k.0 in (h.0, h.1 ∙ k.1);
   number = number_on text later x y z a b;
+  spent = spent_on text later x y z a b;
   lines = λ t told.
       let p = a.lines t told in
       let q = b.lines p.rest p.left_is in

@@ -3,6 +3,7 @@ pub mod HexSource
 pub mod Report
 pub mod RequestLine
 pub mod Run
+pub mod SessionReport
 pub mod StdIo
 pub mod Text
 pub mod Words

@@ -46,10 +46,10 @@ HasBadLine told = (text : List ℕ) → told ≡ Some text → IsSome (bad_line_
 abbrev pub HoldsFront : Piece → List ℕ → Option Piece → Type 0
 HoldsFront held text now = (n : ℕ) × (n ≤ length text) × Holds held (take n text) now
 
--- all of the text was written and the status is this one, or the output failed behind a front of the text, or memory ran out
+-- all of the text was written and the status is this one, or a front of it was, and the output failed or memory ran out
 abbrev pub Tells : ℕ → List ℕ → Piece → ℕ → Option Piece → Type 0
 Tells status text held result now =
-    ((result ≡ status) × Holds held text now) ⊎ ((result ≡ 4) × HoldsFront held text now) ⊎ (result ≡ 5)
+    ((result ≡ status) × Holds held text now) ⊎ (((result ≡ 4) ⊎ (result ≡ 5)) × HoldsFront held text now)
 
 -- a report was told, with the status of how its session ended
 pub record TellsReport (held : Piece) (result : ℕ) (now : Option Piece) : Type 0 where

@@ -1,12 +1,16 @@
 //! The program, over any input, output and clock.
 
-ghost use Rattle.std.specs.Prelude.{◌≡◌, ◌≤◌, ◌<◌, ◌⊎◌, ◌++◌, ℕ, Some, None, IfOk, OnOk, IsErrOf, IsSome};
+ghost use Rattle.std.specs.Prelude.{◌≡◌, ◌≤◌, ◌<◌, ◌⊎◌, ◌++◌, ℕ, List, Some, None, IfOk, OnOk, IsErrOf, IsSome};
 ghost use Rattle.std.specs.String.{string_bytes};
 ghost use Rattle.ei_types.specs.Capability.{bits_of};
 ghost use Rattle.ei_types.specs.declared.error.Error.TheVariants as error;
 ghost use Rattle.ei_backend.specs.Outside.{Piece, Rose};
+ghost use Rattle.ei_session.specs.Session.{session};
+ghost use Rattle.ei_serve.specs.Standing.{setup_of};
+ghost use Rattle.ei_serve.specs.Serving.{AnswersAs, IsDecided, IsCutShort, IsSourceEnd, HandsOut, Replied, Handled, HandledInPart};
 ghost use Rattle.reis_prog.specs.Words.{command_of};
 ghost use Rattle.reis_prog.specs.Run.{end_text, request_lines, report_of, status_of, HasBadLine, Tells, TellsReport};
+ghost use Rattle.reis_prog.specs.SessionReport.{ForPieces, ForSession, TellsSession, TellsTaken, TellsAll, pieces_left, IsDone, IsPiecesEnd, IsStatusFor};
 
 use crate::held::Held;
 use crate::hex_source::HexSource;
@@ -121,6 +125,19 @@ fn session<I: Input, C: Clock>(
     reply: &mut Tray,
     requests: &mut Vec<EisRequest>,
 ) -> Result<Ended, Error>
+    ensures answer { ForPieces (I.text input.old) (λ pieces. AnswersAs (session (setup_of setup) pieces).answer result) }
+    ensures requests { ForPieces (I.text input.old) (λ pieces. IsDecided result →
+        HandsOut (setup_of setup) (session (setup_of setup) pieces).handled (C.readings clock.old) requests.old.items requests.new.items) }
+    ensures replies { ForPieces (I.text input.old) (λ pieces. IsDecided result →
+        Replied (setup_of setup) (session (setup_of setup) pieces).handled (Some reply.old.held) (Some reply.new.held)) }
+    ensures handled { ForPieces (I.text input.old) (λ pieces. IsErrOf result error.ReadFault → (unread : List ℕ) ×
+        Handled (setup_of setup) pieces (pieces_left unread (I.text input.new)) (C.readings clock.old) requests.old.items requests.new.items (Some reply.old.held) (Some reply.new.held)) }
+    ensures all_handled { ForPieces (I.text input.old) (λ pieces. IsErrOf result error.ReadFault → Rose (I.faults input.old) (I.faults input.new) ⊎
+        (HandsOut (setup_of setup) (session (setup_of setup) pieces).handled (C.readings clock.old) requests.old.items requests.new.items
+        × Replied (setup_of setup) (session (setup_of setup) pieces).handled (Some reply.old.held) (Some reply.new.held))) }
+    ensures handled_in_part { ForPieces (I.text input.old) (λ pieces. IsCutShort result →
+        HandledInPart (setup_of setup) (session (setup_of setup) pieces).handled (C.readings clock.old) requests.old.items requests.new.items (Some reply.old.held) (Some reply.new.held)) }
+    ensures whole { ForPieces (I.text input.old) (λ pieces. HasBadLine (I.text input.old) → IsSourceEnd result → ⊥) }
     ensures read_fault { IsErrOf result error.ReadFault → Rose (I.faults input.old) (I.faults input.new) ⊎ HasBadLine (I.text input.old) }
     ensures later_input { I.later input.old input.new }
     ensures later_clock { C.later clock.old clock.new }
@@ -132,6 +149,27 @@ fn session<I: Input, C: Clock>(
     answer
 }
 
+/// Tells the report of a session.
+fn tell_report<O: Sink>(
+    alloc: Global,
+    output: &mut O,
+    reply: &[u8],
+    requests: &[EisRequest],
+    answer: &Result<Ended, Error>,
+) -> u8
+    ensures told { (held : Piece) → O.taken output.old ≡ Some held →
+        Tells (status_of answer.now) (report_of reply.now requests.now answer.now) held result (O.taken output.new) }
+    ensures statuses { (result ≡ status_of answer.now) ⊎ (result ≡ 4) ⊎ (result ≡ 5) }
+    ensures fault { result ≡ 4 → Rose (O.faults output.old) (O.faults output.new) }
+    ensures count { O.faults output.old ≤ O.faults output.new }
+    ensures later { O.later output.old output.new }
+{
+    match report(alloc, reply, requests, answer) {
+        Ok(text) => tell(output, &text, status_of(answer)),
+        Err(NoMemory) => NO_MEMORY,
+    }
+}
+
 /// Serves, and tells the report.
 #[tactic(auto, using(crate::proofs::ReadFaults::only_read_fault))]
 fn serve_and_tell<I: Input, O: Sink, C: Clock>(
@@ -141,6 +179,15 @@ fn serve_and_tell<I: Input, O: Sink, C: Clock>(
     output: &mut O,
     clock: &mut C,
 ) -> u8
+    ensures session { ForPieces (I.text input.old) (λ pieces. (held : Piece) → O.taken output.old ≡ Some held →
+        TellsSession (setup_of setup) pieces (I.text input.new) (C.readings clock.old) held result (O.taken output.new)) }
+    ensures taken { ForPieces (I.text input.old) (λ pieces. result ≡ 3 → (held : Piece) → O.taken output.old ≡ Some held →
+        TellsTaken (setup_of setup) pieces (I.text input.new) (C.readings clock.old) held (O.taken output.new)) }
+    ensures all_taken { ForPieces (I.text input.old) (λ pieces. result ≡ 3 → (held : Piece) → O.taken output.old ≡ Some held →
+        Rose (I.faults input.old) (I.faults input.new) ⊎ TellsAll (setup_of setup) pieces (C.readings clock.old) held (O.taken output.new)) }
+    ensures status { ForPieces (I.text input.old) (λ pieces. IsStatusFor (session (setup_of setup) pieces).answer result) }
+    ensures bad_line { ForPieces (I.text input.old) (λ pieces. HasBadLine (I.text input.old) → IsPiecesEnd (session (setup_of setup) pieces).answer →
+        (result ≡ 3) ⊎ (result ≡ 4) ⊎ (result ≡ 5)) }
     ensures told { (held : Piece) → O.taken output.old ≡ Some held → TellsReport held result (O.taken output.new) }
     ensures served { result ≡ 2 → ⊥ }
     ensures read_fault { result ≡ 3 → Rose (I.faults input.old) (I.faults input.new) ⊎ HasBadLine (I.text input.old) }
@@ -153,10 +200,7 @@ fn serve_and_tell<I: Input, O: Sink, C: Clock>(
     let mut reply = Tray::new(alloc);
     let mut requests = Vec::new(alloc);
     let answer = session(alloc, setup, input, clock, &mut reply, &mut requests);
-    match report(alloc, reply.bytes(), &requests, &answer) {
-        Ok(text) => tell(output, &text, status_of(&answer)),
-        Err(NoMemory) => NO_MEMORY,
-    }
+    tell_report(alloc, output, reply.bytes(), &requests, &answer)
 }
 
 /// The capabilities of these bits.
@@ -193,6 +237,21 @@ pub fn run<I: Input, O: Sink, C: Clock>(
     ensures report { IsSome (command_of words.now) → (held : Piece) → O.taken output.old ≡ Some held →
         TellsReport held result (O.taken output.new) }
     ensures served { IsSome (command_of words.now) → result ≡ 2 → ⊥ }
+    // over an input that tells its text: the session that the definitions say
+    ensures session { ForSession words.now (I.text input.old) (λ setup pieces. (held : Piece) → O.taken output.old ≡ Some held →
+        TellsSession setup pieces (I.text input.new) (C.readings clock.old) held result (O.taken output.new)) }
+    ensures taken { ForSession words.now (I.text input.old) (λ setup pieces. result ≡ 3 → (held : Piece) → O.taken output.old ≡ Some held →
+        TellsTaken setup pieces (I.text input.new) (C.readings clock.old) held (O.taken output.new)) }
+    ensures all_taken { ForSession words.now (I.text input.old) (λ setup pieces. result ≡ 3 → (held : Piece) → O.taken output.old ≡ Some held →
+        Rose (I.faults input.old) (I.faults input.new) ⊎ TellsAll setup pieces (C.readings clock.old) held (O.taken output.new)) }
+    ensures done { ForSession words.now (I.text input.old) (λ setup pieces. result ≡ 0 → IsDone (session setup pieces).answer) }
+    ensures stopped { ForSession words.now (I.text input.old) (λ setup pieces. result ≡ 1 → IsDone (session setup pieces).answer → ⊥) }
+    ensures status_done { ForSession words.now (I.text input.old) (λ setup pieces. IsDone (session setup pieces).answer →
+        (result ≡ 0) ⊎ (result ≡ 3) ⊎ (result ≡ 4) ⊎ (result ≡ 5)) }
+    ensures status_stopped { ForSession words.now (I.text input.old) (λ setup pieces. (IsDone (session setup pieces).answer → ⊥) →
+        (result ≡ 1) ⊎ (result ≡ 3) ⊎ (result ≡ 4) ⊎ (result ≡ 5)) }
+    ensures bad_line { ForSession words.now (I.text input.old) (λ setup pieces. HasBadLine (I.text input.old) → IsPiecesEnd (session setup pieces).answer →
+        (result ≡ 3) ⊎ (result ≡ 4) ⊎ (result ≡ 5)) }
     // the input and the clock
     ensures read_fault { result ≡ 3 → Rose (I.faults input.old) (I.faults input.new) ⊎ HasBadLine (I.text input.old) }
     ensures later_input { I.later input.old input.new }

@@ -1,7 +1,29 @@
-use Rattle.std.proofs.Common.{◌∙◌}
-use Rattle.reis_prog.proofs.TellLaws.{tells_report}
+use Rattle.reis_prog.proofs.SessionLaws.{are_of_taken, tells_session, tells_taken, tells_all}
 use Rattle.reis_prog.proofs.run.serve_and_tell.Goals as goal
 
-pub returns-in-Ok-clause-told : goal.returns-in-Ok-clause-told
-returns-in-Ok-clause-told g c = λ held told.
-    tells_report held _ _ _ _ c.bytes.result.now c.deref.result.now c.session-answer.result (c.tell.ensures.told held told) (c.deref-in-Ok.ensures.value ∙ c.in-Ok.ensures) c.status_of.ensures
+pub returns-clause-session : goal.returns-clause-session
+returns-clause-session g c = λ text told held takes.
+    let says = c.session-answer.ensures in
+    tells_session _ _ _ _ _ c.new-reply.result c.session-answer.new.reply.held c.bytes.result.now c.new-requests.result.items c.session-answer.new.requests.items c.deref.result.now _ _ _
+    (record { answers = says.answer text told; gives = says.requests text told; replied = says.replies text told; handled = says.handled text told; in_part = says.handled_in_part text told })
+    (record { empty = c.new-reply.ensures; reply_same = c.bytes.ensures; none = c.new-requests.ensures.items; requests_same = c.deref.ensures.value })
+    (c.tell_report.ensures.told held takes)
+
+pub returns-clause-taken : goal.returns-clause-taken
+returns-clause-taken g c = λ text told three held takes.
+    tells_taken _ _ _ _ c.session-answer.result c.bytes.result.now c.deref.result.now _ _ _
+    (λ e. are_of_taken _ _ _ _ c.new-reply.result c.session-answer.new.reply.held _ c.new-requests.result.items c.session-answer.new.requests.items _
+    (record { empty = c.new-reply.ensures; reply_same = c.bytes.ensures; none = c.new-requests.ensures.items; requests_same = c.deref.ensures.value })
+    (c.session-answer.ensures.handled text told e))
+    (c.tell_report.ensures.told held takes) three
+
+pub returns-clause-told : goal.returns-clause-told
+returns-clause-told g c = λ held takes.
+    record { reply = c.bytes.result.now; requests = c.deref.result.now; answer = c.session-answer.result; told = c.tell_report.ensures.told held takes }
+
+pub returns-clause-all_taken : goal.returns-clause-all_taken
+returns-clause-all_taken g c = λ text told three held takes.
+    tells_all _ _ _ _ c.session-answer.result c.new-reply.result c.session-answer.new.reply.held c.bytes.result.now c.new-requests.result.items c.session-answer.new.requests.items c.deref.result.now _ _ _
+    (c.session-answer.ensures.all_handled text told)
+    (record { empty = c.new-reply.ensures; reply_same = c.bytes.ensures; none = c.new-requests.ensures.items; requests_same = c.deref.ensures.value })
+    (c.tell_report.ensures.told held takes) three

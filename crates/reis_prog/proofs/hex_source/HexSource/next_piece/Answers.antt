@@ -2,7 +2,7 @@ use Rattle.std.proofs.Common.{◌≡◌, refl, arith, ap, sym, ◌∙◌, Ok, No
 use Rattle.std.proofs.lemmas.List.{length-take-le}
 use Rattle.std.specs.Prelude.{is_some}
 use Rattle.reis_prog.specs.HexSource.{LaterText-none}
-use Rattle.reis_prog.proofs.SourceLaws.{some_not_none, none_if_not_some, not_both, first_of, line_is, removed_is, no_line, handed_out, hands_line, bad_number, ends_here}
+use Rattle.reis_prog.proofs.SourceLaws.{some_not_none, none_if_not_some, not_both, first_of, line_is, removed_is, no_line, handed_out, hands_line, bad_number, none_left, ends_here}
 use Rattle.reis_prog.proofs.hex_source.HexSource.next_piece.Goals as goal
 
 pub returns-then-is_some-clause-later : goal.returns-then-is_some-clause-later
@@ -13,6 +13,7 @@ returns-then-is_some-clause-later g c =
       kept = λ n is. is;
       unmet = λ none. absurd (some_not_none _ some none);
       number = λ none. absurd (some_not_none _ some none);
+      spent = λ none. absurd (some_not_none _ some none);
       lines = λ t told. LaterText-none _ t _ _ _ (record { rest = t; left_is = told; same = refl });
     }
 
@@ -22,6 +23,7 @@ returns-in_err-found-clause-later g c = record {
   kept = λ n is. is;
   unmet = λ none. (none, refl);
   number = λ none n is t told. absurd (not_both _ n none is);
+  spent = λ none n is t told. absurd (not_both _ n none is);
   lines = λ t told. LaterText-none _ t _ _ _ (c.in_err-found.ensures.text t told);
 }
 
@@ -31,6 +33,7 @@ returns-then-count-eq0-clause-later g c = record {
   kept = λ n is. is;
   unmet = λ none. (none, refl);
   number = λ none n is t told. absurd (not_both _ n none is);
+  spent = λ none n is t told. absurd (not_both _ n none is);
   lines = λ t told. LaterText-none _ t _ _ _ (c.in_ok-found.ensures.text t told);
 }
 
@@ -56,6 +59,7 @@ returns-in-Some-clause-later g c = record {
   kept = λ n is. is;
   unmet = λ none. (none, refl);
   number = λ none n is t told. absurd (not_both _ n none is);
+  spent = λ none n is t told. absurd (not_both _ n none is);
   lines = λ text told.
       let found = c.in_ok-found.found in
       let m = c.in_ok-found.ensures.text text told in
@@ -81,5 +85,10 @@ returns-in-None-clause-later g c =
           (line_is found _ _ _ c.line_extent-count.ensures.count c.bytes-line.ensures) c.in-None.ensures.spells
           (omega (arith, c.line_extent-count.ensures.bound, c.if-count-eq0.false, length-take-le c.line_extent-count.result.0 c.bytes-line.result.now c.line_extent-count.ensures.bound))
           (omega (arith, c.saturating_add.ensures)) ∙ is;
+      spent = λ none n is text told.
+          let found = c.in_ok-found.found in
+          let m = c.in_ok-found.ensures.text text told in
+          let first = first_of _ text _ _ found m c.in_ok-found.ensures.place (λ is less. c.in_ok-found.ensures.ends (ap (λ o. Ok o) is) less text told) in
+          none_left _ text _ m.rest _ _ found first (line_is found _ _ _ c.line_extent-count.ensures.count c.bytes-line.ensures) c.in-None.ensures.spells m.left_is;
       lines = λ t told. LaterText-none _ t _ _ _ (c.in_ok-found.ensures.text t told);
     }
