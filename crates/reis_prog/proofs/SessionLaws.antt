@@ -1,5 +1,5 @@
 -- The session over the pieces of a text, and the report of it.
-use Rattle.std.proofs.Common.{◌≡◌, ◌≤◌, ◌⊎◌, inl, inr, ℕ, List, [], ◌∷◌, ◌++◌, false, length, take, drop, Option, Some, None, Result, Err, refl, sym, ap, ◌∙◌, subst, arith}
+use Rattle.std.proofs.Common.{◌≡◌, ◌≤◌, ◌⊎◌, inl, inr, ℕ, Bool, true, List, [], ◌∷◌, ◌++◌, false, length, take, drop, Option, Some, None, Result, Err, refl, sym, ap, ◌∙◌, subst, arith}
 use Rattle.std.proofs.lemmas.List.{append-nil, length-drop}
 use Rattle.std.specs.Prelude.{map, IsErrOf, IsSome}
 use Rattle.std.specs.Option.{option_map}
@@ -9,7 +9,8 @@ use Rattle.ei_spec.specs.History.{each, joined}
 use Rattle.ei_spec.specs.Groups.{grouped}
 use Rattle.ei_session.specs.Setup.{Setup}
 use Rattle.ei_session.specs.Framed.{framed}
-use Rattle.ei_session.specs.Session.{Outcome, session, accepted, read_first, is_over}
+use Rattle.ei_session.specs.Handshake.{connected}
+use Rattle.ei_session.specs.Session.{Outcome, at_end, session, accepted, read_first, is_over}
 use Rattle.ei_session.proofs.Least.{session_end}
 use Rattle.ei_backend.specs.Memory.{TrayView}
 use Rattle.ei_backend.specs.Outside.{Rose, with_more}
@@ -25,7 +26,7 @@ use Rattle.reis_prog.specs.declared.hex_source.HexSource.{HexSource}
 use Rattle.reis_prog.specs.Report.{Holds}
 use Rattle.reis_prog.specs.Run.{report_of, status_of, HasBadLine, Tells}
 use Rattle.reis_prog.specs.Text.{pieces_of, bad_line_of, number_from}
-use Rattle.reis_prog.specs.SessionReport.{AreRequests, reply_bytes, AreOf, AreOfTaken, AreOfFirst, pieces_left, TellsSession, TellsTaken, TellsAll}
+use Rattle.reis_prog.specs.SessionReport.{AreRequests, reply_bytes, AreOf, AreOfTaken, AreOfFirst, pieces_left, TellsSession, TellsTaken, TellsAll, IsPiecesEnd}
 use Rattle.reis_prog.proofs.ReadFaults.{only_read_fault}
 
 -- ---- the source
@@ -98,6 +99,38 @@ rose_or_all {I} text later faults input after x y t setup readings old new took_
       | inl up ↦ inl (subst (λ (a : I). Rose (faults input) (faults a)) (sym same) up)
       | inr none ↦ inr (all_of_handled setup (pieces_of t) (left_of text y) readings old new took_old took_new none h)
     ]
+
+-- ---- the pieces ended first
+
+pieces_end : (past : List Raw) (b : Bool) → connected past ≡ b → IsPiecesEnd (at_end past).answer
+pieces_end past true c = rw c tt
+pieces_end past false c = rw c tt
+
+-- where all the pieces were taken and the session was not over, they came to their end
+ends_first : (setup : Setup) (pieces : List Piece) (k : ℕ) → k ≤ length pieces → drop k pieces ≡ [] → ((j : ℕ) → 1 ≤ j → j ≤ k → is_over setup pieces j ≡ false) → IsPiecesEnd (session setup pieces).answer
+ends_first setup pieces k within none goes_on =
+    let whole : k ≡ length pieces = omega (arith, within, length-drop k pieces, ap length none) in
+    subst (λ (o : Outcome). IsPiecesEnd o.answer) (sym (session_end setup pieces (λ j low high. goes_on j low (omega (arith, high, whole))))) (pieces_end (read_first pieces (length pieces)).past _ refl)
+
+ended_of_handled : (setup : Setup) (pieces : List Piece) (left : Option (List Piece)) (readings : Option (List ℕ)) (old new : List EisRequest) (took_old took_new : Option Piece) → left ≡ Some [] →
+    Handled setup pieces left readings old new took_old took_new → IsPiecesEnd (session setup pieces).answer
+ended_of_handled setup pieces left readings old new took_old took_new none h = ends_first setup pieces h.k h.took.within (none_behind_k left (drop h.k pieces) h.took.left_is none) h.goes_on
+
+-- behind a read fault the input counted a fault, or the pieces came to their end with the session not over
+pub rose_or_ended : {I : Type 0} (text : I → Option (List ℕ)) (later : I → I → Type 0) (faults : I → ℕ) (input after : I) (x y : Reading I) (t : List ℕ) (setup : Setup) (readings : Option (List ℕ)) (old new : List EisRequest) (took_old took_new : Option Piece) →
+    x ≡ fresh input → LaterReading text later x y → after ≡ y.input → text input ≡ Some t → Rose (faults_of faults x) (faults_of faults y) → Handled setup (pieces_of t) (left_of text y) readings old new took_old took_new →
+    Rose (faults input) (faults after) ⊎ IsPiecesEnd (session setup (pieces_of t)).answer
+rose_or_ended {I} text later faults input after x y t setup readings old new took_old took_new e l same told rose h =
+    elim (rose_or_spent text later faults input y y.bad t refl told (subst (λ (r : Reading I). LaterReading text later r y) e l) (subst (λ (r : Reading I). Rose (faults_of faults r) (faults_of faults y)) e rose)) [
+      | inl up ↦ inl (subst (λ (a : I). Rose (faults input) (faults a)) (sym same) up)
+      | inr none ↦ inr (ended_of_handled setup (pieces_of t) (left_of text y) readings old new took_old took_new none h)
+    ]
+
+-- status 3 is that of a read fault alone
+pub three_is : (a : Result HowEnded Error) (n : ℕ) → (n ≡ status_of a) ⊎ (n ≡ 4) ⊎ (n ≡ 5) → n ≡ 3 → a ≡ Err error.ReadFault
+three_is a n (inl s) e = only_read_fault a (sym s ∙ e)
+three_is a n (inr (inl s)) e = absurd (omega (arith, s, e))
+three_is a n (inr (inr s)) e = absurd (omega (arith, s, e))
 
 -- ---- nothing was handled
 

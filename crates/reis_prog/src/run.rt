@@ -135,6 +135,8 @@ fn session<I: Input, C: Clock>(
     ensures all_handled { ForPieces (I.text input.old) (λ pieces. IsErrOf result error.ReadFault → Rose (I.faults input.old) (I.faults input.new) ⊎
         (HandsOut (setup_of setup) (session (setup_of setup) pieces).handled (C.readings clock.old) requests.old.items requests.new.items
         × Replied (setup_of setup) (session (setup_of setup) pieces).handled (Some reply.old.held) (Some reply.new.held))) }
+    ensures pieces_end { ForPieces (I.text input.old) (λ pieces. IsErrOf result error.ReadFault → Rose (I.faults input.old) (I.faults input.new) ⊎
+        IsPiecesEnd (session (setup_of setup) pieces).answer) }
     ensures handled_in_part { ForPieces (I.text input.old) (λ pieces. IsCutShort result →
         HandledInPart (setup_of setup) (session (setup_of setup) pieces).handled (C.readings clock.old) requests.old.items requests.new.items (Some reply.old.held) (Some reply.new.held)) }
     ensures whole { ForPieces (I.text input.old) (λ pieces. HasBadLine (I.text input.old) → IsSourceEnd result → ⊥) }
@@ -185,6 +187,8 @@ fn serve_and_tell<I: Input, O: Sink, C: Clock>(
         TellsTaken (setup_of setup) pieces (I.text input.new) (C.readings clock.old) held (O.taken output.new)) }
     ensures all_taken { ForPieces (I.text input.old) (λ pieces. result ≡ 3 → (held : Piece) → O.taken output.old ≡ Some held →
         Rose (I.faults input.old) (I.faults input.new) ⊎ TellsAll (setup_of setup) pieces (C.readings clock.old) held (O.taken output.new)) }
+    ensures failed { ForPieces (I.text input.old) (λ pieces. result ≡ 3 → Rose (I.faults input.old) (I.faults input.new) ⊎
+        IsPiecesEnd (session (setup_of setup) pieces).answer) }
     ensures status { ForPieces (I.text input.old) (λ pieces. IsStatusFor (session (setup_of setup) pieces).answer result) }
     ensures bad_line { ForPieces (I.text input.old) (λ pieces. HasBadLine (I.text input.old) → IsPiecesEnd (session (setup_of setup) pieces).answer →
         (result ≡ 3) ⊎ (result ≡ 4) ⊎ (result ≡ 5)) }
@@ -250,6 +254,8 @@ pub fn run<I: Input, O: Sink, C: Clock>(
         (result ≡ 0) ⊎ (result ≡ 3) ⊎ (result ≡ 4) ⊎ (result ≡ 5)) }
     ensures status_stopped { ForSession words.now (I.text input.old) (λ setup pieces. (IsDone (session setup pieces).answer → ⊥) →
         (result ≡ 1) ⊎ (result ≡ 3) ⊎ (result ≡ 4) ⊎ (result ≡ 5)) }
+    ensures failed { ForSession words.now (I.text input.old) (λ setup pieces. result ≡ 3 → Rose (I.faults input.old) (I.faults input.new) ⊎
+        IsPiecesEnd (session setup pieces).answer) }
     ensures bad_line { ForSession words.now (I.text input.old) (λ setup pieces. HasBadLine (I.text input.old) → IsPiecesEnd (session setup pieces).answer →
         (result ≡ 3) ⊎ (result ≡ 4) ⊎ (result ≡ 5)) }
     // the input and the clock

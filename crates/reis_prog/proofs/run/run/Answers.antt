@@ -1,7 +1,8 @@
 use Rattle.std.proofs.Common.{◌⊎◌, rules}
 use Rattle.ei_backend.specs.Outside.{Rose}
+use Rattle.ei_session.specs.Session.{session}
 use Rattle.reis_prog.specs.Text.{pieces_of}
-use Rattle.reis_prog.specs.SessionReport.{TellsSession, TellsTaken, TellsAll}
+use Rattle.reis_prog.specs.SessionReport.{TellsSession, TellsTaken, TellsAll, IsPiecesEnd}
 use Rattle.reis_prog.proofs.SessionLaws.{of_same}
 use Rattle.reis_prog.proofs.run.run.Goals as goal
 
@@ -22,3 +23,9 @@ returns-in-Some-Serve-clause-all_taken g c = λ setup asks text told three held 
     of_same
     (λ s. Rose (g.I.Input.faults c.args.input.now) (g.I.Input.faults c.serve_and_tell.new.input) ⊎ TellsAll s (pieces_of text) (g.C.Clock.readings c.args.clock.now) held (g.O.Sink.taken c.serve_and_tell.new.output))
     _ setup (c.serve_and_tell.ensures.all_taken text told three held takes) (search rules)
+
+pub returns-in-Some-Serve-clause-failed : goal.returns-in-Some-Serve-clause-failed
+returns-in-Some-Serve-clause-failed g c = λ setup asks text told three.
+    of_same
+    (λ s. Rose (g.I.Input.faults c.args.input.now) (g.I.Input.faults c.serve_and_tell.new.input) ⊎ IsPiecesEnd (session s (pieces_of text)).answer)
+    _ setup (c.serve_and_tell.ensures.failed text told three) (search rules)

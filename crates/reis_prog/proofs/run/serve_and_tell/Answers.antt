@@ -1,4 +1,4 @@
-use Rattle.reis_prog.proofs.SessionLaws.{are_of_taken, tells_session, tells_taken, tells_all}
+use Rattle.reis_prog.proofs.SessionLaws.{are_of_taken, tells_session, tells_taken, tells_all, three_is}
 use Rattle.reis_prog.proofs.run.serve_and_tell.Goals as goal
 
 pub returns-clause-session : goal.returns-clause-session
@@ -27,3 +27,6 @@ returns-clause-all_taken g c = λ text told three held takes.
     (c.session-answer.ensures.all_handled text told)
     (record { empty = c.new-reply.ensures; reply_same = c.bytes.ensures; none = c.new-requests.ensures.items; requests_same = c.deref.ensures.value })
     (c.tell_report.ensures.told held takes) three
+
+pub returns-clause-failed : goal.returns-clause-failed
+returns-clause-failed g c = λ text told three. c.session-answer.ensures.pieces_end text told (three_is _ _ c.tell_report.ensures.statuses three)

@@ -2,7 +2,7 @@ use Rattle.std.proofs.Common.{sym, ◌∙◌}
 use Rattle.reis_prog.specs.HexSource.{reading_of}
 use Rattle.reis_prog.specs.Text.{pieces_of}
 use Rattle.reis_prog.proofs.ReadFaults.{read_fault}
-use Rattle.reis_prog.proofs.SessionLaws.{told_at_first, handled_left, rose_or_all, no_bad_line, nothing_handled}
+use Rattle.reis_prog.proofs.SessionLaws.{told_at_first, handled_left, rose_or_all, rose_or_ended, no_bad_line, nothing_handled}
 use Rattle.reis_prog.proofs.run.session.Goals as goal
 
 pub returns-in_err-held-clause-handled_in_part : goal.returns-in_err-held-clause-handled_in_part
@@ -28,5 +28,12 @@ pub returns-clause-all_handled : goal.returns-clause-all_handled
 returns-clause-all_handled g c = λ text told e.
     let one_input = sym c.over-source.ensures.same_reference ∙ c.serve-answer.ensures.later_source.same_reference ∙ sym c.close-input.ensures.same_reference in
     rose_or_all g.I.Input.text g.I.Input.later g.I.Input.faults _ c.input-1.given.0 _ (reading_of c.serve-answer.new.source) text _ _ _ _ _ _ c.over-source.ensures.fresh c.serve-answer.ensures.later_source.reading
+    (c.input-1.given.1 one_input ∙ c.close-input.ensures.same) told (c.serve-answer.ensures.read_fault e)
+    (c.serve-answer.ensures.handled (pieces_of text) (told_at_first g.I.Input.text _ _ text c.over-source.ensures.fresh told) e)
+
+pub returns-clause-pieces_end : goal.returns-clause-pieces_end
+returns-clause-pieces_end g c = λ text told e.
+    let one_input = sym c.over-source.ensures.same_reference ∙ c.serve-answer.ensures.later_source.same_reference ∙ sym c.close-input.ensures.same_reference in
+    rose_or_ended g.I.Input.text g.I.Input.later g.I.Input.faults _ c.input-1.given.0 _ (reading_of c.serve-answer.new.source) text _ _ _ _ _ _ c.over-source.ensures.fresh c.serve-answer.ensures.later_source.reading
     (c.input-1.given.1 one_input ∙ c.close-input.ensures.same) told (c.serve-answer.ensures.read_fault e)
     (c.serve-answer.ensures.handled (pieces_of text) (told_at_first g.I.Input.text _ _ text c.over-source.ensures.fresh told) e)
