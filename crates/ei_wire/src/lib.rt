@@ -9,6 +9,7 @@ mod arg_text;
 mod error;
 mod header;
 mod names;
+mod sealed;
 mod stream;
 #[cfg(test)]
 mod tests;
@@ -19,5 +20,6 @@ pub use ei_spec::{Handle, KnownInterface};
 pub use error::{FlushError, NoMemory, ParseError, ReadError, SendError};
 pub use header::Header;
 pub use names::interface_names;
+pub use sealed::Sealed;
 pub use stream::ByteStream;
 pub use text::EiText;
