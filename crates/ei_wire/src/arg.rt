@@ -1,8 +1,8 @@
 //! Arguments.
 
-ghost use Rattle.std.specs.Prelude.{◌≡◌, ℕ, List, ◌++◌, ◌≤◌, ◌<◌, ◌^◌, replicate, length, vec_len, vec_capacity, ◌+◌, OnOk, OnErr, Ok, Err, Some, None, IsTrue, codes, [], ◌∷◌};
+ghost use Rattle.std.specs.Prelude.{◌≡◌, ℕ, List, ◌++◌, ◌≤◌, ◌<◌, ◌^◌, replicate, length, vec_len, vec_capacity, ◌+◌, IfErr, OnOk, OnErr, Ok, Err, Some, None, IsTrue, codes, [], ◌∷◌};
 ghost use Rattle.ei_spec.specs.Value.{Kind, U32, I32, U64, I64, Float, Text, Nullable, Handle as HandleKind, Choice, Value, Word, Long, Signed, SignedLong, Letters, Fd, written, handles_of, IsOf, HasSpelling, text_bytes};
-ghost use Rattle.ei_wire.specs.Gives.{Gives, value_of_arg};
+ghost use Rattle.ei_wire.specs.Gives.{Gives, MayStop, value_of_arg};
 ghost use Rattle.ei_spec.specs.Reading.{read, or_null, Unread, Fault};
 ghost use Rattle.ei_spec.specs.Spelling.{Begins, Follows};
 ghost use Rattle.ei_spec.specs.Message.{IsBytes};
@@ -116,7 +116,8 @@ pub trait OwnedArg: Sized {
     /// Takes the value at the front.
     fn parse(stream: &mut ByteStream<'_>) -> Result<Self, ParseError>
         ensures read { Gives (λ x. (value x, stream.new)) result (read kind stream.old) }
-        ensures err { OnErr result (stream.new ≡ stream.old) };
+        ensures err { OnErr result (stream.new ≡ stream.old) }
+        ensures memory { IfErr result (MayStop kind) };
 
     /// The value as an argument to be written.
     fn as_arg(&self) -> Arg<'_>
