@@ -1,0 +1,4 @@
+pub mod HeaderLaws
+pub mod InterfaceNames
+pub mod NoPrefix
+pub mod TakenBytes

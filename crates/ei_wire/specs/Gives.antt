@@ -1,7 +1,7 @@
 -- What a function that reads says of what reading gives, and the values that arguments stand for.
-use Rattle.std.specs.Prelude.{◌≡◌, ℕ, Option, Some, None, Result, Ok, Err, IfSome}
-use Rattle.ei_spec.specs.Value.{Value, Word, Long, Signed, SignedLong, Letters, Null, Fd}
-use Rattle.ei_spec.specs.Reading.{Fault, EndOfMessage, Utf8, InvalidId, NoFd, InvalidOpcode, InvalidVariant, InvalidInterface, HeaderLength, MessageLength, InvalidNull, Stop}
+use Rattle.std.specs.Prelude.{◌≡◌, Option, Some, None, Result, Ok, Err}
+use Rattle.ei_spec.specs.Value.{Kind, Text, Nullable, Value, Word, Long, Signed, SignedLong, Letters, Null, Fd}
+use Rattle.ei_spec.specs.Reading.{Fault, EndOfMessage, Utf8, InvalidId, NoFd, InvalidOpcode, InvalidVariant, InvalidInterface, HeaderLength, MessageLength, InvalidNull}
 use Rattle.ei_wire.specs.declared.arg.Arg.{Arg}
 use Rattle.ei_wire.specs.declared.arg.Arg.TheVariants as arg
 use Rattle.ei_wire.specs.declared.error.ParseError.{ParseError}
@@ -52,3 +52,14 @@ fault_of (error.InvalidInterface name) = Some (InvalidInterface name)
 fault_of (error.HeaderLength n) = Some (HeaderLength n)
 fault_of (error.MessageLength n m) = Some (MessageLength n m)
 fault_of error.InvalidNull = Some InvalidNull
+
+-- the error is a fault of what is read, and not want of memory
+abbrev pub IsFault : ParseError → Type 0
+IsFault error.NoMemory = ⊥
+IsFault e = Unit {0}
+
+-- only a text wants memory
+abbrev pub MayStop : Kind → ParseError → Type 0
+MayStop Text e = Unit {0}
+MayStop Nullable e = Unit {0}
+MayStop k e = IsFault e

@@ -1,10 +1,12 @@
 //! Arguments.
 
-ghost use Rattle.std.specs.Prelude.{◌≡◌, ◌++◌, ◌≤◌, ◌<◌, ◌^◌, replicate, length, vec_len, vec_capacity, ◌+◌, OnOk, OnErr, Ok, Err, Some, None, IsTrue, codes, [], ◌∷◌};
+ghost use Rattle.std.specs.Prelude.{◌≡◌, ℕ, List, ◌++◌, ◌≤◌, ◌<◌, ◌^◌, replicate, length, vec_len, vec_capacity, ◌+◌, IfErr, OnOk, OnErr, Ok, Err, Some, None, IsTrue, codes, [], ◌∷◌};
 ghost use Rattle.ei_spec.specs.Value.{Kind, U32, I32, U64, I64, Float, Text, Nullable, Handle as HandleKind, Choice, Value, Word, Long, Signed, SignedLong, Letters, Fd, written, handles_of, IsOf, HasSpelling, text_bytes};
-ghost use Rattle.ei_wire.specs.Gives.{Gives, value_of_arg};
+ghost use Rattle.ei_wire.specs.Gives.{Gives, MayStop, value_of_arg};
 ghost use Rattle.ei_spec.specs.Reading.{read, or_null, Unread, Fault};
 ghost use Rattle.ei_spec.specs.Spelling.{Begins, Follows};
+ghost use Rattle.ei_spec.specs.Message.{IsBytes};
+ghost use Rattle.ei_wire.specs.Spellings.{IsSpelling};
 
 use crate::error::{NoMemory, ParseError};
 use crate::stream::ByteStream;
@@ -114,7 +116,8 @@ pub trait OwnedArg: Sized {
     /// Takes the value at the front.
     fn parse(stream: &mut ByteStream<'_>) -> Result<Self, ParseError>
         ensures read { Gives (λ x. (value x, stream.new)) result (read kind stream.old) }
-        ensures err { OnErr result (stream.new ≡ stream.old) };
+        ensures err { OnErr result (stream.new ≡ stream.old) }
+        ensures memory { IfErr result (MayStop kind) };
 
     /// The value as an argument to be written.
     fn as_arg(&self) -> Arg<'_>
@@ -251,4 +254,15 @@ pub fn read_back<T: OwnedArg>(x: &T)
 #[tactic(auto, using(ei_spec::proofs::KindLaws::refused))]
 pub fn no_spelling<T: OwnedArg>()
     ensures { (s t : Unread) (v : Value) (f : Fault) → read T.kind s ≡ Err f → Begins T.kind v s t → ⊥ }
+{}
+
+/// What is read stands at the front, spelled by exactly the bytes and the handle that are taken.
+pub fn spelled<T: OwnedArg>()
+    ensures { (s t : Unread) (v : Value) → IsBytes s.bytes → read T.kind s ≡ Ok (v, t) → Begins T.kind v s t }
+{}
+
+/// No spelling of a value is a proper beginning of another value's, so what follows never matters.
+#[tactic(auto, using(crate::proofs::NoPrefix::no_prefix))]
+pub fn no_proper_prefix<T: OwnedArg>()
+    ensures { (v w : Value) (a b more : List ℕ) → IsSpelling T.kind v a → IsSpelling T.kind w b → b ≡ a ++ more → more ≡ [] }
 {}

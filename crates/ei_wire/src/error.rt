@@ -12,7 +12,7 @@ use std::fmt;
 use thiserror::Error;
 
 /// Memory ran out.
-#[derive(Clone, Copy, Debug, PartialEq, Eq)]
+#[derive(Clone, Copy, Debug, PartialEq, Eq, Hash)]
 pub struct NoMemory;
 
 impl From<AllocError> for NoMemory {
@@ -28,7 +28,7 @@ impl<T: Drop> From<AllocFailed<T>> for NoMemory {
 }
 
 /// What is wrong with a message.
-#[derive(Debug, Drop)]
+#[derive(Debug, PartialEq, Eq, Drop)]
 pub enum ParseError {
     /// The message ends inside an argument.
     EndOfMessage,
@@ -92,7 +92,7 @@ impl fmt::Display for ParseError {
 impl std::error::Error for ParseError {}
 
 /// Why a message isn't sent. Nothing is written then.
-#[derive(Debug, Drop, Error)]
+#[derive(Debug, PartialEq, Eq, Drop, Error)]
 pub enum SendError {
     /// The message would have more than 1048576 bytes.
     #[error("message too long")]
@@ -106,7 +106,7 @@ pub enum SendError {
 }
 
 /// Why no piece was read.
-#[derive(Debug, Drop, Error)]
+#[derive(Debug, PartialEq, Eq, Drop, Error)]
 pub enum ReadError {
     /// The source is at its end, or the endpoint is closed.
     #[error("IO error: unexpected EOF reading ei socket")]
@@ -123,7 +123,7 @@ pub enum ReadError {
 }
 
 /// Why not all was written. The rest stays buffered.
-#[derive(Debug, Drop, Error)]
+#[derive(Debug, PartialEq, Eq, Drop, Error)]
 pub enum FlushError {
     /// The sink failed.
     #[error("IO error: write fault")]

@@ -5,12 +5,21 @@
 #![tactic(auto)]
 
 mod arg;
+mod arg_text;
 mod error;
+mod header;
+mod names;
+mod sealed;
 mod stream;
+#[cfg(test)]
+mod tests;
 mod text;
 
-pub use arg::{Arg, OwnedArg, RawFloat, no_spelling, read_back};
+pub use arg::{Arg, OwnedArg, RawFloat, no_proper_prefix, no_spelling, read_back, spelled};
 pub use ei_spec::{Handle, KnownInterface};
 pub use error::{FlushError, NoMemory, ParseError, ReadError, SendError};
+pub use header::Header;
+pub use names::interface_names;
+pub use sealed::Sealed;
 pub use stream::ByteStream;
 pub use text::EiText;

@@ -1,9 +1,9 @@
 //! Reading the arguments of a message.
 
-ghost use Rattle.std.specs.Prelude.{◌≡◌, ℕ, List, length, IfOk, OnErr, Ok, Err, ◌≤◌, ◌<◌, ◌+◌, ◌^◌, Some, None, true, nat_eq};
+ghost use Rattle.std.specs.Prelude.{◌≡◌, ℕ, List, length, IfOk, IfErr, OnErr, Ok, Err, ◌≤◌, ◌<◌, ◌+◌, ◌^◌, Some, None, true, nat_eq};
 ghost use Rattle.std.specs.List.{list_any};
 ghost use Rattle.std.specs.Int.{w32, w64};
-ghost use Rattle.ei_wire.specs.Gives.{Gives};
+ghost use Rattle.ei_wire.specs.Gives.{Gives, IsFault, MayStop};
 ghost use Rattle.ei_spec.specs.Reading.{Unread, number_at, text_at, letters_at, utf8, read, Read};
 ghost use Rattle.ei_spec.specs.Value.{Word, Long, Letters, Fd, U32, U64, Handle as HandleKind, Nullable, Text as TextKind, Choice};
 ghost use Rattle.ei_spec.specs.Reading.{or_null};
@@ -60,6 +60,7 @@ impl<'a> ByteStream<'a> {
     pub(crate) fn word(&mut self) -> Result<u32, ParseError>
         ensures read { Gives (λ n. (Word n, self.new)) result (read U32 self.old) }
         ensures err { OnErr result (self.new ≡ self.old) }
+        ensures memory { IfErr result IsFault }
     {
         let (number, rest) = word_of(self.bytes)?;
         self.bytes = rest;
@@ -70,6 +71,7 @@ impl<'a> ByteStream<'a> {
     pub(crate) fn long(&mut self) -> Result<u64, ParseError>
         ensures read { Gives (λ n. (Long n, self.new)) result (read U64 self.old) }
         ensures err { OnErr result (self.new ≡ self.old) }
+        ensures memory { IfErr result IsFault }
     {
         let (number, rest) = long_of(self.bytes)?;
         self.bytes = rest;
@@ -80,6 +82,7 @@ impl<'a> ByteStream<'a> {
     pub(crate) fn handle(&mut self) -> Result<Handle, ParseError>
         ensures read { Gives (λ h. (Fd h, self.new)) result (read HandleKind self.old) }
         ensures err { OnErr result (self.new ≡ self.old) }
+        ensures memory { IfErr result IsFault }
     {
         match self.handles.get(self.taken) {
             None => Err(ParseError::NoFd),
@@ -122,6 +125,7 @@ impl<'a> ByteStream<'a> {
         ensures read { Gives (λ n. (Word n, self.new)) result (read (Choice name.now values.now) self.old) }
         ensures listed { IfOk result (λ n. list_any (nat_eq n) values.now ≡ true) }
         ensures err { OnErr result (self.new ≡ self.old) }
+        ensures memory { IfErr result IsFault }
     {
         let (number, rest) = word_of(self.bytes)?;
         if !values.contains(&number) {
@@ -135,13 +139,15 @@ impl<'a> ByteStream<'a> {
     pub fn read_arg<T: OwnedArg>(&mut self) -> Result<T, ParseError>
         ensures read { Gives (λ x. (T.value x, self.new)) result (read T.kind self.old) }
         ensures err { OnErr result (self.new ≡ self.old) }
+        ensures memory { IfErr result (MayStop T.kind) }
     {
         T::parse(self)
     }
 }
 
 fn word_of(bytes: &[u8]) -> Result<(u32, &[u8]), ParseError>
-    ensures { Gives (λ x. (x.0, x.1.now)) result (number_at w32 bytes.now) }
+    ensures read { Gives (λ x. (x.0, x.1.now)) result (number_at w32 bytes.now) }
+    ensures memory { IfErr result IsFault }
 {
     if bytes.len() < 4 {
         return Err(ParseError::EndOfMessage);
@@ -152,7 +158,8 @@ fn word_of(bytes: &[u8]) -> Result<(u32, &[u8]), ParseError>
 }
 
 fn long_of(bytes: &[u8]) -> Result<(u64, &[u8]), ParseError>
-    ensures { Gives (λ x. (x.0, x.1.now)) result (number_at w64 bytes.now) }
+    ensures read { Gives (λ x. (x.0, x.1.now)) result (number_at w64 bytes.now) }
+    ensures memory { IfErr result IsFault }
 {
     if bytes.len() < 8 {
         return Err(ParseError::EndOfMessage);
