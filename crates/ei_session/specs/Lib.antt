@@ -5,3 +5,15 @@ pub mod Built
 pub mod Framed
 pub mod Replies
 pub mod Session
+pub mod Asked
+pub mod Inputs
+pub mod Devices
+pub mod Objects
+pub mod Serial
+pub mod Touches
+pub mod Refusals
+pub mod Requests
+pub mod Events
+pub mod Served
+pub mod Worked
+pub mod WorkedWhole

@@ -2,9 +2,17 @@
 //!
 //! There is no protocol code here. Each definition takes the messages before a position, the newest
 //! first, so that "one more message" is its own clause, and the messages of a stream cut short are a
-//! tail of the list. Begin with `specs/Session.antt`.
+//! tail of the list. Begin with `specs/Session.antt`, the session of the requests that are built, which
+//! stands on `Built`, `Framed` and `Replies`.
+//!
+//! The session of all requests stands beside it: `Inputs`, `Devices`, `Objects`, `Serial`, `Touches`,
+//! `Refusals`, `Requests`, `Events` and, on them, `Served`.
 #![tactic(auto)]
 
 mod theorems;
+mod worked;
 
 pub use theorems::{one_more_message, prefixes, sessions, streams};
+pub use worked::{
+    callbacks, devices, first_messages, handshakes, strangers, texts, touches, whole_session,
+};

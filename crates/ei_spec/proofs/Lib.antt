@@ -10,3 +10,4 @@ pub mod HistoryLaws
 pub mod GroupsLaws
 pub mod Faults
 pub mod Handleless
+pub mod TableLaws

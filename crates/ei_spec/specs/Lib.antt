@@ -3,6 +3,7 @@ pub mod Value
 pub mod Reading
 pub mod Spelling
 pub mod Rows
+pub mod Table
 pub mod Message
 pub mod Stream
 pub mod History

@@ -1,7 +1,7 @@
 //! The words that every other crate is checked against: kinds and values of arguments, the table of
 //! messages, raw messages, the reading of a stream, and words on the messages before a position.
 //!
-//! There is no protocol code here. Begin with `specs/Rows.antt`, the table of messages, and
+//! There is no protocol code here. Begin with `specs/Table.antt`, the table of all messages, and
 //! `specs/Stream.antt`, the reading of a stream.
 #![tactic(auto)]
 
@@ -11,4 +11,4 @@ mod laws;
 
 pub use handle::Handle;
 pub use interface::KnownInterface;
-pub use laws::{messages, spelling};
+pub use laws::{all_messages, messages, spelling};

@@ -1,0 +1,7 @@
+use Rattle.std.proofs.Common.{refl}
+use Rattle.ei_session.proofs.AllOpen.{all_open}
+use Rattle.ei_session.proofs.worked.whole_session.Goals as goal
+
+pub returns : goal.returns
+unfolding all_open
+returns c = record { answer = refl; bytes_in = refl; bytes_out = refl; replies = refl; requests = refl }

@@ -1,0 +1,80 @@
+-- What a session over some pieces handles and answers, for all requests.
+use Rattle.std.specs.Prelude.{ℕ, ◌-◌, Bool, true, false, not, ◌||◌, List, [], ◌∷◌, take, length, Some, None, nat_lt, if◌then◌else◌}
+use Rattle.ei_spec.specs.Reading.{HeaderLength as LengthFault}
+use Rattle.ei_spec.specs.Message.{Raw}
+use Rattle.ei_spec.specs.Stream.{Stop, Waiting, Ended, HeaderLength, Refusal as RefusedStop, Reading, read}
+use Rattle.ei_spec.specs.Piece.{Piece, stream}
+use Rattle.ei_session.specs.Setup.{Setup}
+use Rattle.ei_session.specs.Handshake.{connected}
+use Rattle.ei_session.specs.Devices.{exhausts}
+use Rattle.ei_session.specs.Refusals.{Refusal, Parse, judge}
+use Rattle.ei_session.specs.Session.{least, too_many_handles}
+
+-- the reading of a stream from its start
+unfoldable pub reading_of : Setup → List ℕ → Reading Refusal
+reading_of setup bytes = read (judge setup) [] bytes
+
+-- the messages of a stream, the newest first
+abbrev pub accepted : Setup → List ℕ → List Raw
+accepted setup bytes = (reading_of setup bytes).past
+
+-- how a session ends
+pub data Answer : Type 0 where
+  Disconnect End UnexpectedEof IdsExhausted PieceLimit HandleLimit : Answer
+  Refused : (refusal : Refusal) → Answer
+
+-- whether the ids ran out with the last message
+abbrev pub ran_out : List Raw → Bool
+ran_out [] = false
+ran_out (m ∷ before) = exhausts before m
+
+-- the answer where reading stopped so after these messages, and nothing more comes
+abbrev pub answer_of : Stop Refusal → List Raw → Answer
+answer_of Waiting past = if connected past then End else UnexpectedEof
+answer_of Ended past = if ran_out past then IdsExhausted else Disconnect
+answer_of (HeaderLength n) past = Refused (Parse (LengthFault n))
+answer_of (RefusedStop e) past = Refused e
+
+-- the stream ended by a disconnect, or all that came was taken and the connection stands
+abbrev pub IsGood : Answer → Type 0
+IsGood Disconnect = Unit {0}
+IsGood End = Unit {0}
+IsGood answer = ⊥
+
+abbrev pub IsValid : Setup → List ℕ → Type 0
+IsValid setup bytes = IsGood (answer_of (reading_of setup bytes).stop (accepted setup bytes))
+
+-- the reading of the first k pieces
+unfoldable pub read_first : Setup → List Piece → ℕ → Reading Refusal
+read_first setup pieces k = reading_of setup (stream (take k pieces))
+
+abbrev pub is_waiting : Stop Refusal → Bool
+is_waiting Waiting = true
+is_waiting stop = false
+
+-- whether the session is over with piece k
+unfoldable pub is_over : Setup → List Piece → ℕ → Bool
+is_over setup pieces k = nat_lt setup.pieces k || (too_many_handles pieces k || not (is_waiting (read_first setup pieces k).stop))
+
+-- the messages handled, the newest first, and the answer
+pub record Outcome : Type 0 where
+  pub handled : List Raw
+  pub answer : Answer
+
+-- the outcome where the session is over with piece m
+unfoldable pub over_at : Setup → List Piece → ℕ → Outcome
+over_at setup pieces m =
+    if nat_lt setup.pieces m then record { handled = (read_first setup pieces (m - 1)).past; answer = PieceLimit }
+    else (if too_many_handles pieces m then record { handled = (read_first setup pieces (m - 1)).past; answer = HandleLimit }
+    else record { handled = (read_first setup pieces m).past; answer = answer_of (read_first setup pieces m).stop (read_first setup pieces m).past })
+
+-- the outcome where the pieces end before it is over
+abbrev pub at_end : List Raw → Outcome
+at_end past = record { handled = past; answer = answer_of Waiting past }
+
+-- the outcome of a session over these pieces
+unfoldable pub session : Setup → List Piece → Outcome
+session setup pieces = elim (least (is_over setup pieces) 1 (length pieces)) [
+  | Some m ↦ over_at setup pieces m
+  | None ↦ at_end (read_first setup pieces (length pieces)).past
+]
