@@ -3,3 +3,11 @@ pub mod OneMore
 pub mod Parts
 pub mod WorkedRows
 pub mod AllOpen
+pub mod AllParts
+pub mod Choices
+pub mod Opcodes
+pub mod ObjectLaws
+pub mod ObjectShape
+pub mod SerialLaws
+pub mod ItemLaws
+pub mod ReplyLaws
