@@ -11,3 +11,6 @@ pub mod ObjectShape
 pub mod SerialLaws
 pub mod ItemLaws
 pub mod ReplyLaws
+pub mod TouchLaws
+pub mod AcceptedLaws
+pub mod ReplyBytes

@@ -5,11 +5,11 @@ ghost use Rattle.std.specs.Option.{option_or};
 ghost use Rattle.ei_spec.specs.declared.interface.KnownInterface.{KnownInterface};
 ghost use Rattle.ei_spec.specs.declared.interface.KnownInterface.TheVariants as known;
 ghost use Rattle.ei_spec.specs.Value.{Word, Long};
-ghost use Rattle.ei_spec.specs.Message.{Raw, IsBytes};
+ghost use Rattle.ei_spec.specs.Message.{Raw, IsBytes, all_bytes};
 ghost use Rattle.ei_spec.specs.Piece.{Piece};
 ghost use Rattle.ei_spec.specs.Groups.{Input as Waits, Frame, Other, Free, gives, frames_made};
 ghost use Rattle.ei_spec.specs.History.{each};
-ghost use Rattle.ei_spec.specs.Stream.{Reading, go_on, IsReading, AreOpen, stream_of};
+ghost use Rattle.ei_spec.specs.Stream.{Waiting, Reading, go_on, IsReading, AreOpen, stream_of};
 ghost use Rattle.ei_session.specs.Setup.{Setup, connection_id, seat_id};
 ghost use Rattle.ei_session.specs.Asked.{asked, asks};
 ghost use Rattle.ei_session.specs.Handshake.{connected, is_finish, is_the_finish, settled, version};
@@ -17,12 +17,12 @@ ghost use Rattle.ei_session.specs.Inputs.{DeviceInput};
 ghost use Rattle.ei_session.specs.Devices.{seat_is_open, interfaces_of, made, ids_given, next_id, exhausts};
 ghost use Rattle.ei_session.specs.Objects.{Entry, new_device, handed_over, at_first, is_device, is_of, says, object, interfaces_left, gone};
 ghost use Rattle.ei_session.specs.Serial.{steps, serial};
-ghost use Rattle.ei_session.specs.Touches.{input, touches, is_down};
+ghost use Rattle.ei_session.specs.Touches.{input, touches, is_down, touches_down};
 ghost use Rattle.ei_session.specs.Refusals.{Refusal, synced, judge};
 ghost use Rattle.ei_session.specs.Requests.{Request, Bind, RequestDevice, Ready, DeviceClosed, DeviceStartEmulating, DeviceStopEmulating, Disconnect, is_heard, item, slot, framed};
 ghost use Rattle.ei_session.specs.Replies.{finish_events};
 ghost use Rattle.ei_session.specs.Events.{invalid_object_event, callback_event, device_events, destroyed_events, reply, replies};
-ghost use Rattle.ei_session.specs.Served.{accepted, reading_of, read_first, is_over, over_at, at_end, session};
+ghost use Rattle.ei_session.specs.Served.{AreUnrefused, accepted, reading_of, read_first, is_over, over_at, at_end, session};
 
 /// A stream has one reading, and it doesn't matter how the stream was cut.
 pub fn all_streams()
@@ -157,4 +157,14 @@ pub fn answers()
         asks e.interface (codes "release") m ≡ true → gone before m ≡ interfaces_left before m.id ++ (m.id ∷ []) }
     ensures plain { (setup : Setup) (before : List Raw) (m : Raw) (e : Entry) → is_the_finish before m ≡ false → made before m ≡ None → object before m.id ≡ Some e →
         asks e.interface (codes "release") m ≡ false → synced before m ≡ None → reply setup before m ≡ [] }
+{}
+
+/// How much there is at most: of touches, of unread bytes, of objects that go, of bytes that answer a message.
+pub fn bounds()
+    ensures unrefused { (setup : Setup) (bytes : List ℕ) → IsBytes bytes → AreUnrefused setup (accepted setup bytes) }
+    ensures touches { (setup : Setup) (past : List Raw) (device : ℕ) → AreUnrefused setup past → length (touches_down past device) ≤ 16 }
+    ensures unread { (setup : Setup) (bytes : List ℕ) → IsBytes bytes → (reading_of setup bytes).stop ≡ Waiting → length (reading_of setup bytes).rest < 1048576 }
+    ensures interfaces { (mask : ℕ) → length (interfaces_of mask) ≤ 7 }
+    ensures gone { (before : List Raw) (m : Raw) → length (gone before m) ≤ 8 }
+    ensures reply { (setup : Setup) (before : List Raw) (m : Raw) → length (all_bytes (reply setup before m)) ≤ 804 }
 {}

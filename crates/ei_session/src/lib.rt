@@ -14,7 +14,7 @@ mod theorems;
 mod worked;
 
 pub use all_requests::{
-    all_one_more, all_prefixes, all_sessions, all_streams, answers, items, objects_after,
+    all_one_more, all_prefixes, all_sessions, all_streams, answers, bounds, items, objects_after,
     objects_there, steps_after,
 };
 pub use theorems::{one_more_message, prefixes, sessions, streams};

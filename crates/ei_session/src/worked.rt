@@ -1,6 +1,6 @@
 //! Sessions over worked streams, as the definitions have them. Each function does nothing: its clauses are the sessions.
 
-ghost use Rattle.std.specs.Prelude.{◌≡◌, ℕ, List, [], ◌∷◌, ◌++◌, map, length, codes, pos};
+ghost use Rattle.std.specs.Prelude.{◌≡◌, ℕ, ◌+◌, List, [], ◌∷◌, ◌++◌, map, length, codes, pos};
 ghost use Rattle.ei_spec.specs.Message.{header, le4};
 ghost use Rattle.ei_spec.specs.Groups.{Timed, Framed, Plain};
 ghost use Rattle.ei_spec.specs.Reading.{EndOfMessage, Utf8, InvalidId, InvalidOpcode, InvalidVariant, HeaderLength, MessageLength, InvalidNull};
@@ -14,7 +14,7 @@ ghost use Rattle.ei_session.specs.Refusals.{Handshake, Request, Parse, InvalidIn
 ghost use Rattle.ei_session.specs.Requests.{Bind, DeviceClosed, DeviceStartEmulating, DeviceStopEmulating, Ready, Disconnect as Disconnects};
 ghost use Rattle.ei_session.specs.Served.{session, Disconnect, End, UnexpectedEof, PieceLimit, Refused};
 ghost use Rattle.ei_session.specs.Worked.{buttons, with_capabilities, parts, piece, single_bytes, answer, requests, reply_bytes, shaken, greeted, connected_with, disconnect, sync, called, bind, device_id, interface_id, device_of_button, resumed, press, frame, ready, release, destroyed, invalid_object, touch_down, touch_motion, touch_up, touch_cancel, sixteen_down, touchscreen_announced, three_announced, finish, longest_text, too_long_text, empty_text};
-ghost use Rattle.ei_session.specs.WorkedWhole.{all_setup, all_shaken, all_asked, all_replied};
+ghost use Rattle.ei_session.specs.WorkedWhole.{all_setup, all_shaken, all_asked, all_connected, all_replied};
 
 /// A handshake and a disconnect, whole and byte by byte.
 pub fn handshakes()
@@ -111,6 +111,7 @@ pub fn whole_session()
     ensures answer { answer all_setup (all_shaken ++ all_asked) ≡ Disconnect }
     ensures bytes_in { length (parts all_shaken) ≡ 524 }
     ensures bytes_out { length all_replied ≡ 1408 }
+    ensures longest_reply { length all_connected ≡ 20 + 804 }
     ensures replies { reply_bytes all_setup (all_shaken ++ all_asked) ≡ all_replied }
     ensures requests { requests all_setup [] (all_shaken ++ all_asked) ≡
         Plain (Bind seat_id 127)
