@@ -14,3 +14,6 @@ pub mod ReplyLaws
 pub mod TouchLaws
 pub mod AcceptedLaws
 pub mod ReplyBytes
+pub mod DeviceRange
+pub mod GoneLaws
+pub mod ReplyTargets

@@ -270,7 +270,7 @@ no_second before m d (Some y) w f q =
     let high = (given_range before m (made before m) d y refl (sym (given_by before m d f) ∙ q)).0 in
     absurd (omega arith)
 
-of_is : (device : ℕ) (e : Entry) (d : ℕ) → e.device ≡ Some d → is_of device (Some e) ≡ eqb d device
+pub of_is : (device : ℕ) (e : Entry) (d : ℕ) → e.device ≡ Some d → is_of device (Some e) ≡ eqb d device
 unfolding is_of
 of_is device e d p = rw (p, is_of) refl
 
@@ -306,7 +306,7 @@ goes_with before m id e d false f w k p r =
     rw (f, j, b, c) (goes_bools (is_release (introduced before m.id) m) (eqb m.id id) (was_device (introduced before m.id)) (eqb d m.id) t (rw a at r2))
 
 -- the finish gives no id above the seat
-high_none : (before : List Raw) (m : Raw) (d : ℕ) → seat_id < d → is_the_finish before m ≡ true → introduces before m d ≡ None
+pub high_none : (before : List Raw) (m : Raw) (d : ℕ) → seat_id < d → is_the_finish before m ≡ true → introduces before m d ≡ None
 unfolding introduces handed_over
 high_none before m d le f =
     let far : eqb d connection_id ≡ false = grind (arith, nat_tests) in

@@ -1,5 +1,5 @@
 -- The events that a server answers all requests by.
-use Rattle.std.specs.Prelude.{ℕ, ◌+◌, ◌%◌, ◌^◌, List, [], ◌∷◌, ◌++◌, Option, Some, None, codes, if◌then◌else◌}
+use Rattle.std.specs.Prelude.{◌≡◌, ◌⊎◌, ℕ, ◌+◌, ◌%◌, ◌^◌, true, List, [], ◌∷◌, ◌++◌, Option, Some, None, is_some, codes, if◌then◌else◌}
 use Rattle.ei_spec.specs.declared.interface.KnownInterface.{KnownInterface}
 use Rattle.ei_spec.specs.declared.interface.KnownInterface.TheVariants as known
 use Rattle.ei_spec.specs.Interface.{name_of}
@@ -87,3 +87,14 @@ reply setup before m = if is_the_finish before m then finish_events setup before
 -- all events, the oldest first
 unfoldable pub replies : Setup → List Raw → List Raw
 replies setup raws = greeting ∷ joined (reply setup) raws
+
+-- ---- where events go
+
+-- the id is that of a callback which is called, or of an object that is there before the message or after it
+abbrev pub IsTarget : List Raw → Raw → ℕ → Type 0
+IsTarget before m id = (synced before m ≡ Some id) ⊎ ((is_some (object before id) ≡ true) ⊎ (is_some (object (m ∷ before) id) ≡ true))
+
+-- each of the events that answer the message goes to such an id
+abbrev pub AreTargets : List Raw → Raw → List Raw → Type 0
+AreTargets before m [] = Unit {0}
+AreTargets before m (event ∷ events) = IsTarget before m event.id × AreTargets before m events

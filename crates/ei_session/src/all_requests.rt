@@ -1,7 +1,8 @@
 //! The laws of the definitions for all requests. Each function does nothing: its clauses are the laws.
 
-ghost use Rattle.std.specs.Prelude.{◌≡◌, ◌≢◌, ◌≤◌, ◌<◌, ◌+◌, ◌%◌, ◌^◌, ◌++◌, ◌==◌, ◌⊎◌, ℕ, List, [], ◌∷◌, Bool, true, false, Option, Some, None, length, is_some, unwrap_or, codes, if◌then◌else◌};
+ghost use Rattle.std.specs.Prelude.{◌≡◌, ◌≢◌, ◌≤◌, ◌<◌, ◌+◌, ◌%◌, ◌^◌, ◌++◌, ◌==◌, ◌⊎◌, ℕ, List, [], ◌∷◌, Bool, true, false, Option, Some, None, length, is_some, unwrap_or, nat_eq, not, codes, if◌then◌else◌};
 ghost use Rattle.std.specs.Option.{option_or};
+ghost use Rattle.std.specs.List.{filter, list_any, range_with_len};
 ghost use Rattle.ei_spec.specs.declared.interface.KnownInterface.{KnownInterface};
 ghost use Rattle.ei_spec.specs.declared.interface.KnownInterface.TheVariants as known;
 ghost use Rattle.ei_spec.specs.Value.{Word, Long};
@@ -21,7 +22,7 @@ ghost use Rattle.ei_session.specs.Touches.{input, touches, is_down, touches_down
 ghost use Rattle.ei_session.specs.Refusals.{Refusal, synced, judge};
 ghost use Rattle.ei_session.specs.Requests.{Request, Bind, RequestDevice, Ready, DeviceClosed, DeviceStartEmulating, DeviceStopEmulating, Disconnect, is_heard, item, slot, framed};
 ghost use Rattle.ei_session.specs.Replies.{finish_events};
-ghost use Rattle.ei_session.specs.Events.{invalid_object_event, callback_event, device_events, destroyed_events, reply, replies};
+ghost use Rattle.ei_session.specs.Events.{invalid_object_event, callback_event, device_events, destroyed_events, reply, replies, AreTargets};
 ghost use Rattle.ei_session.specs.Served.{AreUnrefused, accepted, reading_of, read_first, is_over, over_at, at_end, session};
 
 /// A stream has one reading, and it doesn't matter how the stream was cut.
@@ -94,8 +95,10 @@ pub fn objects_there()
     ensures seat { (before : List Raw) → is_some (object before seat_id) ≡ seat_is_open before }
     ensures owner { (before : List Raw) (id : ℕ) (e : Entry) (d : ℕ) → object before id ≡ Some e → e.device ≡ Some d →
         (w : Entry) × (object before d ≡ Some w) × (w.interface ≡ known.Device) × (w.device ≡ Some d) }
+    ensures device { (before : List Raw) (id : ℕ) (e : Entry) → object before id ≡ Some e → e.interface ≡ known.Device → e.device ≡ Some id }
     ensures above { (before : List Raw) (id : ℕ) (e : Entry) (d : ℕ) → object before id ≡ Some e → e.device ≡ Some d → seat_id < id }
-    ensures below { (before : List Raw) (id : ℕ) (e : Entry) (d : ℕ) → object before id ≡ Some e → e.device ≡ Some d → id < next_id before }
+    ensures below { (before : List Raw) (id : ℕ) (e : Entry) → object before id ≡ Some e → id < next_id before }
+    ensures gone { (more before : List Raw) (m : Raw) (id : ℕ) → connected (m ∷ before) ≡ true → list_any (nat_eq id) (gone before m) ≡ true → object (more ++ (m ∷ before)) id ≡ None }
 {}
 
 /// How many serials a message of each kind uses.
@@ -167,4 +170,21 @@ pub fn bounds()
     ensures interfaces { (mask : ℕ) → length (interfaces_of mask) ≤ 7 }
     ensures gone { (before : List Raw) (m : Raw) → length (gone before m) ≤ 8 }
     ensures reply { (setup : Setup) (before : List Raw) (m : Raw) → length (all_bytes (reply setup before m)) ≤ 804 }
+{}
+
+/// The interfaces that a device has left, after a message of each kind.
+pub fn interfaces_after()
+    ensures new { (before : List Raw) (m : Raw) (mask : ℕ) → made before m ≡ Some mask →
+        interfaces_left (m ∷ before) (next_id before) ≡ range_with_len (next_id before + 1) (length (interfaces_of mask)) }
+    ensures another { (before : List Raw) (m : Raw) (mask d : ℕ) → made before m ≡ Some mask → next_id before ≢ d → interfaces_left (m ∷ before) d ≡ interfaces_left before d }
+    ensures interface_release { (before : List Raw) (m : Raw) (e : Entry) (d device : ℕ) → made before m ≡ None → object before m.id ≡ Some e → e.device ≡ Some d → is_device e.interface ≡ false →
+        asks e.interface (codes "release") m ≡ true → interfaces_left (m ∷ before) device ≡ filter (λ id. not (m.id == id)) (interfaces_left before device) }
+    ensures device_release { (before : List Raw) (m : Raw) (e : Entry) (d : ℕ) → made before m ≡ None → object before m.id ≡ Some e → e.device ≡ Some m.id → e.interface ≡ known.Device →
+        asks e.interface (codes "release") m ≡ true → d ≢ m.id → interfaces_left (m ∷ before) d ≡ interfaces_left before d }
+    ensures plain { (before : List Raw) (m : Raw) (d : ℕ) → made before m ≡ None → ((id : ℕ) → object (m ∷ before) id ≡ object before id) → interfaces_left (m ∷ before) d ≡ interfaces_left before d }
+{}
+
+/// Each event goes to an object that is there, or to the callback that it calls.
+pub fn targets()
+    ensures targets { (setup : Setup) (before : List Raw) (m : Raw) → AreTargets before m (reply setup before m) }
 {}
