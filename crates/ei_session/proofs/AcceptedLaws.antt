@@ -1,5 +1,5 @@
 -- What the accepted messages of a stream are like, and what is unread behind them.
-use Rattle.std.proofs.Common.{◌≡◌, ℕ, ◌<◌, Bool, ◌||◌, ltb, List, [], ◌∷◌, length, Option, Some, None, refl, arith, inl, inr}
+use Rattle.std.proofs.Common.{◌≡◌, ℕ, ◌<◌, Bool, true, false, ◌||◌, ltb, List, [], ◌∷◌, length, Option, Some, None, refl, ◌∙◌, arith, inl, inr}
 use Rattle.std.proofs.lemmas.Bool.{ltb-true, ltb-false}
 use Rattle.ei_spec.specs.Message.{Raw, IsBytes, Short, size_at, front_of, front}
 use Rattle.ei_spec.specs.Stream.{Accepted, Final, Stop, Waiting, Ended, HeaderLength, Refusal as RefusedStop, AreOpen, StopsSo}
@@ -8,7 +8,9 @@ use Rattle.ei_session.specs.Setup.{Setup}
 use Rattle.ei_session.specs.Devices.{exhausts}
 use Rattle.ei_session.specs.Refusals.{Refusal, refusal, is_disconnect, verdict, judge}
 use Rattle.ei_session.specs.Served.{AreUnrefused, reading_of, accepted}
-use Rattle.ei_session.proofs.Choices.{chosen}
+use Rattle.ei_spec.specs.History.{occurs}
+use Rattle.ei_spec.proofs.HistoryLaws.{occurs_or}
+use Rattle.ei_session.proofs.Choices.{chosen, or_none}
 
 -- ---- accepted messages aren't refused
 
@@ -78,3 +80,19 @@ waits_short setup (RefusedStop x) past rest e h = absurd cc
 pub unread_short : (setup : Setup) (bytes : List ℕ) → IsBytes bytes → (reading_of setup bytes).stop ≡ Waiting → length (reading_of setup bytes).rest < 1048576
 unfolding reading_of
 unread_short setup bytes h e = let r = is_reading (judge setup) bytes h in front_short _ (waits_short setup _ _ _ e r.stops)
+
+-- ---- accepted messages exhaust no ids, but the last may
+
+lasting : (o : Option Refusal) (b : Bool) → verdict o b ≡ Accepted → b ≡ false
+lasting None true e = absurd cc
+lasting None false e = refl
+lasting (Some x) b e = absurd cc
+
+no_exhausting : (setup : Setup) (before : List Raw) (m : Raw) → judge setup before m ≡ Accepted → exhausts before m ≡ false
+unfolding judge
+no_exhausting setup before m e = (or_none (is_disconnect before m) (exhausts before m) (lasting (refusal setup before m) (is_disconnect before m || exhausts before m) e)).1
+
+pub open_lasts : (setup : Setup) (past : List Raw) → AreOpen (judge setup) past → occurs exhausts past ≡ false
+unfolding AreOpen occurs
+open_lasts setup [] h = refl
+open_lasts setup (m ∷ before) h = occurs_or exhausts before m ∙ rw (no_exhausting setup before m h.1) (open_lasts setup before h.2)

@@ -17,3 +17,6 @@ pub mod ReplyBytes
 pub mod DeviceRange
 pub mod GoneLaws
 pub mod ReplyTargets
+pub mod Announcing
+pub mod NewCallbacks
+pub mod WaitingLaws

@@ -172,11 +172,11 @@ down_says before m d i t a b h e x n s = by (eqb t n) refl (sym (rw (h, touches,
 -- ---- a message that isn't refused leaves at most sixteen down
 
 -- none of the tests applies
-abbrev AllNone : List (Option Refusal) → Type 0
+abbrev pub AllNone : List (Option Refusal) → Type 0
 AllNone [] = Unit {0}
 AllNone (x ∷ xs) = (x ≡ None) × AllNone xs
 
-all_none : (xs : List (Option Refusal)) → first xs ≡ None → AllNone xs
+pub all_none : (xs : List (Option Refusal)) → first xs ≡ None → AllNone xs
 all_none [] h = tt
 all_none (None ∷ xs) h = (refl, all_none xs h)
 all_none (Some x ∷ xs) h = absurd (none_some x (sym h))

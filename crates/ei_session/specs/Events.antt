@@ -9,7 +9,7 @@ use Rattle.ei_spec.specs.History.{joined}
 use Rattle.ei_session.specs.Setup.{Setup, connection_id, seat_id}
 use Rattle.ei_session.specs.Asked.{event}
 use Rattle.ei_session.specs.Handshake.{connected, is_the_finish, version}
-use Rattle.ei_session.specs.Replies.{finish_events, greeting}
+use Rattle.ei_session.specs.Replies.{connection_event, seat_event, finish_events, greeting}
 use Rattle.ei_session.specs.Devices.{interfaces_of, made, next_id, exhausts}
 use Rattle.ei_session.specs.Objects.{Entry, object, gone}
 use Rattle.ei_session.specs.Serial.{serial}
@@ -98,3 +98,21 @@ IsTarget before m id = (synced before m ≡ Some id) ⊎ ((is_some (object befor
 abbrev pub AreTargets : List Raw → Raw → List Raw → Type 0
 AreTargets before m [] = Unit {0}
 AreTargets before m (event ∷ events) = IsTarget before m event.id × AreTargets before m events
+
+-- ---- where objects are announced
+
+-- the event that announces an object
+abbrev pub announced_as : Setup → ℕ → ℕ → Option ℕ → KnownInterface → Raw
+announced_as setup id v device known.Connection = connection_event 0 setup.serial id
+announced_as setup id v device known.Seat = seat_event connection_id id v
+announced_as setup id v device known.Device = device_event id v
+announced_as setup id v (Some device) interface = interface_event device id interface v
+announced_as setup id v None interface = greeting
+
+abbrev pub announcement : Setup → ℕ → Entry → Raw
+announcement setup id e = announced_as setup id e.version e.device e.interface
+
+-- the event is one of these
+abbrev pub IsAmong : Raw → List Raw → Type 0
+IsAmong event [] = ⊥
+IsAmong event (x ∷ xs) = (x ≡ event) ⊎ IsAmong event xs

@@ -1,6 +1,6 @@
 //! The laws of the definitions for all requests. Each function does nothing: its clauses are the laws.
 
-ghost use Rattle.std.specs.Prelude.{◌≡◌, ◌≢◌, ◌≤◌, ◌<◌, ◌+◌, ◌%◌, ◌^◌, ◌++◌, ◌==◌, ◌⊎◌, ℕ, List, [], ◌∷◌, Bool, true, false, Option, Some, None, length, is_some, unwrap_or, nat_eq, not, codes, if◌then◌else◌};
+ghost use Rattle.std.specs.Prelude.{◌≡◌, ◌≢◌, ◌≤◌, ◌<◌, ◌+◌, ◌%◌, ◌^◌, ◌++◌, ◌==◌, ◌&&◌, ◌||◌, ◌⊎◌, ℕ, List, [], ◌∷◌, Bool, true, false, Option, Some, None, length, is_some, unwrap_or, nat_eq, not, codes, if◌then◌else◌};
 ghost use Rattle.std.specs.Option.{option_or};
 ghost use Rattle.std.specs.List.{filter, list_any, range_with_len};
 ghost use Rattle.ei_spec.specs.declared.interface.KnownInterface.{KnownInterface};
@@ -8,21 +8,21 @@ ghost use Rattle.ei_spec.specs.declared.interface.KnownInterface.TheVariants as 
 ghost use Rattle.ei_spec.specs.Value.{Word, Long};
 ghost use Rattle.ei_spec.specs.Message.{Raw, IsBytes, all_bytes};
 ghost use Rattle.ei_spec.specs.Piece.{Piece};
-ghost use Rattle.ei_spec.specs.Groups.{Input as Waits, Frame, Other, Free, gives, frames_made};
-ghost use Rattle.ei_spec.specs.History.{each};
+ghost use Rattle.ei_spec.specs.Groups.{Input as Waits, Frame, Other, Free, group, gives, frames_made};
+ghost use Rattle.ei_spec.specs.History.{each, occurs};
 ghost use Rattle.ei_spec.specs.Stream.{Waiting, Reading, go_on, IsReading, AreOpen, stream_of};
 ghost use Rattle.ei_session.specs.Setup.{Setup, connection_id, seat_id};
 ghost use Rattle.ei_session.specs.Asked.{asked, asks};
 ghost use Rattle.ei_session.specs.Handshake.{connected, is_finish, is_the_finish, settled, version};
-ghost use Rattle.ei_session.specs.Inputs.{DeviceInput};
+ghost use Rattle.ei_session.specs.Inputs.{TouchDown, TouchUp, TouchCancel, DeviceInput};
 ghost use Rattle.ei_session.specs.Devices.{seat_is_open, interfaces_of, made, ids_given, next_id, exhausts};
 ghost use Rattle.ei_session.specs.Objects.{Entry, new_device, handed_over, at_first, is_device, is_of, says, object, interfaces_left, gone};
 ghost use Rattle.ei_session.specs.Serial.{steps, serial};
 ghost use Rattle.ei_session.specs.Touches.{input, touches, is_down, touches_down};
-ghost use Rattle.ei_session.specs.Refusals.{Refusal, synced, judge};
-ghost use Rattle.ei_session.specs.Requests.{Request, Bind, RequestDevice, Ready, DeviceClosed, DeviceStartEmulating, DeviceStopEmulating, Disconnect, is_heard, item, slot, framed};
+ghost use Rattle.ei_session.specs.Refusals.{Refusal, synced, is_at_most, refusal, judge};
+ghost use Rattle.ei_session.specs.Requests.{Request, Plain, Bind, RequestDevice, Ready, DeviceClosed, DeviceStartEmulating, DeviceStopEmulating, Disconnect, is_heard, item, slot, framed};
 ghost use Rattle.ei_session.specs.Replies.{finish_events};
-ghost use Rattle.ei_session.specs.Events.{invalid_object_event, callback_event, device_events, destroyed_events, reply, replies, AreTargets};
+ghost use Rattle.ei_session.specs.Events.{invalid_object_event, callback_event, device_events, destroyed_events, reply, replies, AreTargets, announcement, IsAmong};
 ghost use Rattle.ei_session.specs.Served.{AreUnrefused, accepted, reading_of, read_first, is_over, over_at, at_end, session};
 
 /// A stream has one reading, and it doesn't matter how the stream was cut.
@@ -184,7 +184,37 @@ pub fn interfaces_after()
     ensures plain { (before : List Raw) (m : Raw) (d : ℕ) → made before m ≡ None → ((id : ℕ) → object (m ∷ before) id ≡ object before id) → interfaces_left (m ∷ before) d ≡ interfaces_left before d }
 {}
 
-/// Each event goes to an object that is there, or to the callback that it calls.
+/// Each event goes to an object that is there, or to the callback that it calls; and what is there was announced.
 pub fn targets()
     ensures targets { (setup : Setup) (before : List Raw) (m : Raw) → AreTargets before m (reply setup before m) }
+    ensures announced { (setup : Setup) (past : List Raw) (id : ℕ) (e : Entry) → occurs exhausts past ≡ false → id ≢ 0 → object past id ≡ Some e →
+        IsAmong (announcement setup id e) (replies setup past) }
+    ensures callback { (setup : Setup) (before : List Raw) (m : Raw) (c : ℕ) → refusal setup before m ≡ None → synced before m ≡ Some c →
+        (0 < c) × (c < connection_id) × (occurs (λ b x. is_at_most c (synced b x)) before ≡ false) }
+    ensures lasts { (setup : Setup) (past : List Raw) → AreOpen (judge setup) past → occurs exhausts past ≡ false }
+{}
+
+/// The inputs that wait on a device, after a message of each kind.
+pub fn groups()
+    ensures input { (setup : Setup) (before : List Raw) (m : Raw) (device d : ℕ) (i : DeviceInput) → item before m ≡ Some (Waits d i) →
+        group device (each (slot setup) (m ∷ before)) ≡ (if d == device then group device (each (slot setup) before) ++ (i ∷ []) else group device (each (slot setup) before)) }
+    ensures frame { (setup : Setup) (before : List Raw) (m : Raw) (device d serial time : ℕ) → item before m ≡ Some (Frame d serial time) →
+        group device (each (slot setup) (m ∷ before)) ≡ (if d == device then [] else group device (each (slot setup) before)) }
+    ensures other { (setup : Setup) (before : List Raw) (m : Raw) (device d : ℕ) (y : Plain) → item before m ≡ Some (Other d y) →
+        group device (each (slot setup) (m ∷ before)) ≡ (if d == device then [] else group device (each (slot setup) before)) }
+    ensures free { (setup : Setup) (before : List Raw) (m : Raw) (device : ℕ) (y : Plain) → item before m ≡ Some (Free y) →
+        group device (each (slot setup) (m ∷ before)) ≡ group device (each (slot setup) before) }
+    ensures none { (setup : Setup) (before : List Raw) (m : Raw) (device : ℕ) → item before m ≡ None →
+        group device (each (slot setup) (m ∷ before)) ≡ group device (each (slot setup) before) }
+{}
+
+/// The touches that are down, after a message of each kind.
+pub fn touches_after()
+    ensures down { (before : List Raw) (m : Raw) (d t a b : ℕ) → input before m ≡ Some (record { device = d; input = TouchDown t a b }) →
+        (device touch : ℕ) → is_down (m ∷ before) device touch ≡ ((d == device && t == touch) || is_down before device touch) }
+    ensures up { (before : List Raw) (m : Raw) (d t : ℕ) → input before m ≡ Some (record { device = d; input = TouchUp t }) →
+        (device touch : ℕ) → is_down (m ∷ before) device touch ≡ (not (d == device && t == touch) && is_down before device touch) }
+    ensures cancel { (before : List Raw) (m : Raw) (d t : ℕ) → input before m ≡ Some (record { device = d; input = TouchCancel t }) →
+        (device touch : ℕ) → is_down (m ∷ before) device touch ≡ (not (d == device && t == touch) && is_down before device touch) }
+    ensures none { (before : List Raw) (m : Raw) → input before m ≡ None → (device touch : ℕ) → is_down (m ∷ before) device touch ≡ is_down before device touch }
 {}
