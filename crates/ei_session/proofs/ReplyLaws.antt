@@ -3,18 +3,19 @@ use Rattle.std.proofs.Common.{◌≡◌, ◌≢◌, ℕ, true, false, eqb, List,
 use Rattle.std.specs.Prelude.{codes}
 use Rattle.std.proofs.lemmas.Bool.{eqb-true}
 use Rattle.std.proofs.lemmas.Bool.Decides.{nat_tests}
+use Rattle.ei_spec.specs.declared.interface.KnownInterface.{KnownInterface}
 use Rattle.ei_spec.specs.declared.interface.KnownInterface.TheVariants as known
 use Rattle.ei_spec.specs.Value.{Word, Long}
 use Rattle.ei_spec.specs.Message.{Raw}
 use Rattle.ei_session.specs.Setup.{Setup, connection_id, seat_id}
-use Rattle.ei_session.specs.Asked.{asked, asks}
+use Rattle.ei_session.specs.Asked.{asked, asks, event}
 use Rattle.ei_session.specs.Handshake.{connected, is_the_finish, version}
 use Rattle.ei_session.specs.Replies.{finish_events}
 use Rattle.ei_session.specs.Devices.{seat_is_open, made, interfaces_of, next_id, exhausts}
 use Rattle.ei_session.specs.Objects.{Entry, is_release, object, gone}
 use Rattle.ei_session.specs.Serial.{serial}
 use Rattle.ei_session.specs.Refusals.{synced}
-use Rattle.ei_session.specs.Events.{invalid_object_event, callback_event, device_events, destroyed_events, callback_events, reply}
+use Rattle.ei_session.specs.Events.{invalid_object_event, callback_event, device_events, destroyed_event, destroyed_events, callback_events, reply}
 use Rattle.ei_session.proofs.Choices.{and_right, and_false}
 use Rattle.ei_session.proofs.ObjectLaws.{not_finish, makes_nothing, made_is}
 use Rattle.ei_session.proofs.ObjectShape.{unknown_makes_nothing, object_connection, connection_unreleased, release_makes_nothing, the_connection}
@@ -69,3 +70,20 @@ reply_sync setup before m callback v on at h =
     let f = not_finish before m (omega (arith, at)) in
     let n = makes_nothing before m (λ q. omega (arith, at, q)) in
     reply_known setup before m the_connection f n k ∙ rw (synced_is before m callback v on at h, gone_plain before m the_connection k (connection_unreleased known.Connection m refl)) refl
+
+-- the event by which an object goes is that of its own interface
+pub same_destroyed : (interface : KnownInterface) (m : Raw) (id serial : ℕ) → asks interface (codes "release") m ≡ true → destroyed_event id serial ≡ event interface (codes "destroyed") id (Word serial ∷ [])
+unfolding asks asked
+same_destroyed known.Handshake m id serial h = absurd cc
+same_destroyed known.Connection m id serial h = absurd cc
+same_destroyed known.Callback m id serial h = absurd cc
+same_destroyed known.Pingpong m id serial h = absurd cc
+same_destroyed known.Seat m id serial h = refl
+same_destroyed known.Device m id serial h = refl
+same_destroyed known.Pointer m id serial h = refl
+same_destroyed known.PointerAbsolute m id serial h = refl
+same_destroyed known.Scroll m id serial h = refl
+same_destroyed known.Button m id serial h = refl
+same_destroyed known.Keyboard m id serial h = refl
+same_destroyed known.Touchscreen m id serial h = refl
+same_destroyed known.Text m id serial h = refl

@@ -12,7 +12,7 @@ ghost use Rattle.ei_spec.specs.Groups.{Input as Waits, Frame, Other, Free, group
 ghost use Rattle.ei_spec.specs.History.{each, occurs};
 ghost use Rattle.ei_spec.specs.Stream.{Waiting, Reading, go_on, IsReading, AreOpen, stream_of};
 ghost use Rattle.ei_session.specs.Setup.{Setup, connection_id, seat_id};
-ghost use Rattle.ei_session.specs.Asked.{asked, asks};
+ghost use Rattle.ei_session.specs.Asked.{asked, asks, event};
 ghost use Rattle.ei_session.specs.Handshake.{connected, is_finish, is_the_finish, settled, version};
 ghost use Rattle.ei_session.specs.Inputs.{TouchDown, TouchUp, TouchCancel, DeviceInput};
 ghost use Rattle.ei_session.specs.Devices.{seat_is_open, interfaces_of, made, ids_given, next_id, exhausts};
@@ -22,7 +22,7 @@ ghost use Rattle.ei_session.specs.Touches.{input, touches, is_down, touches_down
 ghost use Rattle.ei_session.specs.Refusals.{Refusal, synced, is_at_most, refusal, judge};
 ghost use Rattle.ei_session.specs.Requests.{Request, Plain, Bind, RequestDevice, Ready, DeviceClosed, DeviceStartEmulating, DeviceStopEmulating, Disconnect, is_heard, item, slot, framed};
 ghost use Rattle.ei_session.specs.Replies.{finish_events};
-ghost use Rattle.ei_session.specs.Events.{invalid_object_event, callback_event, device_events, destroyed_events, reply, replies, AreTargets, announcement, IsAmong};
+ghost use Rattle.ei_session.specs.Events.{invalid_object_event, callback_event, device_events, destroyed_event, destroyed_events, reply, replies, AreTargets, announcement, IsAmong};
 ghost use Rattle.ei_session.specs.Served.{AreUnrefused, accepted, reading_of, read_first, is_over, over_at, at_end, session};
 
 /// A stream has one reading, and it doesn't matter how the stream was cut.
@@ -154,6 +154,8 @@ pub fn answers()
         reply setup before m ≡ device_events (version before) (next_id before) (interfaces_of mask) (serial setup (m ∷ before)) }
     ensures release { (setup : Setup) (before : List Raw) (m : Raw) (e : Entry) → object before m.id ≡ Some e → connection_id ≢ m.id → is_the_finish before m ≡ false →
         asks e.interface (codes "release") m ≡ true → reply setup before m ≡ destroyed_events (serial setup before) (gone before m) }
+    ensures destroyed { (interface : KnownInterface) (m : Raw) (id serial : ℕ) → asks interface (codes "release") m ≡ true →
+        destroyed_event id serial ≡ event interface (codes "destroyed") id (Word serial ∷ []) }
     ensures one_gone { (before : List Raw) (m : Raw) (e : Entry) → object before m.id ≡ Some e → is_device e.interface ≡ false →
         asks e.interface (codes "release") m ≡ true → gone before m ≡ m.id ∷ [] }
     ensures device_gone { (before : List Raw) (m : Raw) (e : Entry) → object before m.id ≡ Some e → e.interface ≡ known.Device →
