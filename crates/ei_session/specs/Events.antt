@@ -1,5 +1,5 @@
 -- The events that a server answers all requests by.
-use Rattle.std.specs.Prelude.{ℕ, ◌+◌, ◌%◌, ◌^◌, List, [], ◌∷◌, ◌++◌, Option, Some, None, codes, if◌then◌else◌}
+use Rattle.std.specs.Prelude.{◌≡◌, ◌⊎◌, ℕ, ◌+◌, ◌%◌, ◌^◌, true, List, [], ◌∷◌, ◌++◌, Option, Some, None, is_some, codes, if◌then◌else◌}
 use Rattle.ei_spec.specs.declared.interface.KnownInterface.{KnownInterface}
 use Rattle.ei_spec.specs.declared.interface.KnownInterface.TheVariants as known
 use Rattle.ei_spec.specs.Interface.{name_of}
@@ -9,7 +9,7 @@ use Rattle.ei_spec.specs.History.{joined}
 use Rattle.ei_session.specs.Setup.{Setup, connection_id, seat_id}
 use Rattle.ei_session.specs.Asked.{event}
 use Rattle.ei_session.specs.Handshake.{connected, is_the_finish, version}
-use Rattle.ei_session.specs.Replies.{finish_events, greeting}
+use Rattle.ei_session.specs.Replies.{connection_event, seat_event, finish_events, greeting}
 use Rattle.ei_session.specs.Devices.{interfaces_of, made, next_id, exhausts}
 use Rattle.ei_session.specs.Objects.{Entry, object, gone}
 use Rattle.ei_session.specs.Serial.{serial}
@@ -87,3 +87,32 @@ reply setup before m = if is_the_finish before m then finish_events setup before
 -- all events, the oldest first
 unfoldable pub replies : Setup → List Raw → List Raw
 replies setup raws = greeting ∷ joined (reply setup) raws
+
+-- ---- where events go
+
+-- the id is that of a callback which is called, or of an object that is there before the message or after it
+abbrev pub IsTarget : List Raw → Raw → ℕ → Type 0
+IsTarget before m id = (synced before m ≡ Some id) ⊎ ((is_some (object before id) ≡ true) ⊎ (is_some (object (m ∷ before) id) ≡ true))
+
+-- each of the events that answer the message goes to such an id
+abbrev pub AreTargets : List Raw → Raw → List Raw → Type 0
+AreTargets before m [] = Unit {0}
+AreTargets before m (event ∷ events) = IsTarget before m event.id × AreTargets before m events
+
+-- ---- where objects are announced
+
+-- the event that announces an object
+abbrev pub announced_as : Setup → ℕ → ℕ → Option ℕ → KnownInterface → Raw
+announced_as setup id v device known.Connection = connection_event 0 setup.serial id
+announced_as setup id v device known.Seat = seat_event connection_id id v
+announced_as setup id v device known.Device = device_event id v
+announced_as setup id v (Some device) interface = interface_event device id interface v
+announced_as setup id v None interface = greeting
+
+abbrev pub announcement : Setup → ℕ → Entry → Raw
+announcement setup id e = announced_as setup id e.version e.device e.interface
+
+-- the event is one of these
+abbrev pub IsAmong : Raw → List Raw → Type 0
+IsAmong event [] = ⊥
+IsAmong event (x ∷ xs) = (x ≡ event) ⊎ IsAmong event xs

@@ -140,10 +140,10 @@ bad_text m interface = None
 
 -- ---- the verdict
 
--- why a request to such an object is refused, of this row and with these arguments: the first that applies
-abbrev pub refused_by : Setup → List Raw → Raw → Entry → Option Row → Arguments → Option Refusal
-refused_by setup before m e row arguments = first
-    (no_row e.interface m row
+-- the tests of a request to such an object, of this row and with these arguments, in their order
+abbrev pub tests : Setup → List Raw → Raw → Entry → Option Row → Arguments → List (Option Refusal)
+tests setup before m e row arguments =
+    no_row e.interface m row
     ∷ stuck arguments
     ∷ bad_id before (announced_id row arguments)
     ∷ left_over m arguments
@@ -152,7 +152,11 @@ refused_by setup before m e row arguments = first
     ∷ bad_capabilities setup.capabilities m e.interface
     ∷ bad_touch before e.version (input before m)
     ∷ bad_text m e.interface
-    ∷ [])
+    ∷ []
+
+-- why it is refused: the first that applies
+abbrev pub refused_by : Setup → List Raw → Raw → Entry → Option Row → Arguments → Option Refusal
+refused_by setup before m e row arguments = first (tests setup before m e row arguments)
 
 abbrev pub refused_row : Setup → List Raw → Raw → Entry → Option Row → Option Refusal
 refused_row setup before m e row = refused_by setup before m e row (arguments row m)

@@ -1,5 +1,5 @@
 -- What a session over some pieces handles and answers, for all requests.
-use Rattle.std.specs.Prelude.{ℕ, ◌-◌, Bool, true, false, not, ◌||◌, List, [], ◌∷◌, take, length, Some, None, nat_lt, if◌then◌else◌}
+use Rattle.std.specs.Prelude.{◌≡◌, ℕ, ◌-◌, Bool, true, false, not, ◌||◌, List, [], ◌∷◌, take, length, Some, None, nat_lt, if◌then◌else◌}
 use Rattle.ei_spec.specs.Reading.{HeaderLength as LengthFault}
 use Rattle.ei_spec.specs.Message.{Raw}
 use Rattle.ei_spec.specs.Stream.{Stop, Waiting, Ended, HeaderLength, Refusal as RefusedStop, Reading, read}
@@ -7,7 +7,7 @@ use Rattle.ei_spec.specs.Piece.{Piece, stream}
 use Rattle.ei_session.specs.Setup.{Setup}
 use Rattle.ei_session.specs.Handshake.{connected}
 use Rattle.ei_session.specs.Devices.{exhausts}
-use Rattle.ei_session.specs.Refusals.{Refusal, Parse, judge}
+use Rattle.ei_session.specs.Refusals.{Refusal, Parse, refusal, judge}
 use Rattle.ei_session.specs.Session.{least, too_many_handles}
 
 -- the reading of a stream from its start
@@ -17,6 +17,11 @@ reading_of setup bytes = read (judge setup) [] bytes
 -- the messages of a stream, the newest first
 abbrev pub accepted : Setup → List ℕ → List Raw
 accepted setup bytes = (reading_of setup bytes).past
+
+-- none of the messages is refused
+unfoldable pub AreUnrefused : Setup → List Raw → Type 0
+AreUnrefused setup [] = Unit {0}
+AreUnrefused setup (m ∷ before) = (refusal setup before m ≡ None) × AreUnrefused setup before
 
 -- how a session ends
 pub data Answer : Type 0 where

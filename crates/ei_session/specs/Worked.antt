@@ -1,7 +1,8 @@
 -- Streams of clients, byte by byte, and what the server answers them.
-use Rattle.std.specs.Prelude.{ℕ, List, [], ◌∷◌, ◌++◌, map, replicate, codes}
+use Rattle.std.specs.Prelude.{ℕ, List, [], ◌∷◌, ◌++◌, map, replicate, take, drop, codes}
 use Rattle.std.specs.List.{flat_map}
 use Rattle.ei_spec.specs.Message.{le4, le8, header, all_bytes}
+use Rattle.ei_spec.specs.declared.handle.Handle.{Handle}
 use Rattle.ei_spec.specs.Piece.{Piece}
 use Rattle.ei_session.specs.Setup.{Setup, connection_id, seat_id}
 use Rattle.ei_session.specs.Requests.{Request, framed}
@@ -27,6 +28,10 @@ piece bytes = record { bytes = bytes; handles = [] }
 -- each byte a piece
 abbrev pub single_bytes : List ℕ → List Piece
 single_bytes bytes = map (λ b. piece (b ∷ [])) bytes
+
+-- the same, where 64 handles come with each of the first 65
+abbrev pub laden_bytes : Handle → List ℕ → List Piece
+laden_bytes h bytes = map (λ b. record { bytes = b ∷ []; handles = replicate 64 h }) (take 65 bytes) ++ single_bytes (drop 65 bytes)
 
 -- what a session over the parts, each a piece, answers
 abbrev pub answer : Setup → List (List ℕ) → Answer

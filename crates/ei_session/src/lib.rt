@@ -9,9 +9,14 @@
 //! `Refusals`, `Requests`, `Events` and, on them, `Served`.
 #![tactic(auto)]
 
+mod all_requests;
 mod theorems;
 mod worked;
 
+pub use all_requests::{
+    all_one_more, all_prefixes, all_sessions, all_streams, answers, bounds, groups,
+    interfaces_after, items, objects_after, objects_there, steps_after, targets, touches_after,
+};
 pub use theorems::{one_more_message, prefixes, sessions, streams};
 pub use worked::{
     callbacks, devices, first_messages, handshakes, strangers, texts, touches, whole_session,

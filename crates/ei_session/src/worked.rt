@@ -1,7 +1,9 @@
 //! Sessions over worked streams, as the definitions have them. Each function does nothing: its clauses are the sessions.
 
-ghost use Rattle.std.specs.Prelude.{◌≡◌, ℕ, List, [], ◌∷◌, ◌++◌, map, length, codes, pos};
-ghost use Rattle.ei_spec.specs.Message.{header, le4};
+ghost use Rattle.std.specs.Prelude.{◌≡◌, ℕ, ◌+◌, List, [], ◌∷◌, ◌++◌, map, length, codes, pos};
+ghost use Rattle.ei_spec.specs.declared.handle.Handle.{Handle};
+ghost use Rattle.ei_spec.specs.Message.{header, le4, all_bytes};
+ghost use Rattle.ei_session.specs.Events.{replies};
 ghost use Rattle.ei_spec.specs.Groups.{Timed, Framed, Plain};
 ghost use Rattle.ei_spec.specs.Reading.{EndOfMessage, Utf8, InvalidId, InvalidOpcode, InvalidVariant, HeaderLength, MessageLength, InvalidNull};
 ghost use Rattle.ei_types.specs.declared.error.HandshakeError.TheVariants as handshake;
@@ -12,9 +14,9 @@ ghost use Rattle.ei_session.specs.Setup.{Setup, connection_id, seat_id};
 ghost use Rattle.ei_session.specs.Inputs.{Input, Button, KeyboardKey, PointerMotion, ScrollDiscrete, TouchDown, TouchMotion, TouchUp, TouchCancel, DeviceInput};
 ghost use Rattle.ei_session.specs.Refusals.{Handshake, Request, Parse, InvalidInterfaceVersion};
 ghost use Rattle.ei_session.specs.Requests.{Bind, DeviceClosed, DeviceStartEmulating, DeviceStopEmulating, Ready, Disconnect as Disconnects};
-ghost use Rattle.ei_session.specs.Served.{session, Disconnect, End, UnexpectedEof, PieceLimit, Refused};
-ghost use Rattle.ei_session.specs.Worked.{buttons, with_capabilities, parts, piece, single_bytes, answer, requests, reply_bytes, shaken, greeted, connected_with, disconnect, sync, called, bind, device_id, interface_id, device_of_button, resumed, press, frame, ready, release, destroyed, invalid_object, touch_down, touch_motion, touch_up, touch_cancel, sixteen_down, touchscreen_announced, three_announced, finish, longest_text, too_long_text, empty_text};
-ghost use Rattle.ei_session.specs.WorkedWhole.{all_setup, all_shaken, all_asked, all_replied};
+ghost use Rattle.ei_session.specs.Served.{session, Disconnect, End, UnexpectedEof, PieceLimit, HandleLimit, Refused};
+ghost use Rattle.ei_session.specs.Worked.{buttons, with_capabilities, parts, piece, single_bytes, laden_bytes, answer, requests, reply_bytes, shaken, greeted, connected_with, disconnect, sync, called, bind, device_id, interface_id, device_of_button, resumed, press, frame, ready, release, destroyed, invalid_object, touch_down, touch_motion, touch_up, touch_cancel, sixteen_down, touchscreen_announced, three_announced, finish, longest_text, too_long_text, empty_text};
+ghost use Rattle.ei_session.specs.WorkedWhole.{all_setup, all_shaken, all_asked, all_connected, all_replied};
 
 /// A handshake and a disconnect, whole and byte by byte.
 pub fn handshakes()
@@ -25,6 +27,8 @@ pub fn handshakes()
     ensures requests { requests buttons [] (shaken ∷ disconnect ∷ []) ≡ Plain Disconnects ∷ [] }
     ensures bytes { (session buttons (single_bytes (parts (shaken ∷ disconnect ∷ [])))).answer ≡ Disconnect }
     ensures limited { (session (record { serial = 5; capabilities = 32; pieces = 143 }) (single_bytes (parts (shaken ∷ disconnect ∷ [])))).answer ≡ PieceLimit }
+    ensures handles { (h : Handle) → (session buttons (laden_bytes h (parts (shaken ∷ disconnect ∷ [])))).answer ≡ HandleLimit }
+    ensures handled { (h : Handle) → all_bytes (replies buttons (session buttons (laden_bytes h (parts (shaken ∷ disconnect ∷ [])))).handled) ≡ greeted }
     ensures no_piece { (session (record { serial = 5; capabilities = 32; pieces = 0 }) (piece shaken ∷ [])).answer ≡ PieceLimit }
     ensures what_follows { answer buttons (shaken ∷ parts (disconnect ∷ (255 ∷ 255 ∷ []) ∷ []) ∷ []) ≡ Disconnect }
     ensures waits { answer buttons (shaken ∷ (0 ∷ 0 ∷ 0 ∷ 0 ∷ 0 ∷ 0 ∷ 0 ∷ 0 ∷ 0 ∷ 0 ∷ 0 ∷ 0 ∷ 0 ∷ 0 ∷ 0 ∷ []) ∷ []) ≡ End }
@@ -111,6 +115,7 @@ pub fn whole_session()
     ensures answer { answer all_setup (all_shaken ++ all_asked) ≡ Disconnect }
     ensures bytes_in { length (parts all_shaken) ≡ 524 }
     ensures bytes_out { length all_replied ≡ 1408 }
+    ensures longest_reply { length all_connected ≡ 20 + 804 }
     ensures replies { reply_bytes all_setup (all_shaken ++ all_asked) ≡ all_replied }
     ensures requests { requests all_setup [] (all_shaken ++ all_asked) ≡
         Plain (Bind seat_id 127)

@@ -4,4 +4,4 @@ use Rattle.ei_session.proofs.worked.whole_session.Goals as goal
 
 pub returns : goal.returns
 unfolding all_open
-returns c = record { answer = refl; bytes_in = refl; bytes_out = refl; replies = refl; requests = refl }
+returns c = record { answer = refl; bytes_in = refl; bytes_out = refl; longest_reply = refl; replies = refl; requests = refl }

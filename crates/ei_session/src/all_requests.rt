@@ -1,0 +1,222 @@
+//! The laws of the definitions for all requests. Each function does nothing: its clauses are the laws.
+
+ghost use Rattle.std.specs.Prelude.{◌≡◌, ◌≢◌, ◌≤◌, ◌<◌, ◌+◌, ◌%◌, ◌^◌, ◌++◌, ◌==◌, ◌&&◌, ◌||◌, ◌⊎◌, ℕ, List, [], ◌∷◌, Bool, true, false, Option, Some, None, length, is_some, unwrap_or, nat_eq, not, codes, if◌then◌else◌};
+ghost use Rattle.std.specs.Option.{option_or};
+ghost use Rattle.std.specs.List.{filter, list_any, range_with_len};
+ghost use Rattle.ei_spec.specs.declared.interface.KnownInterface.{KnownInterface};
+ghost use Rattle.ei_spec.specs.declared.interface.KnownInterface.TheVariants as known;
+ghost use Rattle.ei_spec.specs.Value.{Word, Long};
+ghost use Rattle.ei_spec.specs.Message.{Raw, IsBytes, all_bytes};
+ghost use Rattle.ei_spec.specs.Piece.{Piece};
+ghost use Rattle.ei_spec.specs.Groups.{Input as Waits, Frame, Other, Free, group, gives, frames_made};
+ghost use Rattle.ei_spec.specs.History.{each, occurs};
+ghost use Rattle.ei_spec.specs.Stream.{Waiting, Reading, go_on, IsReading, AreOpen, stream_of};
+ghost use Rattle.ei_session.specs.Setup.{Setup, connection_id, seat_id};
+ghost use Rattle.ei_session.specs.Asked.{asked, asks, event};
+ghost use Rattle.ei_session.specs.Handshake.{connected, is_finish, is_the_finish, settled, version};
+ghost use Rattle.ei_session.specs.Inputs.{TouchDown, TouchUp, TouchCancel, DeviceInput};
+ghost use Rattle.ei_session.specs.Devices.{seat_is_open, interfaces_of, made, ids_given, next_id, exhausts};
+ghost use Rattle.ei_session.specs.Objects.{Entry, new_device, handed_over, at_first, is_device, is_of, says, object, interfaces_left, gone};
+ghost use Rattle.ei_session.specs.Serial.{steps, serial};
+ghost use Rattle.ei_session.specs.Touches.{input, touches, is_down, touches_down};
+ghost use Rattle.ei_session.specs.Refusals.{Refusal, synced, is_at_most, refusal, judge};
+ghost use Rattle.ei_session.specs.Requests.{Request, Plain, Bind, RequestDevice, Ready, DeviceClosed, DeviceStartEmulating, DeviceStopEmulating, Disconnect, is_heard, item, slot, framed};
+ghost use Rattle.ei_session.specs.Replies.{finish_events};
+ghost use Rattle.ei_session.specs.Events.{invalid_object_event, callback_event, device_events, destroyed_event, destroyed_events, reply, replies, AreTargets, announcement, IsAmong};
+ghost use Rattle.ei_session.specs.Served.{AreUnrefused, accepted, reading_of, read_first, is_over, over_at, at_end, session};
+
+/// A stream has one reading, and it doesn't matter how the stream was cut.
+pub fn all_streams()
+    ensures is { (setup : Setup) (bytes : List ℕ) → IsBytes bytes → IsReading (judge setup) bytes (reading_of setup bytes) }
+    ensures only { (setup : Setup) (bytes : List ℕ) (r : Reading Refusal) → IsReading (judge setup) bytes r → reading_of setup bytes ≡ r }
+    ensures longest { (setup : Setup) (bytes : List ℕ) (past : List Raw) (rest : List ℕ) → bytes ≡ stream_of past ++ rest → AreOpen (judge setup) past →
+        (more : List Raw) × (accepted setup bytes ≡ more ++ past) }
+    ensures goes_on { (setup : Setup) (bytes more : List ℕ) → reading_of setup (bytes ++ more) ≡ go_on (judge setup) (reading_of setup bytes) more }
+{}
+
+/// How a loop over pieces comes to the outcome of a session.
+pub fn all_sessions()
+    ensures over { (setup : Setup) (pieces : List Piece) (m : ℕ) → 1 ≤ m → m ≤ length pieces →
+        ((j : ℕ) → 1 ≤ j → j < m → is_over setup pieces j ≡ false) → is_over setup pieces m ≡ true →
+        session setup pieces ≡ over_at setup pieces m }
+    ensures end { (setup : Setup) (pieces : List Piece) → ((j : ℕ) → 1 ≤ j → j ≤ length pieces → is_over setup pieces j ≡ false) →
+        session setup pieces ≡ at_end (read_first setup pieces (length pieces)).past }
+{}
+
+/// What a list of messages gives and is answered by begins with that of each list that it goes on from.
+pub fn all_prefixes()
+    ensures framed { (setup : Setup) (readings : List ℕ) (more before : List Raw) →
+        (rest : List Request) × (framed setup readings (more ++ before) ≡ framed setup readings before ++ rest) }
+    ensures replies { (setup : Setup) (more before : List Raw) →
+        (rest : List Raw) × (replies setup (more ++ before) ≡ replies setup before ++ rest) }
+{}
+
+/// One more message, for each definition.
+pub fn all_one_more()
+    ensures framed { (setup : Setup) (readings : List ℕ) (before : List Raw) (m : Raw) →
+        framed setup readings (m ∷ before) ≡ framed setup readings before ++ gives readings (each (slot setup) before) (slot setup before m) }
+    ensures readings { (setup : Setup) (readings later : List ℕ) (before : List Raw) → frames_made (each (slot setup) before) ≤ length readings →
+        framed setup (readings ++ later) before ≡ framed setup readings before }
+    ensures replies { (setup : Setup) (before : List Raw) (m : Raw) → replies setup (m ∷ before) ≡ replies setup before ++ reply setup before m }
+    ensures serial { (setup : Setup) (before : List Raw) (m : Raw) → serial setup (m ∷ before) ≡ (serial setup before + steps before m) % 2 ^ 32 }
+    ensures next_id { (before : List Raw) (m : Raw) → next_id (m ∷ before) ≡ next_id before + ids_given before m }
+    ensures object { (before : List Raw) (m : Raw) (id : ℕ) → object (m ∷ before) id ≡ unwrap_or (says id before m) (object before id) }
+    ensures is_down { (before : List Raw) (m : Raw) (device touch : ℕ) → is_down (m ∷ before) device touch ≡ unwrap_or (touches device touch before m) (is_down before device touch) }
+    ensures connected { (before : List Raw) (m : Raw) → is_the_finish before m ≡ false → connected (m ∷ before) ≡ connected before }
+    ensures finish { (before : List Raw) (m : Raw) → is_the_finish before m ≡ true → connected (m ∷ before) ≡ true }
+    ensures settled { (before : List Raw) (m : Raw) (interface : KnownInterface) → connected before ≡ true → settled (m ∷ before) interface ≡ settled before interface }
+    ensures version { (before : List Raw) (m : Raw) (interface : KnownInterface) → connected before ≡ true → version (m ∷ before) interface ≡ version before interface }
+{}
+
+/// The objects after a message of each kind.
+pub fn objects_after()
+    ensures finish { (before : List Raw) (m : Raw) (id : ℕ) → is_the_finish before m ≡ true → object (m ∷ before) id ≡ handed_over before id }
+    ensures device { (before : List Raw) (m : Raw) (mask id : ℕ) → made before m ≡ Some mask →
+        object (m ∷ before) id ≡ option_or (new_device before (next_id before) (interfaces_of mask) id) (object before id) }
+    ensures seat_release { (before : List Raw) (m : Raw) (id : ℕ) → connected before ≡ true → m.id ≡ seat_id → asks known.Seat (codes "release") m ≡ true →
+        object (m ∷ before) id ≡ (if m.id == id then None else object before id) }
+    ensures interface_release { (before : List Raw) (m : Raw) (e : Entry) (d id : ℕ) → object before m.id ≡ Some e → e.device ≡ Some d → is_device e.interface ≡ false →
+        asks e.interface (codes "release") m ≡ true → object (m ∷ before) id ≡ (if m.id == id then None else object before id) }
+    ensures device_gone { (before : List Raw) (m : Raw) (e : Entry) (id : ℕ) → object before m.id ≡ Some e → e.device ≡ Some m.id → e.interface ≡ known.Device →
+        asks e.interface (codes "release") m ≡ true → is_of m.id (object before id) ≡ true → object (m ∷ before) id ≡ None }
+    ensures device_left { (before : List Raw) (m : Raw) (e : Entry) (id : ℕ) → object before m.id ≡ Some e → e.device ≡ Some m.id → e.interface ≡ known.Device →
+        asks e.interface (codes "release") m ≡ true → is_of m.id (object before id) ≡ false → object (m ∷ before) id ≡ object before id }
+    ensures plain { (before : List Raw) (m : Raw) (e : Entry) (d id : ℕ) → object before m.id ≡ Some e → e.device ≡ Some d →
+        asks e.interface (codes "release") m ≡ false → object (m ∷ before) id ≡ object before id }
+    ensures unknown { (before : List Raw) (m : Raw) (id : ℕ) → is_the_finish before m ≡ false → object before m.id ≡ None → object (m ∷ before) id ≡ object before id }
+{}
+
+/// What the objects of a server are like, whatever was sent.
+pub fn objects_there()
+    ensures first { (before : List Raw) (id : ℕ) → connected before ≡ false → object before id ≡ at_first id }
+    ensures handshake { (before : List Raw) → object before 0 ≡ (if connected before then None else at_first 0) }
+    ensures connection { (before : List Raw) → object before connection_id ≡
+        (if connected before then Some (record { interface = known.Connection; version = 1; device = None }) else None) }
+    ensures seat { (before : List Raw) → is_some (object before seat_id) ≡ seat_is_open before }
+    ensures owner { (before : List Raw) (id : ℕ) (e : Entry) (d : ℕ) → object before id ≡ Some e → e.device ≡ Some d →
+        (w : Entry) × (object before d ≡ Some w) × (w.interface ≡ known.Device) × (w.device ≡ Some d) }
+    ensures device { (before : List Raw) (id : ℕ) (e : Entry) → object before id ≡ Some e → e.interface ≡ known.Device → e.device ≡ Some id }
+    ensures above { (before : List Raw) (id : ℕ) (e : Entry) (d : ℕ) → object before id ≡ Some e → e.device ≡ Some d → seat_id < id }
+    ensures below { (before : List Raw) (id : ℕ) (e : Entry) → object before id ≡ Some e → id < next_id before }
+    ensures gone { (more before : List Raw) (m : Raw) (id : ℕ) → connected (m ∷ before) ≡ true → list_any (nat_eq id) (gone before m) ≡ true → object (more ++ (m ∷ before)) id ≡ None }
+{}
+
+/// How many serials a message of each kind uses.
+pub fn steps_after()
+    ensures device { (before : List Raw) (m : Raw) (mask : ℕ) → made before m ≡ Some mask → exhausts before m ≡ false → steps before m ≡ 1 }
+    ensures exhausting { (before : List Raw) (m : Raw) (mask : ℕ) → made before m ≡ Some mask → exhausts before m ≡ true → steps before m ≡ 0 }
+    ensures release { (before : List Raw) (m : Raw) (e : Entry) → object before m.id ≡ Some e → is_device e.interface ≡ false →
+        asks e.interface (codes "release") m ≡ true → steps before m ≡ 1 }
+    ensures device_release { (before : List Raw) (m : Raw) (e : Entry) → object before m.id ≡ Some e → e.interface ≡ known.Device →
+        asks e.interface (codes "release") m ≡ true → steps before m ≡ 1 + length (interfaces_left before m.id) }
+    ensures plain { (before : List Raw) (m : Raw) (e : Entry) → made before m ≡ None → object before m.id ≡ Some e →
+        asks e.interface (codes "release") m ≡ false → steps before m ≡ 0 }
+    ensures unknown { (before : List Raw) (m : Raw) → object before m.id ≡ None → steps before m ≡ 0 }
+{}
+
+/// What a message of each kind gives.
+pub fn items()
+    ensures input { (before : List Raw) (m : Raw) (i : DeviceInput) → input before m ≡ Some i →
+        item before m ≡ (if is_heard before i.device i.input then Some (Waits i.device i) else None) }
+    ensures frame { (before : List Raw) (m : Raw) (e : Entry) (d serial time : ℕ) → object before m.id ≡ Some e → e.interface ≡ known.Device → e.device ≡ Some d →
+        asked known.Device (codes "frame") m ≡ Some (Word serial ∷ Long time ∷ []) → item before m ≡ Some (Frame d serial time) }
+    ensures closed { (before : List Raw) (m : Raw) (e : Entry) (d : ℕ) → object before m.id ≡ Some e → e.interface ≡ known.Device → e.device ≡ Some d →
+        asked known.Device (codes "release") m ≡ Some [] → item before m ≡ Some (Other d (DeviceClosed d)) }
+    ensures start { (before : List Raw) (m : Raw) (e : Entry) (d serial sequence : ℕ) → object before m.id ≡ Some e → e.interface ≡ known.Device → e.device ≡ Some d →
+        asked known.Device (codes "start_emulating") m ≡ Some (Word serial ∷ Word sequence ∷ []) → item before m ≡ Some (Other d (DeviceStartEmulating d serial sequence)) }
+    ensures stop { (before : List Raw) (m : Raw) (e : Entry) (d serial : ℕ) → object before m.id ≡ Some e → e.interface ≡ known.Device → e.device ≡ Some d →
+        asked known.Device (codes "stop_emulating") m ≡ Some (Word serial ∷ []) → item before m ≡ Some (Other d (DeviceStopEmulating d serial)) }
+    ensures ready { (before : List Raw) (m : Raw) (e : Entry) (d : ℕ) → object before m.id ≡ Some e → e.interface ≡ known.Device → e.device ≡ Some d →
+        asked known.Device (codes "ready") m ≡ Some [] → item before m ≡ Some (Other d (Ready d)) }
+    ensures bind { (before : List Raw) (m : Raw) (e : Entry) (mask : ℕ) → object before m.id ≡ Some e → e.interface ≡ known.Seat →
+        asked known.Seat (codes "bind") m ≡ Some (Long mask ∷ []) → item before m ≡ Some (Free (Bind m.id mask)) }
+    ensures request_device { (before : List Raw) (m : Raw) (e : Entry) (mask : ℕ) → object before m.id ≡ Some e → e.interface ≡ known.Seat →
+        asked known.Seat (codes "request_device") m ≡ Some (Long mask ∷ []) → item before m ≡ Some (Free (RequestDevice m.id mask)) }
+    ensures disconnect { (before : List Raw) (m : Raw) (e : Entry) → object before m.id ≡ Some e → e.interface ≡ known.Connection →
+        asked known.Connection (codes "disconnect") m ≡ Some [] → item before m ≡ Some (Free Disconnect) }
+    ensures sync { (before : List Raw) (m : Raw) (e : Entry) (callback v : ℕ) → object before m.id ≡ Some e → e.interface ≡ known.Connection →
+        asked known.Connection (codes "sync") m ≡ Some (Long callback ∷ Word v ∷ []) → item before m ≡ None }
+    ensures seat_release { (before : List Raw) (m : Raw) (e : Entry) → object before m.id ≡ Some e → e.interface ≡ known.Seat →
+        asked known.Seat (codes "release") m ≡ Some [] → item before m ≡ None }
+    ensures interface_release { (before : List Raw) (m : Raw) (e : Entry) (d : ℕ) → object before m.id ≡ Some e → e.device ≡ Some d → is_device e.interface ≡ false →
+        asks e.interface (codes "release") m ≡ true → item before m ≡ None }
+    ensures unknown { (before : List Raw) (m : Raw) → object before m.id ≡ None → item before m ≡ None }
+{}
+
+/// What answers a message of each kind.
+pub fn answers()
+    ensures finish { (setup : Setup) (before : List Raw) (m : Raw) → is_the_finish before m ≡ true → reply setup before m ≡ finish_events setup before }
+    ensures unknown { (setup : Setup) (before : List Raw) (m : Raw) → connected before ≡ true → is_the_finish before m ≡ false → object before m.id ≡ None →
+        reply setup before m ≡ invalid_object_event (serial setup before) m.id ∷ [] }
+    ensures sync { (setup : Setup) (before : List Raw) (m : Raw) (callback v : ℕ) → connected before ≡ true → m.id ≡ connection_id →
+        asked known.Connection (codes "sync") m ≡ Some (Long callback ∷ Word v ∷ []) → reply setup before m ≡ callback_event callback ∷ [] }
+    ensures device { (setup : Setup) (before : List Raw) (m : Raw) (mask : ℕ) → made before m ≡ Some mask → exhausts before m ≡ false →
+        reply setup before m ≡ device_events (version before) (next_id before) (interfaces_of mask) (serial setup (m ∷ before)) }
+    ensures release { (setup : Setup) (before : List Raw) (m : Raw) (e : Entry) → object before m.id ≡ Some e → connection_id ≢ m.id → is_the_finish before m ≡ false →
+        asks e.interface (codes "release") m ≡ true → reply setup before m ≡ destroyed_events (serial setup before) (gone before m) }
+    ensures destroyed { (interface : KnownInterface) (m : Raw) (id serial : ℕ) → asks interface (codes "release") m ≡ true →
+        destroyed_event id serial ≡ event interface (codes "destroyed") id (Word serial ∷ []) }
+    ensures one_gone { (before : List Raw) (m : Raw) (e : Entry) → object before m.id ≡ Some e → is_device e.interface ≡ false →
+        asks e.interface (codes "release") m ≡ true → gone before m ≡ m.id ∷ [] }
+    ensures device_gone { (before : List Raw) (m : Raw) (e : Entry) → object before m.id ≡ Some e → e.interface ≡ known.Device →
+        asks e.interface (codes "release") m ≡ true → gone before m ≡ interfaces_left before m.id ++ (m.id ∷ []) }
+    ensures plain { (setup : Setup) (before : List Raw) (m : Raw) (e : Entry) → is_the_finish before m ≡ false → made before m ≡ None → object before m.id ≡ Some e →
+        asks e.interface (codes "release") m ≡ false → synced before m ≡ None → reply setup before m ≡ [] }
+{}
+
+/// How much there is at most: of touches, of unread bytes, of objects that go, of bytes that answer a message.
+pub fn bounds()
+    ensures unrefused { (setup : Setup) (bytes : List ℕ) → IsBytes bytes → AreUnrefused setup (accepted setup bytes) }
+    ensures touches { (setup : Setup) (past : List Raw) (device : ℕ) → AreUnrefused setup past → length (touches_down past device) ≤ 16 }
+    ensures unread { (setup : Setup) (bytes : List ℕ) → IsBytes bytes → (reading_of setup bytes).stop ≡ Waiting → length (reading_of setup bytes).rest < 1048576 }
+    ensures interfaces { (mask : ℕ) → length (interfaces_of mask) ≤ 7 }
+    ensures gone { (before : List Raw) (m : Raw) → length (gone before m) ≤ 8 }
+    ensures reply { (setup : Setup) (before : List Raw) (m : Raw) → length (all_bytes (reply setup before m)) ≤ 804 }
+{}
+
+/// The interfaces that a device has left, after a message of each kind.
+pub fn interfaces_after()
+    ensures new { (before : List Raw) (m : Raw) (mask : ℕ) → made before m ≡ Some mask →
+        interfaces_left (m ∷ before) (next_id before) ≡ range_with_len (next_id before + 1) (length (interfaces_of mask)) }
+    ensures another { (before : List Raw) (m : Raw) (mask d : ℕ) → made before m ≡ Some mask → next_id before ≢ d → interfaces_left (m ∷ before) d ≡ interfaces_left before d }
+    ensures interface_release { (before : List Raw) (m : Raw) (e : Entry) (d device : ℕ) → made before m ≡ None → object before m.id ≡ Some e → e.device ≡ Some d → is_device e.interface ≡ false →
+        asks e.interface (codes "release") m ≡ true → interfaces_left (m ∷ before) device ≡ filter (λ id. not (m.id == id)) (interfaces_left before device) }
+    ensures device_release { (before : List Raw) (m : Raw) (e : Entry) (d : ℕ) → made before m ≡ None → object before m.id ≡ Some e → e.device ≡ Some m.id → e.interface ≡ known.Device →
+        asks e.interface (codes "release") m ≡ true → d ≢ m.id → interfaces_left (m ∷ before) d ≡ interfaces_left before d }
+    ensures plain { (before : List Raw) (m : Raw) (d : ℕ) → made before m ≡ None → ((id : ℕ) → object (m ∷ before) id ≡ object before id) → interfaces_left (m ∷ before) d ≡ interfaces_left before d }
+{}
+
+/// Each event goes to an object that is there, or to the callback that it calls; and what is there was announced.
+pub fn targets()
+    ensures targets { (setup : Setup) (before : List Raw) (m : Raw) → AreTargets before m (reply setup before m) }
+    ensures announced { (setup : Setup) (past : List Raw) (id : ℕ) (e : Entry) → occurs exhausts past ≡ false → id ≢ 0 → object past id ≡ Some e →
+        IsAmong (announcement setup id e) (replies setup past) }
+    ensures callback { (setup : Setup) (before : List Raw) (m : Raw) (c : ℕ) → refusal setup before m ≡ None → synced before m ≡ Some c →
+        (0 < c) × (c < connection_id) × (occurs (λ b x. is_at_most c (synced b x)) before ≡ false) }
+    ensures lasts { (setup : Setup) (past : List Raw) → AreOpen (judge setup) past → occurs exhausts past ≡ false }
+{}
+
+/// The inputs that wait on a device, after a message of each kind.
+pub fn groups()
+    ensures input { (setup : Setup) (before : List Raw) (m : Raw) (device d : ℕ) (i : DeviceInput) → item before m ≡ Some (Waits d i) →
+        group device (each (slot setup) (m ∷ before)) ≡ (if d == device then group device (each (slot setup) before) ++ (i ∷ []) else group device (each (slot setup) before)) }
+    ensures frame { (setup : Setup) (before : List Raw) (m : Raw) (device d serial time : ℕ) → item before m ≡ Some (Frame d serial time) →
+        group device (each (slot setup) (m ∷ before)) ≡ (if d == device then [] else group device (each (slot setup) before)) }
+    ensures other { (setup : Setup) (before : List Raw) (m : Raw) (device d : ℕ) (y : Plain) → item before m ≡ Some (Other d y) →
+        group device (each (slot setup) (m ∷ before)) ≡ (if d == device then [] else group device (each (slot setup) before)) }
+    ensures free { (setup : Setup) (before : List Raw) (m : Raw) (device : ℕ) (y : Plain) → item before m ≡ Some (Free y) →
+        group device (each (slot setup) (m ∷ before)) ≡ group device (each (slot setup) before) }
+    ensures none { (setup : Setup) (before : List Raw) (m : Raw) (device : ℕ) → item before m ≡ None →
+        group device (each (slot setup) (m ∷ before)) ≡ group device (each (slot setup) before) }
+{}
+
+/// The touches that are down, after a message of each kind.
+pub fn touches_after()
+    ensures down { (before : List Raw) (m : Raw) (d t a b : ℕ) → input before m ≡ Some (record { device = d; input = TouchDown t a b }) →
+        (device touch : ℕ) → is_down (m ∷ before) device touch ≡ ((d == device && t == touch) || is_down before device touch) }
+    ensures up { (before : List Raw) (m : Raw) (d t : ℕ) → input before m ≡ Some (record { device = d; input = TouchUp t }) →
+        (device touch : ℕ) → is_down (m ∷ before) device touch ≡ (not (d == device && t == touch) && is_down before device touch) }
+    ensures cancel { (before : List Raw) (m : Raw) (d t : ℕ) → input before m ≡ Some (record { device = d; input = TouchCancel t }) →
+        (device touch : ℕ) → is_down (m ∷ before) device touch ≡ (not (d == device && t == touch) && is_down before device touch) }
+    ensures none { (before : List Raw) (m : Raw) → input before m ≡ None → (device touch : ℕ) → is_down (m ∷ before) device touch ≡ is_down before device touch }
+{}
