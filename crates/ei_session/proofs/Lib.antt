@@ -20,3 +20,5 @@ pub mod ReplyTargets
 pub mod Announcing
 pub mod NewCallbacks
 pub mod WaitingLaws
+pub mod MadeLaws
+pub mod RefusalLaws
