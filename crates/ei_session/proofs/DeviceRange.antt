@@ -31,7 +31,7 @@ pub interfaces_other : (before : List Raw) (m : Raw) (mask d : ℕ) → made bef
 unfolding device_interfaces makes
 interfaces_other before m mask d n e = rw (said_before (makes d) before m (rw (n, makes, e) refl), device_interfaces) refl
 
-ids_some : (before : List Raw) (m : Raw) (mask : ℕ) → made before m ≡ Some mask → ids_given before m ≡ 1 + length (interfaces_of mask)
+pub ids_some : (before : List Raw) (m : Raw) (mask : ℕ) → made before m ≡ Some mask → ids_given before m ≡ 1 + length (interfaces_of mask)
 unfolding ids_given
 ids_some before m mask n = rw (n, ids_given) refl
 

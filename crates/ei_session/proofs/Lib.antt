@@ -8,6 +8,7 @@ pub mod Choices
 pub mod Opcodes
 pub mod ObjectLaws
 pub mod ObjectShape
+pub mod FirstObjects
 pub mod SerialLaws
 pub mod ItemLaws
 pub mod ReplyLaws
@@ -20,3 +21,5 @@ pub mod ReplyTargets
 pub mod Announcing
 pub mod NewCallbacks
 pub mod WaitingLaws
+pub mod MadeLaws
+pub mod RefusalLaws

@@ -17,7 +17,7 @@ use Rattle.ei_session.specs.Objects.{Entry, object}
 use Rattle.ei_session.specs.Refusals.{Arguments, arguments, announced_id, callback_of, synced, is_at_most, may_give, bad_id, tests, refused_by, refused_row, refused_at, refusal}
 use Rattle.ei_session.proofs.Choices.{chosen, none_some, and_left, and_right}
 use Rattle.ei_session.proofs.ItemLaws.{args_are}
-use Rattle.ei_session.proofs.ObjectShape.{object_connection, the_connection}
+use Rattle.ei_session.proofs.FirstObjects.{object_connection, the_connection}
 use Rattle.ei_session.proofs.TouchLaws.{all_none}
 
 -- the row of `sync`

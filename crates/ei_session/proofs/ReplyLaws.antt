@@ -18,7 +18,8 @@ use Rattle.ei_session.specs.Refusals.{synced}
 use Rattle.ei_session.specs.Events.{invalid_object_event, callback_event, device_events, destroyed_event, destroyed_events, callback_events, reply}
 use Rattle.ei_session.proofs.Choices.{and_right, and_false}
 use Rattle.ei_session.proofs.ObjectLaws.{not_finish, makes_nothing, made_is}
-use Rattle.ei_session.proofs.ObjectShape.{unknown_makes_nothing, object_connection, connection_unreleased, release_makes_nothing, the_connection}
+use Rattle.ei_session.proofs.ObjectShape.{unknown_makes_nothing, release_makes_nothing}
+use Rattle.ei_session.proofs.FirstObjects.{object_connection, connection_unreleased, the_connection}
 use Rattle.ei_session.proofs.SerialLaws.{gone_plain}
 
 pub reply_finish : (setup : Setup) (before : List Raw) (m : Raw) → is_the_finish before m ≡ true → reply setup before m ≡ finish_events setup before

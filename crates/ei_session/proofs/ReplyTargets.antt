@@ -17,7 +17,8 @@ use Rattle.ei_session.specs.Refusals.{synced}
 use Rattle.ei_session.specs.Events.{invalid_object_event, interface_events, device_events, destroyed_events, callback_events, reply_by, reply, IsTarget, AreTargets}
 use Rattle.ei_session.proofs.Choices.{some_is, none_some, and_left}
 use Rattle.ei_session.proofs.ObjectLaws.{made_is, object_new}
-use Rattle.ei_session.proofs.ObjectShape.{object_first, object_handed, object_connection, object_seat, at_finish}
+use Rattle.ei_session.proofs.ObjectShape.{object_seat, at_finish}
+use Rattle.ei_session.proofs.FirstObjects.{object_first, object_handed, object_connection}
 use Rattle.ei_session.proofs.GoneLaws.{goes}
 
 module _ (before : List Raw) (m : Raw) where

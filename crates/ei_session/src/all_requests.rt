@@ -1,25 +1,28 @@
 //! The laws of the definitions for all requests. Each function does nothing: its clauses are the laws.
 
-ghost use Rattle.std.specs.Prelude.{◌≡◌, ◌≢◌, ◌≤◌, ◌<◌, ◌+◌, ◌%◌, ◌^◌, ◌++◌, ◌==◌, ◌&&◌, ◌||◌, ◌⊎◌, ℕ, List, [], ◌∷◌, Bool, true, false, Option, Some, None, length, is_some, unwrap_or, nat_eq, not, codes, if◌then◌else◌};
+ghost use Rattle.std.specs.Prelude.{◌≡◌, ◌≢◌, ◌≤◌, ◌<◌, ◌+◌, ◌%◌, ◌^◌, ◌++◌, ◌==◌, ◌&&◌, ◌||◌, ◌⊎◌, ℕ, ℤ, List, [], ◌∷◌, Bool, true, false, Option, Some, None, length, is_some, unwrap_or, nat_eq, not, codes, if◌then◌else◌};
 ghost use Rattle.std.specs.Option.{option_or};
 ghost use Rattle.std.specs.List.{filter, list_any, range_with_len};
 ghost use Rattle.ei_spec.specs.declared.interface.KnownInterface.{KnownInterface};
 ghost use Rattle.ei_spec.specs.declared.interface.KnownInterface.TheVariants as known;
-ghost use Rattle.ei_spec.specs.Value.{Word, Long};
+ghost use Rattle.ei_spec.specs.Value.{Word, Long, Signed, Letters};
+ghost use Rattle.ei_spec.specs.Rows.{row_at};
+ghost use Rattle.ei_spec.specs.Table.{table};
+ghost use Rattle.ei_types.specs.declared.error.HandshakeError.TheVariants as handshake;
 ghost use Rattle.ei_spec.specs.Message.{Raw, IsBytes, all_bytes};
 ghost use Rattle.ei_spec.specs.Piece.{Piece};
 ghost use Rattle.ei_spec.specs.Groups.{Input as Waits, Frame, Other, Free, group, gives, frames_made};
 ghost use Rattle.ei_spec.specs.History.{each, occurs};
 ghost use Rattle.ei_spec.specs.Stream.{Waiting, Reading, go_on, IsReading, AreOpen, stream_of};
 ghost use Rattle.ei_session.specs.Setup.{Setup, connection_id, seat_id};
-ghost use Rattle.ei_session.specs.Asked.{asked, asks, event};
+ghost use Rattle.ei_session.specs.Asked.{asked, asks, event, first};
 ghost use Rattle.ei_session.specs.Handshake.{connected, is_finish, is_the_finish, settled, version};
-ghost use Rattle.ei_session.specs.Inputs.{TouchDown, TouchUp, TouchCancel, DeviceInput};
+ghost use Rattle.ei_session.specs.Inputs.{Input, PointerMotion, PointerMotionAbsolute, ScrollDelta, ScrollDiscrete, scroll_end, button, KeyboardKey, key_of, TouchDown, TouchMotion, TouchUp, TouchCancel, TextKeysym, TextUtf8, DeviceInput, input_to};
 ghost use Rattle.ei_session.specs.Devices.{seat_is_open, interfaces_of, made, ids_given, next_id, exhausts};
 ghost use Rattle.ei_session.specs.Objects.{Entry, new_device, handed_over, at_first, is_device, is_of, says, object, interfaces_left, gone};
 ghost use Rattle.ei_session.specs.Serial.{steps, serial};
 ghost use Rattle.ei_session.specs.Touches.{input, touches, is_down, touches_down};
-ghost use Rattle.ei_session.specs.Refusals.{Refusal, synced, is_at_most, refusal, judge};
+ghost use Rattle.ei_session.specs.Refusals.{Refusal, Handshake, arguments, tests, synced, is_at_most, refusal, judge};
 ghost use Rattle.ei_session.specs.Requests.{Request, Plain, Bind, RequestDevice, Ready, DeviceClosed, DeviceStartEmulating, DeviceStopEmulating, Disconnect, is_heard, item, slot, framed};
 ghost use Rattle.ei_session.specs.Replies.{finish_events};
 ghost use Rattle.ei_session.specs.Events.{invalid_object_event, callback_event, device_events, destroyed_event, destroyed_events, reply, replies, AreTargets, announcement, IsAmong};
@@ -219,4 +222,43 @@ pub fn touches_after()
     ensures cancel { (before : List Raw) (m : Raw) (d t : ℕ) → input before m ≡ Some (record { device = d; input = TouchCancel t }) →
         (device touch : ℕ) → is_down (m ∷ before) device touch ≡ (not (d == device && t == touch) && is_down before device touch) }
     ensures none { (before : List Raw) (m : Raw) → input before m ≡ None → (device touch : ℕ) → is_down (m ∷ before) device touch ≡ is_down before device touch }
+{}
+
+/// Which requests make a device.
+pub fn devices_made()
+    ensures bind { (before : List Raw) (m : Raw) (mask : ℕ) → seat_is_open before ≡ true → m.id ≡ seat_id → asked known.Seat (codes "bind") m ≡ Some (Long mask ∷ []) →
+        made before m ≡ (if mask == 0 then None else Some mask) }
+    ensures request_device { (before : List Raw) (m : Raw) (mask : ℕ) → seat_is_open before ≡ true → m.id ≡ seat_id → asked known.Seat (codes "request_device") m ≡ Some (Long mask ∷ []) →
+        made before m ≡ (if mask == 0 then None else Some mask) }
+    ensures shut { (before : List Raw) (m : Raw) → seat_is_open before ≡ false → made before m ≡ None }
+    ensures other { (before : List Raw) (m : Raw) → m.id ≢ seat_id → made before m ≡ None }
+    ensures release { (before : List Raw) (m : Raw) (interface : KnownInterface) → asks interface (codes "release") m ≡ true → made before m ≡ None }
+    ensures ids { (before : List Raw) (m : Raw) (mask : ℕ) → made before m ≡ Some mask → ids_given before m ≡ 1 + length (interfaces_of mask) }
+{}
+
+/// Which requests are inputs.
+pub fn inputs()
+    ensures there { (before : List Raw) (m : Raw) (e : Entry) (d : ℕ) (interface : KnownInterface) (i : Input) → object before m.id ≡ Some e → e.interface ≡ interface → e.device ≡ Some d →
+        input_to interface m ≡ Some i → input before m ≡ Some (record { device = d; input = i }) }
+    ensures motion_relative { (m : Raw) (x y : ℕ) → asked known.Pointer (codes "motion_relative") m ≡ Some (Word x ∷ Word y ∷ []) → input_to known.Pointer m ≡ Some (PointerMotion x y) }
+    ensures motion_absolute { (m : Raw) (x y : ℕ) → asked known.PointerAbsolute (codes "motion_absolute") m ≡ Some (Word x ∷ Word y ∷ []) → input_to known.PointerAbsolute m ≡ Some (PointerMotionAbsolute x y) }
+    ensures scroll { (m : Raw) (x y : ℕ) → asked known.Scroll (codes "scroll") m ≡ Some (Word x ∷ Word y ∷ []) → input_to known.Scroll m ≡ Some (ScrollDelta x y) }
+    ensures scroll_discrete { (m : Raw) (x y : ℤ) → asked known.Scroll (codes "scroll_discrete") m ≡ Some (Signed x ∷ Signed y ∷ []) → input_to known.Scroll m ≡ Some (ScrollDiscrete x y) }
+    ensures scroll_stop { (m : Raw) (x y is_cancel : ℕ) → asked known.Scroll (codes "scroll_stop") m ≡ Some (Word x ∷ Word y ∷ Word is_cancel ∷ []) → input_to known.Scroll m ≡ Some (scroll_end x y is_cancel) }
+    ensures button { (m : Raw) (code state : ℕ) → asked known.Button (codes "button") m ≡ Some (Word code ∷ Word state ∷ []) → input_to known.Button m ≡ Some (button code state) }
+    ensures key { (m : Raw) (key state : ℕ) → asked known.Keyboard (codes "key") m ≡ Some (Word key ∷ Word state ∷ []) → input_to known.Keyboard m ≡ Some (KeyboardKey key (key_of state)) }
+    ensures down { (m : Raw) (touch x y : ℕ) → asked known.Touchscreen (codes "down") m ≡ Some (Word touch ∷ Word x ∷ Word y ∷ []) → input_to known.Touchscreen m ≡ Some (TouchDown touch x y) }
+    ensures motion { (m : Raw) (touch x y : ℕ) → asked known.Touchscreen (codes "motion") m ≡ Some (Word touch ∷ Word x ∷ Word y ∷ []) → input_to known.Touchscreen m ≡ Some (TouchMotion touch x y) }
+    ensures up { (m : Raw) (touch : ℕ) → asked known.Touchscreen (codes "up") m ≡ Some (Word touch ∷ []) → input_to known.Touchscreen m ≡ Some (TouchUp touch) }
+    ensures cancel { (m : Raw) (touch : ℕ) → asked known.Touchscreen (codes "cancel") m ≡ Some (Word touch ∷ []) → input_to known.Touchscreen m ≡ Some (TouchCancel touch) }
+    ensures keysym { (m : Raw) (keysym state : ℕ) → asked known.Text (codes "keysym") m ≡ Some (Word keysym ∷ Word state ∷ []) → input_to known.Text m ≡ Some (TextKeysym keysym (key_of state)) }
+    ensures utf8 { (m : Raw) (letters : List ℕ) → asked known.Text (codes "utf8") m ≡ Some (Letters letters ∷ []) → input_to known.Text m ≡ Some (TextUtf8 letters) }
+{}
+
+/// Why a message is refused, by what its target is.
+pub fn refusals()
+    ensures known { (setup : Setup) (before : List Raw) (m : Raw) (e : Entry) → object before m.id ≡ Some e →
+        refusal setup before m ≡ first (tests setup before m e (row_at m.opcode (table false e.interface)) (arguments (row_at m.opcode (table false e.interface)) m)) }
+    ensures early { (setup : Setup) (before : List Raw) (m : Raw) → connected before ≡ false → object before m.id ≡ None → refusal setup before m ≡ Some (Handshake (handshake.InvalidObject m.id)) }
+    ensures unknown { (setup : Setup) (before : List Raw) (m : Raw) → connected before ≡ true → object before m.id ≡ None → refusal setup before m ≡ None }
 {}

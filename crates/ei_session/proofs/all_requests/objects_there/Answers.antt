@@ -1,5 +1,6 @@
 use Rattle.ei_session.proofs.ObjectLaws.{object_is_introduced, device_above}
-use Rattle.ei_session.proofs.ObjectShape.{object_first, object_handshake, object_connection, object_seat, object_owner}
+use Rattle.ei_session.proofs.ObjectShape.{object_seat, object_owner}
+use Rattle.ei_session.proofs.FirstObjects.{object_first, object_handshake, object_connection}
 use Rattle.ei_session.proofs.GoneLaws.{all_below, object_device, gone_for_good}
 use Rattle.ei_session.proofs.all_requests.objects_there.Goals as goal
 
