@@ -113,7 +113,7 @@ object_connection (m ∷ before) = connection_at before m (is_the_finish before 
 
 -- ---- before the finish there is the handshake alone
 
-shut_makes_nothing : (before : List Raw) (m : Raw) → connected before ≡ false → made before m ≡ None
+pub shut_makes_nothing : (before : List Raw) (m : Raw) → connected before ≡ false → made before m ≡ None
 unfolding made seat_is_open
 shut_makes_nothing before m off = rw (off, made) refl
 
