@@ -1,5 +1,5 @@
 -- What today's server takes, the server of all requests takes too.
-use Rattle.std.proofs.Common.{◌≡◌, ℕ, Bool, true, false, cond, not, ◌&&◌, ◌||◌, eqb, List, [], ◌∷◌, length, Option, Some, None, Ok, Err, refl, sym, ap, ◌∙◌, ◌⊎◌, inl, inr}
+use Rattle.std.proofs.Common.{◌≡◌, ℕ, Bool, true, false, cond, not, ◌&&◌, ◌||◌, eqb, List, [], ◌∷◌, ◌++◌, length, Option, Some, None, Ok, Err, refl, sym, ap, ◌∙◌, ◌⊎◌, inl, inr}
 use Rattle.std.specs.Prelude.{is_some, codes}
 use Rattle.std.proofs.lemmas.Bool.{eqb-true}
 use Rattle.ei_spec.specs.declared.interface.KnownInterface.TheVariants as known
@@ -16,13 +16,24 @@ use Rattle.ei_session.specs.Handshake.{connected, is_finish, announced, announce
 use Rattle.ei_session.specs.Built.{NotBuilt, names_required, all_settled, is_built_before}
 use Rattle.ei_session.specs.Built.{judge as old_judge, verdict as old_verdict, is_disconnect as is_disconnect_of}
 use Rattle.ei_session.proofs.OneMore.{judged_before, judged_after}
-use Rattle.ei_session.specs.Devices.{exhausts}
+use Rattle.ei_session.specs.Devices.{made, exhausts}
 use Rattle.ei_session.specs.Objects.{object}
 use Rattle.ei_session.specs.Touches.{input}
 use Rattle.ei_session.specs.Refusals.{Arguments, refused_row, refused_at, refusal, is_disconnect, judge}
 use Rattle.ei_session.proofs.Choices.{chosen, none_some, and_left, and_right}
 use Rattle.ei_session.proofs.ItemLaws.{no_args}
 use Rattle.ei_session.proofs.FirstObjects.{object_first, object_connection, the_handshake, the_connection, shut_makes_nothing}
+use Rattle.ei_spec.specs.History.{joined}
+use Rattle.ei_spec.specs.Stream.{AreOpen}
+use Rattle.ei_session.specs.Handshake.{is_the_finish}
+use Rattle.ei_session.specs.Replies.{finish_events}
+use Rattle.ei_session.specs.Replies.{reply as old_reply, replies as old_replies}
+use Rattle.ei_session.specs.Objects.{at_first, is_release, gone}
+use Rattle.ei_session.specs.Refusals.{synced}
+use Rattle.ei_session.specs.Events.{reply_by, reply, replies}
+use Rattle.ei_session.proofs.Parts.{replies_more as old_more}
+use Rattle.ei_session.proofs.AllParts.{replies_more}
+use Rattle.ei_session.proofs.FirstObjects.{never_released}
 
 -- ---- a message of the handshake that is read whole, and is no name, no context type and no finish
 
@@ -200,3 +211,28 @@ final_by setup before m on d =
 -- what ends the one ends the other
 pub built_final : (setup : Setup) (before : List Raw) (m : Raw) → old_judge before m ≡ Final → judge setup before m ≡ Final
 built_final setup before m h = let w = old_final before m (connected before) refl h in final_by setup before m w.0 w.1
+
+-- ---- what answers them
+
+first_reply : (setup : Setup) (before : List Raw) (m : Raw) (b : Bool) → connected before ≡ false → eqb m.id 0 ≡ b → reply_by setup before m None (at_first m.id) ≡ []
+unfolding synced gone is_release
+first_reply setup before m true off e =
+    let k : object before m.id ≡ Some the_handshake = object_first before m.id off ∙ rw e refl in
+    rw (e, off, k, never_released known.Handshake m refl) refl
+first_reply setup before m false off e = rw (e, off) refl
+
+same_open : (setup : Setup) (before : List Raw) (m : Raw) → connected before ≡ false → reply setup before m ≡ old_reply setup before m
+unfolding reply old_reply
+same_open setup before m off = by (is_the_finish before m) refl
+  where
+    by : (b : Bool) → is_the_finish before m ≡ b → cond (is_the_finish before m) (finish_events setup before) (reply_by setup before m (made before m) (object before m.id)) ≡ cond (is_the_finish before m) (finish_events setup before) []
+    by true f = rw f refl
+    by false f = rw (f, shut_makes_nothing before m off, object_first before m.id off) (first_reply setup before m (eqb m.id 0) off refl)
+
+-- the messages accepted so far are answered alike
+pub same_replies : (setup : Setup) (past : List Raw) → AreOpen old_judge past → replies setup past ≡ old_replies setup past
+unfolding AreOpen replies old_replies joined
+same_replies setup [] h = refl
+same_replies setup (m ∷ before) h =
+    let w = old_open before m (connected before) refl h.1 in
+    replies_more setup before m ∙ ap (λ (x : List Raw). x ++ reply setup before m) (same_replies setup before h.2) ∙ ap (λ (x : List Raw). old_replies setup before ++ x) (same_open setup before m w.0) ∙ sym (old_more setup before m)

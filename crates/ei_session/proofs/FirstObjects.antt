@@ -61,7 +61,7 @@ no_release_of : (o : Option Entry) (e : Entry) (m : Raw) → o ≡ Some e → as
 unfolding is_release
 no_release_of o e m p r = rw (p, is_release) r
 
-never_released : (k : KnownInterface) (m : Raw) → k ≡ known.Handshake → asks k (codes "release") m ≡ false
+pub never_released : (k : KnownInterface) (m : Raw) → k ≡ known.Handshake → asks k (codes "release") m ≡ false
 unfolding asks asked
 never_released k m e = rw e refl
 

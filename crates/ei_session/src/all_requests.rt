@@ -25,7 +25,7 @@ ghost use Rattle.ei_session.specs.Serial.{steps, serial};
 ghost use Rattle.ei_session.specs.Touches.{input, touches, is_down, touches_down};
 ghost use Rattle.ei_session.specs.Refusals.{Refusal, Handshake, arguments, tests, synced, is_at_most, refusal, judge};
 ghost use Rattle.ei_session.specs.Requests.{Request, Plain, Bind, RequestDevice, Ready, DeviceClosed, DeviceStartEmulating, DeviceStopEmulating, Disconnect, is_heard, item, slot, framed};
-ghost use Rattle.ei_session.specs.Replies.{finish_events};
+ghost use Rattle.ei_session.specs.Replies.{finish_events, replies as replies_built};
 ghost use Rattle.ei_session.specs.Events.{invalid_object_event, callback_event, device_events, destroyed_event, destroyed_events, reply, replies, AreTargets, announcement, IsAmong};
 ghost use Rattle.ei_session.specs.Served.{AreUnrefused, accepted, reading_of, read_first, is_over, over_at, at_end, session};
 
@@ -268,4 +268,5 @@ pub fn refusals()
 pub fn built_requests()
     ensures accepted { (setup : Setup) (before : List Raw) (m : Raw) → judge_built before m ≡ Accepted → judge setup before m ≡ Accepted }
     ensures last { (setup : Setup) (before : List Raw) (m : Raw) → judge_built before m ≡ Final → judge setup before m ≡ Final }
+    ensures replies { (setup : Setup) (past : List Raw) → AreOpen judge_built past → replies setup past ≡ replies_built setup past }
 {}
