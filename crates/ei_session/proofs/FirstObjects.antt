@@ -61,7 +61,7 @@ no_release_of : (o : Option Entry) (e : Entry) (m : Raw) → o ≡ Some e → as
 unfolding is_release
 no_release_of o e m p r = rw (p, is_release) r
 
-never_released : (k : KnownInterface) (m : Raw) → k ≡ known.Handshake → asks k (codes "release") m ≡ false
+pub never_released : (k : KnownInterface) (m : Raw) → k ≡ known.Handshake → asks k (codes "release") m ≡ false
 unfolding asks asked
 never_released k m e = rw e refl
 
@@ -113,7 +113,7 @@ object_connection (m ∷ before) = connection_at before m (is_the_finish before 
 
 -- ---- before the finish there is the handshake alone
 
-shut_makes_nothing : (before : List Raw) (m : Raw) → connected before ≡ false → made before m ≡ None
+pub shut_makes_nothing : (before : List Raw) (m : Raw) → connected before ≡ false → made before m ≡ None
 unfolding made seat_is_open
 shut_makes_nothing before m off = rw (off, made) refl
 

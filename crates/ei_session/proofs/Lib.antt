@@ -23,3 +23,4 @@ pub mod NewCallbacks
 pub mod WaitingLaws
 pub mod MadeLaws
 pub mod RefusalLaws
+pub mod BuiltLaws

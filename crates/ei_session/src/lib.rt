@@ -14,9 +14,9 @@ mod theorems;
 mod worked;
 
 pub use all_requests::{
-    all_one_more, all_prefixes, all_sessions, all_streams, answers, bounds, devices_made, groups,
-    inputs, interfaces_after, items, objects_after, objects_there, refusals, steps_after, targets,
-    touches_after,
+    all_one_more, all_prefixes, all_sessions, all_streams, answers, bounds, built_requests,
+    devices_made, groups, inputs, interfaces_after, items, objects_after, objects_there, refusals,
+    steps_after, targets, touches_after,
 };
 pub use theorems::{one_more_message, prefixes, sessions, streams};
 pub use worked::{
