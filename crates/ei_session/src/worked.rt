@@ -30,6 +30,7 @@ pub fn handshakes()
     ensures handles { (h : Handle) → (session buttons (laden_bytes h (parts (shaken ∷ disconnect ∷ [])))).answer ≡ HandleLimit }
     ensures handled { (h : Handle) → all_bytes (replies buttons (session buttons (laden_bytes h (parts (shaken ∷ disconnect ∷ [])))).handled) ≡ greeted }
     ensures no_piece { (session (record { serial = 5; capabilities = 32; pieces = 0 }) (piece shaken ∷ [])).answer ≡ PieceLimit }
+    ensures none_came { (session (record { serial = 5; capabilities = 32; pieces = 0 }) []).answer ≡ UnexpectedEof }
     ensures what_follows { answer buttons (shaken ∷ parts (disconnect ∷ (255 ∷ 255 ∷ []) ∷ []) ∷ []) ≡ Disconnect }
     ensures waits { answer buttons (shaken ∷ (0 ∷ 0 ∷ 0 ∷ 0 ∷ 0 ∷ 0 ∷ 0 ∷ 0 ∷ 0 ∷ 0 ∷ 0 ∷ 0 ∷ 0 ∷ 0 ∷ 0 ∷ []) ∷ []) ≡ End }
     ensures wraps { reply_bytes (record { serial = 4294967295; capabilities = 32; pieces = 200 }) (shaken ∷ bind 32 ∷ []) ≡ parts (connected_with 4294967295 ∷ device_of_button ∷ resumed 0 ∷ []) }
