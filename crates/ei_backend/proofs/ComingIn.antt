@@ -1,11 +1,16 @@
 -- A piece that comes.
-use Rattle.std.proofs.Common.{◌≡◌, ◌<◌, ◌≤◌, ℕ, ◌+◌, List, [], take, drop, length, Option, Some, ap, sym, ◌∙◌, arith}
+use Rattle.std.proofs.Common.{◌≡◌, ◌<◌, ◌≤◌, ℕ, ◌+◌, ◌-◌, List, [], ◌++◌, take, drop, length, Option, Some, refl, ap, sym, ◌∙◌, arith}
+use Rattle.std.specs.Prelude.{min}
 use Rattle.std.proofs.lemmas.List.{length-take-le}
+use Rattle.std.proofs.Math.Seq.{take-length}
+use Rattle.circular_buffer.specs.Buffer.{Buffer, buffer}
 use Rattle.ei_spec.specs.declared.handle.Handle.{Handle}
 use Rattle.ei_spec.specs.Piece.{Piece}
 use Rattle.ei_backend.specs.declared.outside.Taken.{Taken}
 use Rattle.ei_backend.specs.Outside.{IsPieceSize, HandsOut}
-use Rattle.ei_backend.specs.Incoming.{IsFirst, Fits, Overflows}
+use Rattle.ei_backend.specs.Ring.{grown}
+use Rattle.ei_backend.proofs.RingLaws.{grown_room}
+use Rattle.ei_backend.specs.Incoming.{IsFirst, Fits, Overflows, IncomingView}
 
 abbrev pub piece_of : Taken → List ℕ → List Handle → Piece
 piece_of taken bytes handles = record { bytes = take taken.bytes bytes; handles = take taken.handles handles }
@@ -41,3 +46,22 @@ overflows unread taken bytes handles size some le le_handles limit =
       most_handles = omega (arith, count, size.handles);
       limit = omega (arith, count);
     }
+
+pub same_unread : (a b : List ℕ) (h k : List Handle) (m n : ℕ) → a ≡ b → h ≡ k → m ≡ n → ◌≡◌ {A = IncomingView} (record { bytes = a; handles = h; capacity = m }) (record { bytes = b; handles = k; capacity = n })
+same_unread a b h k m n e f s = rw (e, f, s) refl
+
+-- all of a slice is put behind what a ring holds, where there is room
+pub filled : {X : Type 0} (old new : Buffer X) (xs : List X) (n : ℕ) → n ≡ min (length xs) (old.capacity - length old.items) → new ≡ buffer (old.items ++ take n xs) old.capacity →
+    length old.items + length xs ≤ old.capacity → new ≡ buffer (old.items ++ xs) old.capacity
+filled old new xs n count is le =
+    let whole : n ≡ length xs = omega (arith, count) in
+    is ∙ ap (λ k. buffer (old.items ++ take k xs) old.capacity) whole ∙ ap (λ ys. buffer (old.items ++ ys) old.capacity) (take-length xs)
+
+-- a piece is put behind what is unread, once the ring has room
+pub came : (bytes : List ℕ) (capacity : ℕ) (ring new : Buffer ℕ) (xs : List ℕ) (n : ℕ) → ring ≡ buffer bytes (grown (length bytes) capacity) → n ≡ min (length xs) (ring.capacity - length ring.items) →
+    new ≡ buffer (ring.items ++ take n xs) ring.capacity → length xs ≤ 65536 → new ≡ buffer (bytes ++ xs) (grown (length bytes) capacity)
+came bytes capacity ring new xs n roomy count is few =
+    let items : ring.items ≡ bytes = ap (λ (b : Buffer ℕ). b.items) roomy in
+    let holds : ring.capacity ≡ grown (length bytes) capacity = ap (λ (b : Buffer ℕ). b.capacity) roomy in
+    let room : length bytes + 65536 ≤ ring.capacity = omega (arith, grown_room (length bytes) capacity, holds) in
+    filled ring new xs n count is (omega (arith, ap (λ (l : List ℕ). length l) items)) ∙ ap (λ (b : Buffer ℕ). buffer (b.items ++ xs) b.capacity) roomy

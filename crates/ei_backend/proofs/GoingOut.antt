@@ -72,3 +72,7 @@ has_header m = omega (arith, length-append (le8 m.id ++ (le4 (size m) ++ le4 m.o
 
 pub message_waits : (before now : List ℕ) (m : Raw) (handles : List Handle) → now ≡ before ++ bytes_of m → HasBytes now handles
 message_waits before now m handles e = λ none. absurd (omega (arith, has_header m, length-append before (bytes_of m), ap (λ (l : List ℕ). length l) e, none))
+
+pub message_length : (m : Raw) → length (bytes_of m) ≡ size m
+unfolding bytes_of header
+message_length m = omega (arith, length-append (le8 m.id ++ (le4 (size m) ++ le4 m.opcode)) m.body, length-append (le8 m.id) (le4 (size m) ++ le4 m.opcode), length-append (le4 (size m)) (le4 m.opcode), len8 m.id, len4 (size m), len4 m.opcode)

@@ -1,6 +1,13 @@
 pub mod Objects
+pub mod Equal
+pub mod OwnAndPeer
+pub mod GivenOnce
+pub mod FirstObject
 pub mod Sending
 pub mod GoingOut
 pub mod ComingIn
 pub mod Shorter
 pub mod ReadingOn
+pub mod RingLaws
+pub mod FrontNeeds
+pub mod Behind

@@ -5,16 +5,16 @@ use Rattle.ei_spec.specs.Piece.{Piece}
 use Rattle.ei_wire.specs.declared.error.ReadError.{ReadError}
 use Rattle.ei_wire.specs.declared.error.ReadError.TheVariants.{UnexpectedEof, ReadFault, HandleLimit, NoMemory}
 use Rattle.ei_backend.specs.Incoming as incoming
-use Rattle.ei_backend.specs.Backend.{BackendView, ReadsPiece}
+use Rattle.ei_backend.specs.Backend.{BackendView, ReadsOn, ReadsPiece}
 
 -- an endpoint with this unread, and closed or not
-abbrev after : BackendView → Piece → Bool → BackendView
-after b unread closed = record b { unread = unread.bytes; handles = unread.handles; closed = closed }
+abbrev after : BackendView → incoming.IncomingView → Bool → BackendView
+after b unread closed = record b { unread = unread.bytes; handles = unread.handles; capacity = unread.capacity; closed = closed }
 
-abbrev unread_of : BackendView → Piece
-unread_of b = record { bytes = b.unread; handles = b.handles }
+abbrev unread_of : BackendView → incoming.IncomingView
+unread_of b = record { bytes = b.unread; handles = b.handles; capacity = b.capacity }
 
-same_after : (b : BackendView) (unread other : Piece) (closed : Bool) (now : Bool) → unread ≡ other → closed ≡ now → after b unread closed ≡ after b other now
+same_after : (b : BackendView) (unread other : incoming.IncomingView) (closed : Bool) (now : Bool) → unread ≡ other → closed ≡ now → after b unread closed ≡ after b other now
 same_after b unread other closed now e f = rw (e, f) refl
 
 stays_open : (closed : Bool) (result : Result ℕ ReadError) → IsTrue closed ↔ IsErrOf result HandleLimit → (result ≡ Err HandleLimit → ⊥) → closed ≡ false
@@ -25,12 +25,18 @@ closes : (closed : Bool) → IsTrue closed ↔ IsErrOf {T = ℕ} (Err HandleLimi
 closes true is = refl
 closes false is = is.1 refl
 
-pub reads_piece : (pieces : List Piece) (left : Option (List Piece)) (result : Result ℕ ReadError) (b : BackendView) (unread : Piece) (closed : Bool) → b.closed ≡ false →
+pub reads_piece : (pieces : List Piece) (left : Option (List Piece)) (result : Result ℕ ReadError) (b : BackendView) (unread : incoming.IncomingView) (closed : Bool) → b.closed ≡ false →
     incoming.ReadsPiece pieces left result (unread_of b) unread → IsTrue closed ↔ IsErrOf result HandleLimit → ReadsPiece pieces left result b (after b unread closed)
-reads_piece pieces left (Ok n) b unread closed is_open h is =
-    (h.0, h.1, h.2, same_after b unread _ closed b.closed h.3 (stays_open closed (Ok n) is (λ e. cc) ∙ sym is_open))
+reads_piece pieces left (Ok n) b unread closed is_open h is = (h.0, h.1, h.2, same_after b unread _ closed b.closed h.3 (stays_open closed (Ok n) is (λ e. cc) ∙ sym is_open))
 reads_piece pieces left (Err HandleLimit) b unread closed is_open h is = (h.0, h.1, h.2, same_after b unread _ closed true h.3 (closes closed is))
-reads_piece pieces left (Err UnexpectedEof) b unread closed is_open h is =
-    (h.0, h.1, same_after b unread _ closed b.closed h.2 (stays_open closed (Err UnexpectedEof) is (λ e. cc) ∙ sym is_open))
+reads_piece pieces left (Err UnexpectedEof) b unread closed is_open h is = (h.0, h.1, same_after b unread _ closed b.closed h.2 (stays_open closed (Err UnexpectedEof) is (λ e. cc) ∙ sym is_open))
 reads_piece pieces left (Err ReadFault) b unread closed is_open h is = (h.0, same_after b unread _ closed b.closed h.1 (stays_open closed (Err ReadFault) is (λ e. cc) ∙ sym is_open))
 reads_piece pieces left (Err NoMemory) b unread closed is_open h is = (h.0, same_after b unread _ closed b.closed h.1 (stays_open closed (Err NoMemory) is (λ e. cc) ∙ sym is_open))
+
+pub reads_on : (result : Result ℕ ReadError) (b : BackendView) (unread : incoming.IncomingView) (closed : Bool) → b.closed ≡ false →
+    incoming.Reads result (unread_of b) unread → IsTrue closed ↔ IsErrOf result HandleLimit → ReadsOn result b (after b unread closed)
+reads_on (Ok n) b unread closed is_open h is = (h.0, h.1, same_after b unread _ closed b.closed h.2 (stays_open closed (Ok n) is (λ e. cc) ∙ sym is_open))
+reads_on (Err HandleLimit) b unread closed is_open h is = (h.0, h.1, same_after b unread _ closed true h.2 (closes closed is))
+reads_on (Err UnexpectedEof) b unread closed is_open h is = same_after b unread _ closed b.closed h (stays_open closed (Err UnexpectedEof) is (λ e. cc) ∙ sym is_open)
+reads_on (Err ReadFault) b unread closed is_open h is = same_after b unread _ closed b.closed h (stays_open closed (Err ReadFault) is (λ e. cc) ∙ sym is_open)
+reads_on (Err NoMemory) b unread closed is_open h is = same_after b unread _ closed b.closed h (stays_open closed (Err NoMemory) is (λ e. cc) ∙ sym is_open)

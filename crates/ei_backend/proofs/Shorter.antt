@@ -8,7 +8,8 @@ use Rattle.ei_spec.specs.Value.{Kind, U32, I32, U64, I64, Float, Text, Nullable,
 use Rattle.ei_spec.specs.Reading.{Fault, ◌>>=◌, Unread, Read, number_at, letters_at, text_at, some_text, or_null, choice_at, of_bytes, of_handle, read, utf8, EndOfMessage, InvalidVariant, Stop, ◌then◌, stopping, all_at}
 use Rattle.ei_spec.specs.Interface.{Interface, Known, Other, short_of}
 use Rattle.ei_backend.specs.Table.{TableView}
-use Rattle.ei_spec.specs.Rows.{Row, rows, row_at}
+use Rattle.ei_spec.specs.Rows.{Row, row_at}
+use Rattle.ei_spec.specs.Table.{table}
 use Rattle.ei_backend.specs.Message.{announce, Parsed, some_row, message_read}
 
 -- of a value and the bytes after it
@@ -114,7 +115,7 @@ some_shorter None short opcode s t = tt
 some_shorter (Some r) short opcode s t = row_shorter (length s.bytes) r t (all_at r.kinds s) (all_leaves r.kinds s)
 
 pub message_shorter : (events : Bool) (i : Interface) (opcode : ℕ) (s : Unread) (t : TableView) → IsShorter (length s.bytes) (message_read events i opcode s t)
-message_shorter events (Known k) opcode s t = some_shorter (row_at opcode (rows events k)) (short_of k) opcode s t
+message_shorter events (Known k) opcode s t = some_shorter (row_at opcode (table events k)) (short_of k) opcode s t
 message_shorter events (Other name) opcode s t = tt
 
 pub shorter_ok : (events : Bool) (i : Interface) (opcode : ℕ) (s : Unread) (t : TableView) (p : Parsed) → message_read events i opcode s t ≡ Ok p → length p.unread.bytes ≤ length s.bytes

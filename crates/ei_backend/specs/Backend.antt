@@ -14,12 +14,16 @@ use Rattle.ei_wire.specs.declared.error.ReadError.{ReadError}
 use Rattle.ei_wire.specs.declared.error.ReadError.TheVariants as read_error
 use Rattle.ei_wire.specs.Gives.{fault_of}
 use Rattle.ei_backend.specs.Table.{TableView, found, without, with_own}
+use Rattle.ei_backend.specs.Table as table
+use Rattle.ei_backend.specs.Ring.{first_capacity, grown}
+use Rattle.ei_backend.specs.Outgoing.{Room, no_room, more_room}
 use Rattle.ei_backend.specs.Incoming.{IsFirst, Fits, Overflows}
 use Rattle.ei_backend.specs.Message.{Parsed, message_read}
 use Rattle.ei_backend.specs.declared.message.PendingRequestResult.{PendingRequestResult}
 use Rattle.ei_backend.specs.declared.message.PendingRequestResult.TheVariants as pending
 
--- an endpoint: its objects, what came and isn't read, what waits to be sent, and whether it is closed
+-- an endpoint: its objects, what came and isn't read, what waits to be sent, and whether it is closed; the
+-- bytes that the ring of unread ones holds, and how much may wait to be sent without want of memory
 pub record BackendView : Type 0 where
   pub table : TableView
   pub unread : List ℕ
@@ -27,16 +31,22 @@ pub record BackendView : Type 0 where
   pub unsent : List ℕ
   pub unsent_handles : List Handle
   pub closed : Bool
+  pub capacity : ℕ
+  pub room : Room
 
 -- an endpoint over these objects, with empty buffers
 abbrev pub new_backend : TableView → BackendView
-new_backend table = record { table = table; unread = []; handles = []; unsent = []; unsent_handles = []; closed = false }
+new_backend table = record { table = table; unread = []; handles = []; unsent = []; unsent_handles = []; closed = false; capacity = first_capacity; room = no_room }
 
 -- ---- reading
 
+-- the endpoint with room in its ring for one more piece
+abbrev pub with_ring : BackendView → BackendView
+with_ring b = record b { capacity = grown (length b.unread) b.capacity }
+
 -- the endpoint with one more piece behind what is unread
 abbrev pub with_piece : Piece → BackendView → BackendView
-with_piece piece b = record b { unread = b.unread ++ piece.bytes; handles = b.handles ++ piece.handles }
+with_piece piece b = record b { unread = b.unread ++ piece.bytes; handles = b.handles ++ piece.handles; capacity = grown (length b.unread) b.capacity }
 
 -- the endpoint closed
 abbrev pub closed_of : BackendView → BackendView
@@ -45,15 +55,16 @@ closed_of b = record b { closed = true }
 -- what reading a piece did to an open endpoint
 abbrev pub ReadsOn : Result ℕ ReadError → BackendView → BackendView → Type 0
 ReadsOn (Ok n) old new = (piece : Piece) × Fits n old.handles piece × (new ≡ with_piece piece old)
-ReadsOn (Err read_error.HandleLimit) old new = (piece : Piece) × Overflows old.handles piece × (new ≡ closed_of old)
-ReadsOn (Err e) old new = new ≡ old
+ReadsOn (Err read_error.HandleLimit) old new = (piece : Piece) × Overflows old.handles piece × (new ≡ closed_of (with_ring old))
+ReadsOn (Err read_error.NoMemory) old new = new ≡ old
+ReadsOn (Err e) old new = new ≡ with_ring old
 
 -- and where the source told these pieces
 abbrev pub ReadsPiece : List Piece → Option (List Piece) → Result ℕ ReadError → BackendView → BackendView → Type 0
 ReadsPiece pieces left (Ok n) old new = (piece : Piece) × IsFirst pieces left piece × Fits n old.handles piece × (new ≡ with_piece piece old)
-ReadsPiece pieces left (Err read_error.HandleLimit) old new = (piece : Piece) × IsFirst pieces left piece × Overflows old.handles piece × (new ≡ closed_of old)
-ReadsPiece pieces left (Err read_error.UnexpectedEof) old new = (pieces ≡ []) × (left ≡ Some []) × (new ≡ old)
-ReadsPiece pieces left (Err read_error.ReadFault) old new = (left ≡ Some pieces) × (new ≡ old)
+ReadsPiece pieces left (Err read_error.HandleLimit) old new = (piece : Piece) × IsFirst pieces left piece × Overflows old.handles piece × (new ≡ closed_of (with_ring old))
+ReadsPiece pieces left (Err read_error.UnexpectedEof) old new = (pieces ≡ []) × (left ≡ Some []) × (new ≡ with_ring old)
+ReadsPiece pieces left (Err read_error.ReadFault) old new = (left ≡ Some pieces) × (new ≡ with_ring old)
 ReadsPiece pieces left (Err read_error.NoMemory) old new = (left ≡ Some pieces) × (new ≡ old)
 
 -- ---- the message at the front
@@ -161,3 +172,9 @@ unsent_of b = record { bytes = b.unsent; handles = b.unsent_handles }
 -- the endpoint with this to be sent
 abbrev pub with_unsent : Piece → BackendView → BackendView
 with_unsent waiting b = record b { unsent = waiting.bytes; unsent_handles = waiting.handles }
+
+-- ---- room
+
+-- the endpoint in which so many more bytes, handles and own objects take no memory
+abbrev pub with_room : ℕ → ℕ → ℕ → BackendView → BackendView
+with_room bytes handles objects b = record b { table = table.with_room objects b.table; room = more_room bytes handles (unsent_of b) b.room }

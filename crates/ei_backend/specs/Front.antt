@@ -1,17 +1,28 @@
--- The message at the front, as the code has it.
-use Rattle.std.specs.Prelude.{◌≡◌, ◌+◌, ◌≤◌, ℕ, List, length, drop}
-use Rattle.ei_spec.specs.Message.{Front, Short, Unlawful, Whole}
+-- The message at the front, as the code has it, and what more bytes make of it.
+use Rattle.std.specs.Prelude.{◌≡◌, ◌+◌, ◌<◌, ◌≤◌, ℕ, List, ◌++◌, length, drop}
+use Rattle.ei_spec.specs.Message.{Front, Short, Unlawful, Whole, front}
 use Rattle.ei_backend.specs.declared.front.FrontMessage.{FrontMessage}
 use Rattle.ei_backend.specs.declared.front.FrontMessage.TheVariants as code
 
 -- the front of these bytes
 abbrev pub front_view : List ℕ → FrontMessage → Front
-front_view bytes code.Short = Short
+front_view bytes (code.Short needed) = Short
 front_view bytes (code.Unlawful len) = Unlawful len
 front_view bytes (code.Whole id opcode body len) = Whole (record { id = id; opcode = opcode; body = body.now }) (drop len bytes)
 
--- a whole message stands in the bytes, and is no longer than a message may be
+-- so many bytes are needed: with fewer there is no whole message
+pub record IsNeeded (bytes : List ℕ) (needed : ℕ) : Type 0 where
+  pub missing : length bytes < needed
+  pub short : (more : List ℕ) → length bytes + length more < needed → front (bytes ++ more) ≡ Short
+
+-- a whole message stands in the bytes, and is no longer than a message may be; where there is none, it is known how many bytes are needed
 abbrev pub IsLawful : List ℕ → FrontMessage → Type 0
-IsLawful bytes code.Short = Unit {0}
+IsLawful bytes (code.Short needed) = IsNeeded bytes needed
 IsLawful bytes (code.Unlawful len) = Unit {0}
 IsLawful bytes (code.Whole id opcode body len) = (16 ≤ len) × (len ≤ length bytes) × (length body.now + 16 ≡ len) × (len ≤ 1048576)
+
+-- the front of more bytes, where the first of them have it already
+abbrev pub behind : List ℕ → Front → Front
+behind more Short = Short
+behind more (Unlawful n) = Unlawful n
+behind more (Whole m rest) = Whole m (rest ++ more)

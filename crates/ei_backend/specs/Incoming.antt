@@ -1,10 +1,10 @@
 -- What came and isn't read yet, and what one more piece does to it.
-use Rattle.std.specs.Prelude.{◌≡◌, ℕ, ◌+◌, ◌<◌, ◌≤◌, List, [], length, drop, slice_get, Option, Some, Result, Ok, Err}
+use Rattle.std.specs.Prelude.{◌≡◌, ℕ, ◌+◌, ◌<◌, ◌≤◌, List, [], ◌++◌, length, drop, slice_get, Option, Some, Result, Ok, Err}
 use Rattle.ei_spec.specs.declared.handle.Handle.{Handle}
 use Rattle.ei_spec.specs.Piece.{Piece}
 use Rattle.ei_wire.specs.declared.error.ReadError.{ReadError}
 use Rattle.ei_wire.specs.declared.error.ReadError.TheVariants as read_error
-use Rattle.ei_backend.specs.Outside.{with_more}
+use Rattle.ei_backend.specs.Ring.{first_capacity, grown}
 
 -- the piece is the first of these, and the source has the others left
 pub record IsFirst (pieces : List Piece) (left : Option (List Piece)) (piece : Piece) : Type 0 where
@@ -26,16 +26,35 @@ pub record Overflows (unread : List Handle) (piece : Piece) : Type 0 where
   pub most_handles : length piece.handles ≤ 64
   pub limit : 4096 < length unread + length piece.handles
 
+-- what is unread, and the bytes that its ring holds
+pub record IncomingView : Type 0 where
+  pub bytes : List ℕ
+  pub handles : List Handle
+  pub capacity : ℕ
+
+-- nothing unread, in a new ring
+abbrev pub none_unread : IncomingView
+none_unread = record { bytes = []; handles = []; capacity = first_capacity }
+
+-- what is unread, with room for one more piece
+abbrev pub with_room : IncomingView → IncomingView
+with_room i = record i { capacity = grown (length i.bytes) i.capacity }
+
+-- what is unread, with one more piece behind it
+abbrev pub with_piece : Piece → IncomingView → IncomingView
+with_piece piece i = record { bytes = i.bytes ++ piece.bytes; handles = i.handles ++ piece.handles; capacity = grown (length i.bytes) i.capacity }
+
 -- what reading a piece did to what is unread
-abbrev pub Reads : Result ℕ ReadError → Piece → Piece → Type 0
-Reads (Ok n) old new = (piece : Piece) × Fits n old.handles piece × (new ≡ with_more piece.bytes piece.handles old)
-Reads (Err read_error.HandleLimit) old new = (piece : Piece) × Overflows old.handles piece × (new ≡ old)
-Reads (Err e) old new = new ≡ old
+abbrev pub Reads : Result ℕ ReadError → IncomingView → IncomingView → Type 0
+Reads (Ok n) old new = (piece : Piece) × Fits n old.handles piece × (new ≡ with_piece piece old)
+Reads (Err read_error.HandleLimit) old new = (piece : Piece) × Overflows old.handles piece × (new ≡ with_room old)
+Reads (Err read_error.NoMemory) old new = new ≡ old
+Reads (Err e) old new = new ≡ with_room old
 
 -- and where the source told these pieces
-abbrev pub ReadsPiece : List Piece → Option (List Piece) → Result ℕ ReadError → Piece → Piece → Type 0
-ReadsPiece pieces left (Ok n) old new = (piece : Piece) × IsFirst pieces left piece × Fits n old.handles piece × (new ≡ with_more piece.bytes piece.handles old)
-ReadsPiece pieces left (Err read_error.HandleLimit) old new = (piece : Piece) × IsFirst pieces left piece × Overflows old.handles piece × (new ≡ old)
-ReadsPiece pieces left (Err read_error.UnexpectedEof) old new = (pieces ≡ []) × (left ≡ Some []) × (new ≡ old)
-ReadsPiece pieces left (Err read_error.ReadFault) old new = (left ≡ Some pieces) × (new ≡ old)
+abbrev pub ReadsPiece : List Piece → Option (List Piece) → Result ℕ ReadError → IncomingView → IncomingView → Type 0
+ReadsPiece pieces left (Ok n) old new = (piece : Piece) × IsFirst pieces left piece × Fits n old.handles piece × (new ≡ with_piece piece old)
+ReadsPiece pieces left (Err read_error.HandleLimit) old new = (piece : Piece) × IsFirst pieces left piece × Overflows old.handles piece × (new ≡ with_room old)
+ReadsPiece pieces left (Err read_error.UnexpectedEof) old new = (pieces ≡ []) × (left ≡ Some []) × (new ≡ with_room old)
+ReadsPiece pieces left (Err read_error.ReadFault) old new = (left ≡ Some pieces) × (new ≡ with_room old)
 ReadsPiece pieces left (Err read_error.NoMemory) old new = (left ≡ Some pieces) × (new ≡ old)

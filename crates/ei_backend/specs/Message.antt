@@ -3,7 +3,8 @@ use Rattle.std.specs.Prelude.{◌≡◌, ℕ, Bool, List, Option, Some, None, Re
 use Rattle.ei_spec.specs.Value.{Kind, Value}
 use Rattle.ei_spec.specs.Reading.{Fault, InvalidOpcode, InvalidInterface, Unread, Stop, ◌then◌, stopping, all_at}
 use Rattle.ei_spec.specs.Interface.{Interface, Known, Other, ObjectView, short_of, named}
-use Rattle.ei_spec.specs.Rows.{Row, Announces, Nothing, Fixed, Named, rows, row_at, new_id, version_of, name_in}
+use Rattle.ei_spec.specs.Rows.{Row, Announces, Nothing, Fixed, Named, row_at, new_id, version_of, name_in}
+use Rattle.ei_spec.specs.Table.{table}
 use Rattle.ei_wire.specs.declared.error.ParseError.{ParseError}
 use Rattle.ei_wire.specs.Gives.{fault_of}
 use Rattle.ei_backend.specs.Table.{TableView, accept}
@@ -36,7 +37,7 @@ some_row None short opcode s t = Err (InvalidOpcode short opcode, s.taken)
 
 -- a message of the opcode to an object of the interface
 abbrev pub message_read : Bool → Interface → ℕ → Unread → TableView → Result Parsed Stop
-message_read events (Known k) opcode s t = some_row (row_at opcode (rows events k)) (short_of k) opcode s t
+message_read events (Known k) opcode s t = some_row (row_at opcode (table events k)) (short_of k) opcode s t
 message_read events (Other name) opcode s t = Err (InvalidInterface name, s.taken)
 
 -- what a function returned, seen by view, with so many handles taken, is what reading gives, unless memory ran out

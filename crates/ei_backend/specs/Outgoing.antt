@@ -1,10 +1,10 @@
 -- What waits to be sent, and how it goes out.
-use Rattle.std.specs.Prelude.{◌≡◌, ℕ, zero, suc, ◌≤◌, List, [], map, length, take, drop, Option, Some, Result, Ok, Err}
+use Rattle.std.specs.Prelude.{◌≡◌, ℕ, zero, suc, ◌+◌, ◌≤◌, max, List, [], map, length, take, drop, Option, Some, Result, Ok, Err}
 use Rattle.std.specs.List.{flat_map}
 use Rattle.ei_spec.specs.declared.handle.Handle.{Handle}
 use Rattle.ei_spec.specs.Piece.{Piece}
 use Rattle.ei_spec.specs.Value.{Value, written, handles_of}
-use Rattle.ei_spec.specs.Message.{message, bytes_of}
+use Rattle.ei_spec.specs.Message.{message, bytes_of, size}
 use Rattle.ei_wire.specs.declared.arg.Arg.{Arg}
 use Rattle.ei_wire.specs.declared.error.FlushError.{FlushError}
 use Rattle.ei_wire.specs.Gives.{value_of_arg}
@@ -13,6 +13,32 @@ use Rattle.ei_backend.specs.Outside.{with_more}
 -- no bytes and no handles
 abbrev pub nothing : Piece
 nothing = record { bytes = []; handles = [] }
+
+-- how many bytes and handles may wait without want of memory
+pub record Room : Type 0 where
+  pub bytes : ℕ
+  pub handles : ℕ
+
+abbrev pub no_room : Room
+no_room = record { bytes = 0; handles = 0 }
+
+-- what waits, and how much may wait without want of memory
+pub record Buffered : Type 0 where
+  pub waiting : Piece
+  pub room : Room
+
+-- the room, where so many more bytes and handles may wait than do
+abbrev pub more_room : ℕ → ℕ → Piece → Room → Room
+more_room bytes handles waiting room = record { bytes = max room.bytes (length waiting.bytes + bytes); handles = max room.handles (length waiting.handles + handles) }
+
+-- so many more bytes and handles may wait without want of memory
+pub record HasSpare (bytes handles : ℕ) (waiting : Piece) (room : Room) : Type 0 where
+  pub spare_bytes : length waiting.bytes + bytes ≤ room.bytes
+  pub spare_handles : length waiting.handles + handles ≤ room.handles
+
+-- and so one more message may
+abbrev pub HasRoomFor : ℕ → ℕ → List Value → Piece → Room → Type 0
+HasRoomFor id opcode values waiting room = HasSpare (size (message id opcode values)) (length (flat_map handles_of values)) waiting room
 
 -- handles wait only where bytes do
 abbrev pub HasBytes : List ℕ → List Handle → Type 0
@@ -25,6 +51,16 @@ args_body args = flat_map written (map value_of_arg args)
 -- the handles of arguments
 abbrev pub args_handles : List Arg → List Handle
 args_handles args = flat_map handles_of (map value_of_arg args)
+
+-- these bytes and handles wait, and so many of each may
+abbrev pub buffered : List ℕ → List Handle → ℕ → ℕ → Buffered
+buffered bytes handles most_bytes most_handles = record { waiting = record { bytes = bytes; handles = handles }; room = record { bytes = most_bytes; handles = most_handles } }
+
+-- handles wait only where bytes do, and there are places for the bytes and the handles that may wait
+pub record IsKept (b : Buffered) (places handle_places : ℕ) : Type 0 where
+  pub has_bytes : HasBytes b.waiting.bytes b.waiting.handles
+  pub room : b.room.bytes ≤ places
+  pub handle_room : b.room.handles ≤ handle_places
 
 -- what waits, with one more message behind it
 abbrev pub with_message : ℕ → ℕ → List Value → Piece → Piece

@@ -1,5 +1,5 @@
 -- What the calls of a source, a sink, an input and a clock do.
-use Rattle.std.specs.Prelude.{◌≡◌, ◌<◌, ◌≤◌, ℕ, zero, suc, ◌+◌, ◌-◌, ◌^◌, min, List, [], ◌∷◌, ◌++◌, length, take, drop, slice_get, slice_index, Option, Some, None, Result, Ok, Err, OnErr, IsErrOf}
+use Rattle.std.specs.Prelude.{◌≡◌, ◌<◌, ◌≤◌, ℕ, zero, suc, ◌+◌, ◌-◌, ◌^◌, min, List, [], ◌++◌, length, take, drop, slice_get, slice_index, Option, Some, Result, Ok, Err, OnErr, IsErrOf}
 pub use Rattle.ei_spec.specs.Piece.{Piece}
 use Rattle.ei_spec.specs.declared.handle.Handle.{Handle}
 use Rattle.ei_backend.specs.declared.outside.Fault.{Fault}

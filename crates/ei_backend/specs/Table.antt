@@ -1,17 +1,20 @@
 -- The objects of one endpoint.
-use Rattle.std.specs.Prelude.{◌≡◌, ℕ, ◌+◌, ◌-◌, Bool, true, false, ◌||◌, List, Option, Some, None, Result, Ok, Err, nat_lt, nat_le, if◌then◌else◌}
+use Rattle.std.specs.Prelude.{◌≡◌, ℕ, ◌+◌, ◌^◌, ◌<◌, ◌≤◌, Bool, ◌||◌, List, [], ◌∷◌, ◌++◌, length, Option, Some, Result, Ok, Err, nat_lt, nat_le, min, max, if◌then◌else◌}
+use Rattle.std.specs.List.{HoldsAt}
 use Rattle.std.specs.Ordering.{nat_cmp}
 use Rattle.std.specs.FinMap as map
 use Rattle.ei_spec.specs.Reading.{Fault, InvalidId}
 use Rattle.ei_spec.specs.Interface.{Interface, ObjectView, Known}
 use Rattle.ei_spec.specs.declared.interface.KnownInterface.TheVariants as known
 
--- the objects by id, the next own id, the next id that the peer may give, and whether this is a client
+-- the objects by id, the next own id, the next id that the peer may give, whether this is a client, and the
+-- id below which own objects are made without want of memory
 pub record TableView : Type 0 where
   pub objects : map.FinMap nat_cmp ObjectView
   pub next_own : ℕ
   pub next_peer : ℕ
   pub client : Bool
+  pub room : ℕ
 
 -- the object of an id
 abbrev pub found : TableView → ℕ → Option ObjectView
@@ -33,6 +36,20 @@ first_server_id = 0xff00000000000000
 abbrev pub first_object : Bool → ObjectView
 first_object client = record { id = 0; interface = Known known.Handshake; version = 1; client_side = client }
 
+-- object 0 is that of the handshake, wherever it is there, and no other object gets its id
+pub record HasFirst (t : TableView) : Type 0 where
+  pub first : (o : ObjectView) → found t 0 ≡ Some o → o ≡ first_object t.client
+  pub own : 1 ≤ t.next_own
+  pub peer : 1 ≤ t.next_peer
+
+-- the own ids of an endpoint begin here
+abbrev pub own_start : Bool → ℕ
+own_start client = if client then 1 else first_server_id
+
+-- and end here
+abbrev pub own_limit : Bool → ℕ
+own_limit client = if client then first_server_id else 18446744073709551615
+
 -- the table of a new endpoint, whose own ids begin at this one
 abbrev pub new_table : Bool → ℕ → TableView
 new_table client next_own = record {
@@ -40,6 +57,7 @@ new_table client next_own = record {
   next_own = next_own;
   next_peer = if client then first_server_id else 1;
   client = client;
+  room = 0;
 }
 
 -- the ids of the peer end here
@@ -51,7 +69,7 @@ abbrev pub accept : TableView → ℕ → Interface → ℕ → Result (ObjectVi
 accept t id interface version =
     if nat_lt id t.next_peer || nat_le (peer_end t) id then Err (InvalidId id)
     else (let o : ObjectView = record { id = id; interface = interface; version = version; client_side = t.client }
-    in Ok (o, record { objects = map.insert t.objects id o; next_own = t.next_own; next_peer = id + 1; client = t.client }))
+    in Ok (o, record { objects = map.insert t.objects id o; next_own = t.next_own; next_peer = id + 1; client = t.client; room = t.room }))
 
 -- the own ids end here
 abbrev pub own_end : TableView → ℕ
@@ -63,4 +81,50 @@ own t interface version = record { id = t.next_own; interface = interface; versi
 
 -- the table with the next object of this end
 abbrev pub with_own : TableView → Interface → ℕ → TableView
-with_own t interface version = record { objects = map.insert t.objects t.next_own (own t interface version); next_own = t.next_own + 1; next_peer = t.next_peer; client = t.client }
+with_own t interface version = record { objects = map.insert t.objects t.next_own (own t interface version); next_own = t.next_own + 1; next_peer = t.next_peer; client = t.client; room = t.room }
+
+-- the table in which so many more own objects are made without want of memory, as far as there are ids
+abbrev pub with_room : ℕ → TableView → TableView
+with_room objects t = record t { room = max t.room (min (t.next_own + objects) (own_end t)) }
+
+-- ---- how a table is kept
+
+-- the objects by their ids
+abbrev pub by_id : List ObjectView → map.FinMap nat_cmp ObjectView
+by_id [] = map.empty
+by_id (o ∷ objects) = map.insert (by_id objects) o.id o
+
+-- the ids rise, from one number on and below another
+abbrev pub RiseWithin : ℕ → ℕ → List ObjectView → Type 0
+RiseWithin from end [] = from ≤ end
+RiseWithin from end (o ∷ objects) = (from ≤ o.id) × RiseWithin (o.id + 1) end objects
+
+-- the ids rise
+abbrev pub Rise : List ObjectView → Type 0
+Rise objects = RiseWithin 0 (2 ^ 64) objects
+
+-- the object of the id stands at the place
+pub record IsPlace (id : ℕ) (objects : List ObjectView) (place : ℕ) : Type 0 where
+  pub within : place < length objects
+  pub has : HoldsAt (λ o. o.id ≡ id) objects place
+
+-- whether an id lies in the range of the own ones, in which a client has id 0 too
+abbrev pub is_own : Bool → ℕ → Bool
+is_own client id = if client then nat_lt id first_server_id else nat_le first_server_id id
+
+-- a table of the objects whose ids lie in the range of the own ones, and of the others
+abbrev pub table_of : List ObjectView → List ObjectView → ℕ → ℕ → Bool → ℕ → TableView
+table_of own peer next_own next_peer client room = record { objects = by_id (own ++ peer); next_own = next_own; next_peer = next_peer; client = client; room = room }
+
+-- a vector of so many own objects, with places for so many, has places for those below the room's end
+abbrev pub HasPlaces : TableView → ℕ → ℕ → Type 0
+HasPlaces t len places = t.next_own < t.room → len + t.room ≤ places + t.next_own
+
+-- the two vectors that a table is kept in: each rises within its range, and the first has its places
+pub record Stands (t : TableView) (own peer : List ObjectView) (len places : ℕ) : Type 0 where
+  pub first : HasFirst t
+  pub own_rises : RiseWithin (if t.client then 0 else first_server_id) t.next_own own
+  pub peer_rises : RiseWithin (if t.client then first_server_id else 0) t.next_peer peer
+  pub own_ends : t.next_own ≤ own_end t
+  pub peer_ends : t.next_peer ≤ peer_end t
+  pub room : HasPlaces t len places

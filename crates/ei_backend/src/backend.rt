@@ -1,6 +1,7 @@
 //! One endpoint: its objects, what came to it and what waits to be sent.
 
-ghost use Rattle.std.specs.Prelude.{◌≡◌, ℕ, ◌+◌, ◌-◌, ◌≤◌, ◌<◌, ◌^◌, ◌↔◌, true, false, List, length, drop, IfOk, OnErr, OnOk, Ok, Err, Some, IsErrOf, IsTrue, IsSome, map, if◌then◌else◌};
+ghost use Rattle.std.specs.Prelude.{◌≡◌, ℕ, ◌+◌, ◌-◌, ◌≤◌, ◌<◌, ◌^◌, ◌↔◌, true, false, List, length, drop, IfOk, OnErr, OnOk, IfSome, Ok, Err, Some, IsErrOf, IsTrue, IsSome, map, if◌then◌else◌};
+ghost use Rattle.std.specs.Option.{option_copied};
 ghost use Rattle.ei_spec.specs.Message.{message, size};
 ghost use Rattle.ei_wire.specs.Gives.{Gives, value_of_arg};
 ghost use Rattle.ei_wire.specs.declared.error.ParseError.TheVariants as error;
@@ -8,13 +9,12 @@ ghost use Rattle.ei_wire.specs.declared.error.SendError.TheVariants as send_erro
 ghost use Rattle.ei_wire.specs.declared.error.ReadError.TheVariants as read_error;
 ghost use Rattle.ei_wire.specs.declared.error.FlushError.TheVariants as flush_error;
 ghost use Rattle.ei_backend.specs.declared.outside.LastAnswer.TheVariants as answers;
-ghost use Rattle.ei_backend.specs.Object.{interface_view};
-ghost use Rattle.ei_backend.specs.Table.{new_table, first_server_id, found, accept, own, own_end, with_own};
+ghost use Rattle.ei_backend.specs.Object.{interface_view, HasFixedName};
+ghost use Rattle.ei_backend.specs.Table.{new_table, first_object, first_server_id, found, accept, own, own_end, own_start, own_limit, with_own};
 ghost use Rattle.ei_backend.specs.Outside.{Piece, Rose};
-ghost use Rattle.ei_backend.specs.Outgoing.{StopsAfter, Flushes, with_message};
-ghost use Rattle.ei_backend.specs.Backend.{new_backend, ReadsOn, ReadsPiece, body_read, Says, next, Answers, Shortens, sent, sent_new, with_object, removed, closed_of, unsent_of, with_unsent};
+ghost use Rattle.ei_backend.specs.Outgoing.{StopsAfter, Flushes, HasRoomFor, with_message};
+ghost use Rattle.ei_backend.specs.Backend.{new_backend, ReadsOn, ReadsPiece, body_read, Says, next, Answers, Shortens, sent, sent_new, with_object, with_room, removed, closed_of, unsent_of, with_unsent};
 
-use crate::front::{FrontMessage, front_of};
 use crate::incoming::Incoming;
 use crate::interface::InterfaceName;
 use crate::message::{MessageEnum, PendingRequestResult};
@@ -45,7 +45,7 @@ impl Model for Backend {
 
     ghost coded = { backend_code };
 
-    ghost view = { λ b. record { table = b.table; unread = b.incoming.bytes; handles = b.incoming.handles; unsent = b.outgoing.bytes; unsent_handles = b.outgoing.handles; closed = b.closed } };
+    ghost view = { λ b. record { table = b.table; unread = b.incoming.bytes; handles = b.incoming.handles; unsent = b.outgoing.waiting.bytes; unsent_handles = b.outgoing.waiting.handles; closed = b.closed; capacity = b.incoming.capacity; room = b.outgoing.room } };
 }
 
 impl Backend {
@@ -54,8 +54,19 @@ impl Backend {
     pub fn new(alloc: Global, client: bool) -> Result<Backend, NoMemory>
         ensures { IfOk result (λ b. b ≡ new_backend (new_table client (if client then 1 else first_server_id))) }
     {
-        let next_own = if client { 1 } else { FIRST_SERVER_ID };
-        let table = Table::new(alloc, client, next_own)?;
+        let next_id = if client { 1 } else { FIRST_SERVER_ID };
+        Backend::with_next_id(alloc, client, next_id)
+    }
+
+    /// An open endpoint with object 0 and empty buffers, whose own ids begin at `next_id`: that of a client lies
+    /// from 1 to 0xff00000000000000, that of a server from there to `u64::MAX`. At the last of them no own id
+    /// is left.
+    pub fn with_next_id(alloc: Global, client: bool, next_id: u64) -> Result<Backend, NoMemory>
+        requires from { own_start client ≤ next_id }
+        requires to { next_id ≤ own_limit client }
+        ensures { IfOk result (λ b. b ≡ new_backend (new_table client next_id)) }
+    {
+        let table = Table::new(alloc, client, next_id)?;
         let incoming = Incoming::new(alloc)?;
         Ok(Backend {
             alloc,
@@ -123,35 +134,24 @@ impl Backend {
         ensures shorter { IfOk result (λ answer. Shortens self.old.unread self.new.unread answer) }
         ensures err { OnErr result (self.new ≡ self.old) }
     {
-        match front_of(self.incoming.bytes()) {
-            FrontMessage::Short => Ok(None),
-            FrontMessage::Unlawful(len) => Ok(Some(PendingRequestResult::ParseError(
-                ParseError::HeaderLength(len),
-            ))),
-            FrontMessage::Whole(id, opcode, body, len) => match self.table.object_for_id(id) {
-                None => {
-                    self.incoming.drop_front(len, 0);
-                    Ok(Some(PendingRequestResult::InvalidObject(id)))
-                }
-                Some(target) => {
-                    let (read, taken) = read_body(
-                        self.alloc,
-                        target,
-                        opcode,
-                        body,
-                        self.incoming.handles(),
-                        &mut self.table,
-                    );
-                    let answer = match read {
-                        Err(ParseError::NoMemory) => return Err(NoMemory),
-                        Err(error) => PendingRequestResult::ParseError(error),
-                        Ok(message) => PendingRequestResult::Request(message),
-                    };
-                    self.incoming.drop_front(len, taken);
-                    Ok(Some(answer))
-                }
-            },
+        self.incoming.next(self.alloc, &mut self.table)
+    }
+
+    /// Makes room for so many more bytes and handles to be sent, and for so many own objects, as far as there are
+    /// own ids: sends and new objects within it take no memory, where the names are among the thirteen.
+    ///
+    /// `NoMemory`, and then there is no more room than before.
+    pub fn reserve(&mut self, bytes: usize, handles: usize, objects: usize) -> Result<(), NoMemory>
+        ensures ok { OnOk result (self.new ≡ with_room bytes handles objects self.old) }
+        ensures err { OnErr result (self.new ≡ self.old) }
+    {
+        let room = self.table.room();
+        self.table.reserve(objects)?;
+        let reserved = self.outgoing.reserve(bytes, handles);
+        if reserved.is_err() {
+            self.table.cut_room(room);
         }
+        reserved
     }
 
     /// Writes a message behind what waits to be sent, or nothing. The target need not be in the table.
@@ -167,6 +167,7 @@ impl Backend {
         ensures long { IsErrOf result send_error.MessageTooLong ↔ (1048576 < size (message object_id opcode (map value_of_arg args.now))) }
         ensures not_exhausted { IsErrOf result send_error.IdsExhausted → ⊥ }
         ensures err { OnErr result (self.new ≡ self.old) }
+        ensures room { HasRoomFor object_id opcode (map value_of_arg args.now) (unsent_of self.old) self.old.room → IsErrOf result send_error.NoMemory → ⊥ }
     {
         self.outgoing.send(object_id, opcode, args)
     }
@@ -188,6 +189,7 @@ impl Backend {
         ensures exhausted { IsErrOf result send_error.IdsExhausted ↔ (own_end self.old.table ≤ self.old.table.next_own) }
         ensures long { IsErrOf result send_error.MessageTooLong ↔ ((self.old.table.next_own < own_end self.old.table) × (1048576 < size (message object_id opcode (map value_of_arg args.now)))) }
         ensures err { OnErr result (self.new ≡ self.old) }
+        ensures room { HasRoomFor object_id opcode (map value_of_arg args.now) (unsent_of self.old) self.old.room → self.old.table.next_own < self.old.table.room → HasFixedName (interface_view interface) → IsErrOf result send_error.NoMemory → ⊥ }
     {
         announce(
             &mut self.table,
@@ -212,6 +214,7 @@ impl Backend {
         ensures exhausted { IsErrOf result send_error.IdsExhausted ↔ (own_end self.old.table ≤ self.old.table.next_own) }
         ensures err { OnErr result (self.new ≡ self.old) }
         ensures not_long { IsErrOf result send_error.MessageTooLong → ⊥ }
+        ensures room { self.old.table.next_own < self.old.table.room → HasFixedName (interface_view interface) → IsErrOf result send_error.NoMemory → ⊥ }
     {
         self.table.new_object(interface, version)
     }
@@ -240,8 +243,9 @@ impl Backend {
     }
 
     /// The object of an id.
-    pub fn object_for_id(&self, id: u64) -> Option<Object>
-        ensures { result ≡ found self.now.table id }
+    pub fn object_for_id(&self, id: u64) -> Option<&Object>
+        ensures object { option_copied result ≡ found self.now.table id }
+        ensures first { id ≡ 0 → IfSome result (λ o. o.now ≡ first_object self.now.table.client) }
     {
         self.table.object_for_id(id)
     }
@@ -271,14 +275,21 @@ impl Backend {
     pub fn unread_len(&self) -> usize
         ensures { result ≡ length self.now.unread }
     {
-        self.incoming.bytes().len()
+        self.incoming.len()
     }
 
     /// How many handles came and are not read yet.
     pub fn unread_handles(&self) -> usize
         ensures { result ≡ length self.now.handles }
     {
-        self.incoming.handles().len()
+        self.incoming.handle_count()
+    }
+
+    /// How many bytes may be unread before their ring grows: 131072 at first.
+    pub fn ring_capacity(&self) -> usize
+        ensures { result ≡ self.now.capacity }
+    {
+        self.incoming.capacity()
     }
 
     /// The bytes that wait to be sent.
@@ -317,38 +328,6 @@ fn is_limit(answer: &Result<usize, ReadError>) -> bool
     matches!(answer, Err(ReadError::HandleLimit))
 }
 
-/// Reads the whole body of a message, and says how many handles it took.
-fn read_body<T: MessageEnum>(
-    alloc: Global,
-    target: Object,
-    opcode: u32,
-    body: &[u8],
-    handles: &[Handle],
-    table: &mut Table,
-) -> (Result<T, ParseError>, usize)
-where
-    T: Drop,
-    requires { length body.now ≤ 1048560 }
-    ensures says { Says T.target T.code T.values target opcode result.0 table.new result.1 (body_read T.events target opcode body.now handles.now table.old) }
-    ensures memory { IsErrOf result.0 error.NoMemory → table.new ≡ table.old }
-{
-    let mut stream = ByteStream::new(alloc, body, handles);
-    let parsed = T::parse(alloc, target, opcode, &mut stream, table);
-    let taken = stream.handles_taken();
-    match parsed {
-        Err(error) => (Err(error), taken),
-        Ok(message) => {
-            let rest = stream.rest();
-            if rest != 0 {
-                let len = 16 + body.len() as u32;
-                let error = ParseError::MessageLength(len + rest as u32, len);
-                return (Err(error), taken);
-            }
-            (Ok(message), taken)
-        }
-    }
-}
-
 /// Writes a message and makes its object, or neither.
 fn announce(
     table: &mut Table,
@@ -360,11 +339,12 @@ fn announce(
     version: u32,
 ) -> Result<Object, SendError>
     ensures object { IfOk result (λ o. (o ≡ own table.old (interface_view interface) version) × (table.new ≡ with_own table.old (interface_view interface) version)) }
-    ensures ok { OnOk result (outgoing.new ≡ with_message object_id opcode (map value_of_arg args.now) outgoing.old) }
+    ensures ok { OnOk result (outgoing.new ≡ record outgoing.old { waiting = with_message object_id opcode (map value_of_arg args.now) outgoing.old.waiting }) }
     ensures exhausted { IsErrOf result send_error.IdsExhausted ↔ (own_end table.old ≤ table.old.next_own) }
     ensures long { IsErrOf result send_error.MessageTooLong ↔ ((table.old.next_own < own_end table.old) × (1048576 < size (message object_id opcode (map value_of_arg args.now)))) }
     ensures err_table { OnErr result (table.new ≡ table.old) }
     ensures err { OnErr result (outgoing.new ≡ outgoing.old) }
+    ensures room { HasRoomFor object_id opcode (map value_of_arg args.now) outgoing.old.waiting outgoing.old.room → table.old.next_own < table.old.room → HasFixedName (interface_view interface) → IsErrOf result send_error.NoMemory → ⊥ }
 {
     if table.ids_left() == 0 {
         return Err(SendError::IdsExhausted);

@@ -1,49 +1,51 @@
-//! What came from a source and isn't read yet.
+//! What came from a source and isn't read yet, in two rings.
 
-ghost use Rattle.std.specs.Prelude.{◌≡◌, ◌<◌, ◌≤◌, ◌+◌, ℕ, List, length, take, drop, vec_len, vec_capacity, Option, OnOk, OnErr, IfOk, Ok, Err, Some, IsErrOf};
+ghost use Rattle.std.specs.Prelude.{◌≡◌, ◌<◌, ◌≤◌, ◌+◌, ℕ, List, length, vec_len, Option, OnOk, OnErr, IfOk, Ok, Err, Some, IsErrOf};
 ghost use Rattle.ei_wire.specs.declared.error.ReadError.TheVariants as read_error;
 ghost use Rattle.ei_backend.specs.Outside.{Piece, Rose};
 ghost use Rattle.ei_backend.specs.declared.outside.LastAnswer.TheVariants as answers;
-ghost use Rattle.ei_backend.specs.Outgoing.{nothing};
-ghost use Rattle.ei_backend.specs.Incoming.{Reads, ReadsPiece};
+ghost use Rattle.ei_backend.specs.Incoming.{none_unread, Reads, ReadsPiece};
+ghost use Rattle.ei_backend.specs.Backend.{BackendView, next, Answers, Shortens};
+ghost use Rattle.ei_backend.specs.Step.{holding};
 
-use crate::outgoing::drop_front;
+use crate::message::{MessageEnum, PendingRequestResult};
 use crate::outside::Source;
+use crate::reading::next_message;
+use crate::ring::{FIRST_CAPACITY, MOST_BYTES, make_room};
+use crate::table::Table;
+use circular_buffer::HeapCircularBuffer;
 use ei_spec::Handle;
 use ei_wire::{NoMemory, ReadError};
 use std::alloc::Global;
 use std::marker::Model;
 
-/// The most bytes of a piece.
-const MOST_BYTES: usize = 65536;
-
 /// The most handles of a piece.
 const MOST_PIECE_HANDLES: usize = 64;
 
-/// The most handles that may be unread.
+/// The most handles that may be unread. Their ring never grows.
 const MOST_HANDLES: usize = 4096;
 
 /// Bytes and handles that are not read yet, and room for the next piece.
 #[derive(Drop)]
 pub(crate) struct Incoming {
-    bytes: Vec<u8>,
-    handles: Vec<Handle>,
+    bytes: HeapCircularBuffer<u8>,
+    handles: HeapCircularBuffer<Handle>,
     room: Vec<u8>,
     handle_room: Vec<Handle>,
 }
 
 impl Model for Incoming {
-    ghost use Rattle.std.specs.Prelude.{◌≡◌, ◌≤◌, vec_len};
-    ghost use Rattle.ei_backend.specs.Codes.{piece_code};
-    ghost use Rattle.ei_spec.specs.Piece.{Piece};
+    ghost use Rattle.std.specs.Prelude.{◌≡◌, vec_len};
+    ghost use Rattle.ei_backend.specs.Codes.{incoming_code};
+    ghost use Rattle.ei_backend.specs.Incoming.{IncomingView};
 
-    ghost Value = { Piece };
+    ghost Value = { IncomingView };
 
-    ghost coded = { piece_code };
+    ghost coded = { incoming_code };
 
-    ghost view = { λ i. record { bytes = i.bytes.items; handles = i.handles.items } };
+    ghost view = { λ i. record { bytes = i.bytes.items; handles = i.handles.items; capacity = i.bytes.capacity } };
 
-    ghost invariant = { λ i. (vec_len i.room ≡ 65536) × (vec_len i.handle_room ≡ 64) × (vec_len i.handles ≤ 4096) };
+    ghost invariant = { λ i. (vec_len i.room ≡ 65536) × (vec_len i.handle_room ≡ 64) × (i.handles.capacity ≡ 4096) };
 }
 
 fn zeroed(alloc: Global, count: usize) -> Result<Vec<u8>, NoMemory>
@@ -60,36 +62,60 @@ fn no_handles(alloc: Global, count: usize) -> Result<Vec<Handle>, NoMemory>
 
 impl Incoming {
     pub(crate) fn new(alloc: Global) -> Result<Incoming, NoMemory>
-        ensures { IfOk result (λ i. i ≡ nothing) }
+        ensures { IfOk result (λ i. i ≡ none_unread) }
     {
+        let bytes = HeapCircularBuffer::with_capacity(alloc, FIRST_CAPACITY)?;
+        let handles = HeapCircularBuffer::with_capacity(alloc, MOST_HANDLES)?;
         let room = zeroed(alloc, MOST_BYTES)?;
         let handle_room = no_handles(alloc, MOST_PIECE_HANDLES)?;
         Ok(Incoming {
-            bytes: Vec::new(alloc),
-            handles: Vec::new(alloc),
+            bytes,
+            handles,
             room,
             handle_room,
         })
     }
 
-    pub(crate) fn bytes(&self) -> &[u8]
-        ensures { result.now ≡ self.now.bytes }
+    /// How many bytes are unread.
+    #[inline]
+    pub(crate) fn len(&self) -> usize
+        ensures { result ≡ length self.now.bytes }
     {
-        &self.bytes
+        self.bytes.len()
     }
 
-    pub(crate) fn handles(&self) -> &[Handle]
-        ensures { result.now ≡ self.now.handles }
+    /// How many handles are unread.
+    #[inline]
+    pub(crate) fn handle_count(&self) -> usize
+        ensures { result ≡ length self.now.handles }
     {
-        &self.handles
+        self.handles.len()
     }
 
-    /// Takes out what was read.
-    pub(crate) fn drop_front(&mut self, bytes: usize, handles: usize)
-        ensures { self.new ≡ record { bytes = drop bytes self.old.bytes; handles = drop handles self.old.handles } }
+    /// The most bytes that may be unread before the ring grows.
+    #[inline]
+    pub(crate) fn capacity(&self) -> usize
+        ensures { result ≡ self.now.capacity }
     {
-        drop_front(&mut self.bytes, bytes);
-        drop_front(&mut self.handles, handles);
+        self.bytes.capacity()
+    }
+
+    /// The message at the front, taken out, if it is whole.
+    ///
+    /// Where memory runs out, what is unread and the table stay.
+    pub(crate) fn next<T: MessageEnum>(
+        &mut self,
+        alloc: Global,
+        table: &mut Table,
+    ) -> Result<Option<PendingRequestResult<T>>, NoMemory>
+    where
+        T: Drop,
+        ensures ok { (b : BackendView) → IfOk result (λ answer. Answers T.target T.code T.values answer (holding self.new table.new b) (next T.events (holding self.old table.old b))) }
+        ensures shorter { IfOk result (λ answer. Shortens self.old.bytes self.new.bytes answer) }
+        ensures err { OnErr result (self.new ≡ self.old) }
+        ensures err_table { OnErr result (table.new ≡ table.old) }
+    {
+        next_message(alloc, &mut self.bytes, &mut self.handles, table)
     }
 
     /// Takes a piece from the source, and puts it behind what is there. It answers how many bytes came.
@@ -108,8 +134,7 @@ impl Incoming {
         ensures count { S.faults source.old ≤ S.faults source.new }
         ensures later { S.later source.old source.new }
     {
-        self.bytes.reserve(MOST_BYTES)?;
-        self.handles.reserve(MOST_PIECE_HANDLES)?;
+        make_room(&mut self.bytes)?;
         let Ok(taken) = source.take(&mut self.room, &mut self.handle_room) else {
             return Err(ReadError::ReadFault);
         };
@@ -119,9 +144,9 @@ impl Incoming {
         if self.handles.len() + taken.handles > MOST_HANDLES {
             return Err(ReadError::HandleLimit);
         }
-        self.bytes.extend_from_slice(&self.room[..taken.bytes])?;
+        self.bytes.fill_from_slice(&self.room[..taken.bytes]);
         self.handles
-            .extend_from_slice(&self.handle_room[..taken.handles])?;
+            .fill_from_slice(&self.handle_room[..taken.handles]);
         Ok(taken.bytes)
     }
 }

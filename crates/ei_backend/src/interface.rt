@@ -1,27 +1,109 @@
 //! Names of interfaces.
 
-ghost use Rattle.std.specs.Prelude.{◌≡◌};
-ghost use Rattle.ei_spec.specs.Interface.{bytes_of};
-ghost use Rattle.ei_backend.specs.Object.{interface_view};
+ghost use Rattle.std.specs.Prelude.{◌≡◌, ◌↔◌, ◌++◌, IfOk, OnErr, IsTrue, None};
+ghost use Rattle.std.specs.Ordering.{on};
+ghost use Rattle.std.specs.Hash as fed;
+ghost use Rattle.std.specs.Cmp.Rules.{comparing, hashing};
+ghost use Rattle.std.proofs.Common.{rules};
+ghost use Rattle.ei_spec.specs.Interface.{Known, bytes_of, name_of, known_of, named};
+ghost use Rattle.ei_spec.specs.declared.interface.KnownInterface.{KnownInterface};
+ghost use Rattle.ei_backend.specs.Object.{interface_view, HasFixedName, is_known, same_name};
 
 use ei_spec::KnownInterface;
+use ei_wire::{NoMemory, interface_names};
+use std::alloc::{AllocError, Global};
+use std::hash::{Hash, Hasher};
+use std::rc::RcStr;
 
 /// The interface of an object, by its name.
 ///
 /// Objects of a server are all of known interfaces. A name that isn't one of the thirteen comes with the
-/// client's events.
-#[derive(Clone, Copy, Debug, PartialEq, Eq, Hash)]
+/// `interface` event of a device, at a client.
+#[derive(Debug, Drop)]
 pub enum InterfaceName {
+    /// One of the thirteen interfaces of the protocol.
     Known(KnownInterface),
+    /// Another name, shared by the objects that bear it.
+    Other(RcStr<Global>),
 }
 
 impl InterfaceName {
+    /// The interface that the name stands for: `Known` exactly for the thirteen names.
+    ///
+    /// `NoMemory` only for another name.
+    pub fn of(alloc: Global, name: &str) -> Result<InterfaceName, NoMemory>
+        ensures name { IfOk result (λ i. interface_view i ≡ named name.now) }
+        ensures memory { OnErr result (known_of name.now ≡ None) }
+    {
+        match KnownInterface::from_name(name) {
+            Some(known) => Ok(InterfaceName::Known(known)),
+            None => Ok(InterfaceName::Other(RcStr::from_str(alloc, name)?)),
+        }
+    }
+
     /// The name on the wire.
-    pub fn as_str(&self) -> &'static str
+    pub fn as_str(&self) -> &str
         ensures { result.now ≡ bytes_of (interface_view self.now) }
     {
         match self {
             InterfaceName::Known(known) => known.name(),
+            InterfaceName::Other(name) => name.as_str(),
         }
+    }
+
+    /// Whether it is one of the thirteen.
+    pub(crate) fn is_known(&self) -> bool
+        ensures { result ≡ is_known (interface_view self.now) }
+    {
+        matches!(self, InterfaceName::Known(_))
+    }
+
+    /// Whether it is the known interface of that name.
+    pub(crate) fn is_called(&self, name: &str) -> bool
+        ensures { (k : KnownInterface) → name_of k ≡ name.now → IsTrue result ↔ (interface_view self.now ≡ Known k) }
+    {
+        interface_names();
+        match self {
+            InterfaceName::Known(known) => KnownInterface::from_name(name) == Some(*known),
+            InterfaceName::Other(_) => false,
+        }
+    }
+}
+
+impl Clone for InterfaceName {
+    ghost is_clone = { λ name copy. interface_view copy ≡ interface_view name };
+
+    ghost is_infallible = { λ name. HasFixedName (interface_view name) };
+
+    fn clone(&self) -> Result<InterfaceName, AllocError> {
+        match self {
+            InterfaceName::Known(known) => Ok(InterfaceName::Known(*known)),
+            InterfaceName::Other(name) => Ok(InterfaceName::Other(name.clone()?)),
+        }
+    }
+}
+
+impl PartialEq for InterfaceName {
+    ghost eq = { on interface_view same_name };
+
+    ghost laws = { Prim.search (comparing, rules) };
+
+    fn eq(&self, other: &InterfaceName) -> bool {
+        self.as_str() == other.as_str() && self.is_known() == other.is_known()
+    }
+}
+
+impl Eq for InterfaceName {
+    ghost laws = { Prim.search (comparing, rules) };
+}
+
+impl Hash for InterfaceName {
+    ghost hash_input = { λ name. fed.str (bytes_of (interface_view name)) ++ fed.bool (is_known (interface_view name)) };
+
+    ghost respects_eq = { Prim.search (hashing, rules) };
+
+    fn hash<H: Hasher>(&self, state: &mut H) {
+        self.as_str().hash(state);
+        self.is_known().hash(state);
     }
 }

@@ -3,30 +3,46 @@
 
 mod backend;
 mod front;
+mod has_backend;
 mod incoming;
 mod interface;
+mod laws;
 mod memory_text;
 mod message;
 mod object;
 mod outgoing;
 mod outside;
 mod pieces;
+mod proxy;
+mod reading;
 mod readings;
+mod ring;
+mod rising;
 mod table;
 mod tray;
 
 pub use backend::Backend;
+pub use has_backend::HasBackend;
 pub use interface::InterfaceName;
+pub use laws::{bursts, tables};
 pub use memory_text::MemoryText;
 pub use message::{MessageEnum, PendingRequestResult};
 pub use object::Object;
 pub use outside::{Clock, Fault, Input, LastAnswer, PutError, Sink, Source, Taken};
 pub use pieces::Pieces;
+pub use proxy::{Described, Interface};
 pub use readings::Readings;
+pub use ring::ring_laws;
 pub use table::{FIRST_SERVER_ID, Table};
 pub use tray::Tray;
 
 #[cfg(test)]
 mod memory_tests;
+#[cfg(test)]
+mod object_tests;
+#[cfg(test)]
+mod ring_tests;
+#[cfg(test)]
+mod table_tests;
 #[cfg(test)]
 mod tests;

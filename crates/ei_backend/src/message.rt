@@ -1,13 +1,14 @@
 //! Typed messages.
 
-ghost use Rattle.std.specs.Prelude.{◌≡◌, ℕ, Bool, List, IfOk, OnErr};
+ghost use Rattle.std.specs.Prelude.{◌≡◌, ℕ, Bool, List, IfOk, OnErr, map};
 ghost use Rattle.ei_spec.specs.Value.{Value};
 ghost use Rattle.ei_spec.specs.Interface.{ObjectView};
+ghost use Rattle.ei_backend.specs.Shown.{shown, shown_of_arg};
 ghost use Rattle.ei_backend.specs.Message.{Reads, Parsed, message_read};
 
 use crate::object::Object;
 use crate::table::Table;
-use ei_wire::{ByteStream, ParseError};
+use ei_wire::{Arg, ByteStream, NoMemory, ParseError};
 use std::alloc::Global;
 
 /// The messages that one end reads.
@@ -33,10 +34,23 @@ pub trait MessageEnum: Sized {
         ensures read { Reads (λ m. record { values = values m; table = table.new; unread = bytes.new }) bytes.new.taken result (message_read events object.interface opcode bytes.old table.old) }
         ensures target { IfOk result (λ m. (target m ≡ object) × (code m ≡ opcode)) }
         ensures err { OnErr result (table.new ≡ table.old) };
+
+    /// The arguments in order. A new object is shown by its id, without its version and, where the message
+    /// names it, without the name of its interface.
+    fn args(&self, alloc: Global) -> Result<Vec<Arg<'_>>, NoMemory>
+        ensures { IfOk result (λ args. map shown_of_arg args.items ≡ shown events (target self.now).interface (code self.now) (values self.now)) };
+
+    /// The object that the message is to.
+    fn object(&self) -> &Object
+        ensures { result.now ≡ target self.now };
+
+    /// The opcode.
+    fn opcode(&self) -> u32
+        ensures { result ≡ code self.now };
 }
 
 /// What stands at the front.
-#[derive(Drop)]
+#[derive(Debug, Drop)]
 pub enum PendingRequestResult<T> {
     Request(T),
     ParseError(ParseError),

@@ -1,13 +1,13 @@
 //! What waits to be sent: messages are written to it, and it is flushed to a sink.
 
-ghost use Rattle.std.specs.Prelude.{◌≡◌, ◌++◌, ◌+◌, ◌<◌, ◌≤◌, ◌↔◌, ℕ, List, [], length, map, take, drop, vec_len, Option, OnOk, OnErr, IfOk, Ok, Err, Some, IsErrOf};
+ghost use Rattle.std.specs.Prelude.{◌≡◌, ◌++◌, ◌+◌, ◌<◌, ◌≤◌, ◌↔◌, ℕ, List, [], length, map, take, drop, vec_len, vec_capacity, Option, IsOk, OnOk, OnErr, IfOk, Ok, Err, Some, IsErrOf};
 ghost use Rattle.ei_spec.specs.Value.{written};
 ghost use Rattle.ei_spec.specs.Message.{header, bytes_of, message, size};
 ghost use Rattle.ei_wire.specs.Gives.{value_of_arg};
 ghost use Rattle.ei_wire.specs.declared.error.SendError.TheVariants as send_error;
 ghost use Rattle.ei_wire.specs.declared.error.FlushError.TheVariants as flush_error;
 ghost use Rattle.ei_backend.specs.Outside.{Piece, Rose, with_more};
-ghost use Rattle.ei_backend.specs.Outgoing.{nothing, args_body, args_handles, with_message, beside, kept_beside, StopsAfter, Flushes};
+ghost use Rattle.ei_backend.specs.Outgoing.{nothing, no_room, more_room, HasRoomFor, args_body, args_handles, with_message, beside, kept_beside, StopsAfter, Flushes};
 
 use crate::outside::{PutError, Sink};
 use ei_spec::Handle;
@@ -18,53 +18,69 @@ use std::marker::Model;
 /// The most bytes that the arguments of a message may have.
 const MOST_BODY_BYTES: u64 = 1048560;
 
-/// Bytes and handles that wait for a sink.
+/// Bytes and handles that wait for a sink, and how many of each may wait without want of memory.
 #[derive(Drop)]
 pub(crate) struct Outgoing {
     bytes: Vec<u8>,
     handles: Vec<Handle>,
+    room_bytes: usize,
+    room_handles: usize,
 }
 
 impl Model for Outgoing {
-    ghost use Rattle.ei_backend.specs.Outgoing.{HasBytes};
-    ghost use Rattle.ei_backend.specs.Codes.{piece_code};
-    ghost use Rattle.ei_spec.specs.Piece.{Piece};
+    ghost use Rattle.std.specs.Prelude.{vec_capacity};
+    ghost use Rattle.ei_backend.specs.Outgoing.{Buffered, buffered, IsKept};
+    ghost use Rattle.ei_backend.specs.Codes.{buffered_code};
 
-    ghost Value = { Piece };
+    ghost Value = { Buffered };
 
-    ghost coded = { piece_code };
+    ghost coded = { buffered_code };
 
-    ghost view = { λ o. record { bytes = o.bytes.items; handles = o.handles.items } };
+    ghost view = { λ o. buffered o.bytes.items o.handles.items o.room_bytes o.room_handles };
 
-    ghost invariant = { λ o. HasBytes o.bytes.items o.handles.items };
+    ghost invariant = { λ o. IsKept (buffered o.bytes.items o.handles.items o.room_bytes o.room_handles) (vec_capacity o.bytes) (vec_capacity o.handles) };
 }
 
 impl Outgoing {
     pub(crate) fn new(alloc: Global) -> Outgoing
-        ensures { result ≡ nothing }
+        ensures { result ≡ record { waiting = nothing; room = no_room } }
     {
         Outgoing {
             bytes: Vec::new(alloc),
             handles: Vec::new(alloc),
+            room_bytes: 0,
+            room_handles: 0,
         }
     }
 
     pub(crate) fn bytes(&self) -> &[u8]
-        ensures { result.now ≡ self.now.bytes }
+        ensures { result.now ≡ self.now.waiting.bytes }
     {
         &self.bytes
     }
 
     pub(crate) fn handles(&self) -> &[Handle]
-        ensures { result.now ≡ self.now.handles }
+        ensures { result.now ≡ self.now.waiting.handles }
     {
         &self.handles
     }
 
+    /// Makes room for so many more bytes and handles: to write them takes no memory.
+    pub(crate) fn reserve(&mut self, bytes: usize, handles: usize) -> Result<(), NoMemory>
+        ensures ok { OnOk result (self.new ≡ record self.old { room = more_room bytes handles self.old.waiting self.old.room }) }
+        ensures err { OnErr result (self.new ≡ self.old) }
+    {
+        self.bytes.reserve(bytes)?;
+        self.handles.reserve(handles)?;
+        self.room_bytes = self.room_bytes.max(self.bytes.len() + bytes);
+        self.room_handles = self.room_handles.max(self.handles.len() + handles);
+        Ok(())
+    }
+
     /// How many bytes and handles wait.
     pub(crate) fn mark(&self) -> (usize, usize)
-        ensures bytes { result.0 ≡ length self.now.bytes }
-        ensures handles { result.1 ≡ length self.now.handles }
+        ensures bytes { result.0 ≡ length self.now.waiting.bytes }
+        ensures handles { result.1 ≡ length self.now.waiting.handles }
         ensures none { result.0 ≡ 0 → result.1 ≡ 0 }
     {
         (self.bytes.len(), self.handles.len())
@@ -73,7 +89,7 @@ impl Outgoing {
     /// Takes back what was written since so many bytes and handles waited.
     pub(crate) fn cut_back(&mut self, mark: (usize, usize))
         requires { mark.0 ≡ 0 → mark.1 ≡ 0 }
-        ensures { self.new ≡ record { bytes = take mark.0 self.old.bytes; handles = take mark.1 self.old.handles } }
+        ensures { self.new ≡ record self.old { waiting = record { bytes = take mark.0 self.old.waiting.bytes; handles = take mark.1 self.old.waiting.handles } } }
     {
         self.bytes.truncate(mark.0);
         self.handles.truncate(mark.1);
@@ -88,10 +104,11 @@ impl Outgoing {
         opcode: u32,
         args: &[Arg<'_>],
     ) -> Result<(), SendError>
-        ensures ok { OnOk result (self.new ≡ with_message object_id opcode (map value_of_arg args.now) self.old) }
+        ensures ok { OnOk result (self.new ≡ record self.old { waiting = with_message object_id opcode (map value_of_arg args.now) self.old.waiting }) }
         ensures long { (result ≡ Err send_error.MessageTooLong) ↔ (1048576 < size (message object_id opcode (map value_of_arg args.now))) }
         ensures not_exhausted { IsErrOf result send_error.IdsExhausted → ⊥ }
         ensures err { OnErr result (self.new ≡ self.old) }
+        ensures room { HasRoomFor object_id opcode (map value_of_arg args.now) self.old.waiting self.old.room → IsErrOf result send_error.NoMemory → ⊥ }
     {
         let body = body_size(args)?;
         write_message(
@@ -107,8 +124,9 @@ impl Outgoing {
 
     /// Puts all that waits into the sink, all handles with the first bytes. After a refusal the rest waits.
     pub(crate) fn flush<K: Sink>(&mut self, sink: &mut K) -> Result<(), FlushError>
-        ensures stops { StopsAfter self.old result self.new }
-        ensures took { (held : Piece) → K.taken sink.old ≡ Some held → Flushes held self.old result self.new (K.taken sink.new) }
+        ensures stops { StopsAfter self.old.waiting result self.new.waiting }
+        ensures took { (held : Piece) → K.taken sink.old ≡ Some held → Flushes held self.old.waiting result self.new.waiting (K.taken sink.new) }
+        ensures kept { self.new.room ≡ self.old.room }
         ensures fault { IsErrOf result flush_error.WriteFault → Rose (K.faults sink.old) (K.faults sink.new) }
         ensures count { K.faults sink.old ≤ K.faults sink.new }
         ensures later { K.later sink.old sink.new }
@@ -141,6 +159,9 @@ fn body_size(args: &[Arg<'_>]) -> Result<u64, SendError>
 fn push_header(out: &mut Vec<u8>, id: u64, len: u32, opcode: u32) -> Result<(), NoMemory>
     ensures ok { OnOk result (out.new.items ≡ out.old.items ++ header id len opcode) }
     ensures err { OnErr result (out.new.items ≡ out.old.items) }
+    ensures len { OnOk result (vec_len out.new ≡ vec_len out.old + 16) }
+    ensures succeeds { vec_len out.old + 16 ≤ vec_capacity out.old → IsOk result }
+    ensures capacity { vec_capacity out.old ≤ vec_capacity out.new }
 {
     out.reserve(16)?;
     out.extend_from_slice(&id.to_le_bytes())?;
@@ -156,6 +177,9 @@ fn push_args(out: &mut Vec<u8>, handles: &mut Vec<Handle>, args: &[Arg<'_>]) -> 
     ensures handles { OnOk result (handles.new.items ≡ handles.old.items ++ args_handles args.now) }
     ensures err { OnErr result ((more : List ℕ) × (out.new.items ≡ out.old.items ++ more)) }
     ensures err_handles { OnErr result ((more : List Handle) × (handles.new.items ≡ handles.old.items ++ more)) }
+    ensures succeeds { vec_len out.old + length (args_body args.now) ≤ vec_capacity out.old → vec_len handles.old + length (args_handles args.now) ≤ vec_capacity handles.old → IsOk result }
+    ensures capacity { vec_capacity out.old ≤ vec_capacity out.new }
+    ensures handle_capacity { vec_capacity handles.old ≤ vec_capacity handles.new }
 {
     for arg in args {
         arg.write(out, handles)?;
@@ -179,6 +203,9 @@ fn write_message(
     ensures handles { OnOk result (handles.new.items ≡ handles.old.items ++ args_handles args.now) }
     ensures err { OnErr result (bytes.new.items ≡ bytes.old.items) }
     ensures err_handles { OnErr result (handles.new.items ≡ handles.old.items) }
+    ensures succeeds { vec_len bytes.old + 16 + body ≤ vec_capacity bytes.old → vec_len handles.old + length (args_handles args.now) ≤ vec_capacity handles.old → IsOk result }
+    ensures capacity { vec_capacity bytes.old ≤ vec_capacity bytes.new }
+    ensures handle_capacity { vec_capacity handles.old ≤ vec_capacity handles.new }
 {
     let before = bytes.len();
     let handles_before = handles.len();
@@ -225,7 +252,8 @@ fn put_all<K: Sink>(
 
 /// Takes the first items out.
 pub(crate) fn drop_front<T: Drop>(items: &mut Vec<T>, count: usize)
-    ensures { items.new.items ≡ drop count items.old.items }
+    ensures items { items.new.items ≡ drop count items.old.items }
+    ensures capacity { vec_capacity items.new ≡ vec_capacity items.old }
 {
     if count >= items.len() {
         items.clear();
@@ -236,7 +264,8 @@ pub(crate) fn drop_front<T: Drop>(items: &mut Vec<T>, count: usize)
 
 /// Takes the handles out that went with so many bytes.
 fn drop_beside(handles: &mut Vec<Handle>, done: usize)
-    ensures { handles.new.items ≡ kept_beside done handles.old.items }
+    ensures items { handles.new.items ≡ kept_beside done handles.old.items }
+    ensures capacity { vec_capacity handles.new ≡ vec_capacity handles.old }
 {
     if done > 0 {
         handles.clear();

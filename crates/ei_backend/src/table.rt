@@ -1,17 +1,18 @@
 //! The objects of one endpoint.
 
-ghost use Rattle.std.specs.Prelude.{◌≡◌, ◌≤◌, ◌-◌, ◌↔◌, ◌+◌, ◌^◌, ◌<◌, IfOk, OnErr, OnOk, Ok, Err, Some, true, false, if◌then◌else◌};
+ghost use Rattle.std.specs.Prelude.{◌≡◌, ◌≤◌, ◌-◌, ◌↔◌, ◌+◌, ◌^◌, ◌<◌, IfOk, OnErr, OnOk, IfSome, IsErrOf, Ok, Err, Some, true, false, if◌then◌else◌};
+ghost use Rattle.std.specs.Option.{option_copied};
 ghost use Rattle.ei_wire.specs.Gives.{Gives};
 ghost use Rattle.ei_wire.specs.declared.error.SendError.TheVariants as send_error;
-ghost use Rattle.ei_backend.specs.Object.{interface_view};
-ghost use Rattle.ei_backend.specs.Table.{accept, found, peer_end, without, own, own_end, with_own, new_table, first_server_id};
+ghost use Rattle.ei_backend.specs.Object.{interface_view, HasFixedName};
+ghost use Rattle.ei_backend.specs.Table.{accept, found, peer_end, without, own, own_end, own_start, own_limit, with_own, with_room, new_table, first_object, first_server_id, is_own};
 
 use crate::interface::InterfaceName;
 use crate::object::Object;
+use crate::rising::{look_up, take_out};
 use ei_spec::KnownInterface;
 use ei_wire::{NoMemory, ParseError, SendError};
 use std::alloc::Global;
-use std::collections::BTreeMap;
 use std::marker::Model;
 
 /// The first id of the server.
@@ -21,40 +22,57 @@ pub const FIRST_SERVER_ID: u64 = 0xff00_0000_0000_0000;
 ///
 /// Object 0 is there from the first. A client's own ids run from 1 and end before 0xff00000000000000, a
 /// server's run from there and end before `u64::MAX`.
+///
+/// The ids below 0xff00000000000000, 0 among them, are a client's, the others a server's. The objects of each
+/// range stand in a vector by rising ids: those of this end's range in `own`, the others in `peer`. Ids only
+/// rise, so a new object goes to the end of a vector, and a look-up is a binary search.
 #[derive(Drop)]
 pub struct Table {
-    objects: BTreeMap<u64, Object>,
+    own: Vec<Object>,
+    peer: Vec<Object>,
     next_own: u64,
     next_peer: u64,
     client: bool,
+    room: u64,
 }
 
 impl Model for Table {
-    ghost use Rattle.std.specs.FinMap as map;
-    ghost use Rattle.ei_backend.specs.Table.{TableView};
+    ghost use Rattle.std.specs.Prelude.{vec_len, vec_capacity};
+    ghost use Rattle.ei_backend.specs.Table.{TableView, table_of, Stands};
     ghost use Rattle.ei_backend.specs.Codes.{table_code};
 
     ghost Value = { TableView };
 
     ghost coded = { table_code };
 
-    ghost view = { λ t. record { objects = map.from_entries t.objects.entries; next_own = t.next_own; next_peer = t.next_peer; client = t.client } };
+    ghost view = { λ t. table_of t.own.items t.peer.items t.next_own t.next_peer t.client t.room };
+
+    ghost invariant = { λ t. Stands (table_of t.own.items t.peer.items t.next_own t.next_peer t.client t.room) t.own.items t.peer.items (vec_len t.own) (vec_capacity t.own) };
 }
 
 impl Table {
     /// The table of a new endpoint, whose own ids begin at `next_own`.
     pub(crate) fn new(alloc: Global, client: bool, next_own: u64) -> Result<Table, NoMemory>
+        requires from { own_start client ≤ next_own }
+        requires to { next_own ≤ own_limit client }
         ensures { IfOk result (λ t. t ≡ new_table client next_own) }
     {
-        let mut objects = BTreeMap::new(alloc);
         let interface = InterfaceName::Known(KnownInterface::Handshake);
-        objects.insert(0, Object::new(0, interface, 1, client))?;
-        let next_peer = if client { FIRST_SERVER_ID } else { 1 };
+        let mut low = Vec::new(alloc);
+        low.push(Object::new(0, interface, 1, client))?;
+        let high = Vec::new(alloc);
+        let (own, peer, next_peer) = if client {
+            (low, high, FIRST_SERVER_ID)
+        } else {
+            (high, low, 1)
+        };
         Ok(Table {
-            objects,
+            own,
+            peer,
             next_own,
             next_peer,
             client,
+            room: 0,
         })
     }
 
@@ -94,12 +112,27 @@ impl Table {
         }
     }
 
-    /// The object of an id.
-    #[tactic(auto, using(crate::proofs::Objects::get_at))]
-    pub fn object_for_id(&self, id: u64) -> Option<Object>
-        ensures { result ≡ found self.now id }
+    /// Whether an id lies in the range of the own ones. A client's has id 0 too.
+    fn is_own(&self, id: u64) -> bool
+        ensures { result ≡ is_own self.now.client id }
     {
-        self.objects.get(&id).copied()
+        if self.client {
+            id < FIRST_SERVER_ID
+        } else {
+            id >= FIRST_SERVER_ID
+        }
+    }
+
+    /// The object of an id.
+    pub fn object_for_id(&self, id: u64) -> Option<&Object>
+        ensures object { option_copied result ≡ found self.now id }
+        ensures first { id ≡ 0 → IfSome result (λ o. o.now ≡ first_object self.now.client) }
+    {
+        if self.is_own(id) {
+            look_up(&self.own, id)
+        } else {
+            look_up(&self.peer, id)
+        }
     }
 
     /// Puts an object that the peer announced into the table.
@@ -118,7 +151,7 @@ impl Table {
             return Err(ParseError::InvalidId(id));
         }
         let object = Object::new(id, interface, version, self.client);
-        self.objects.insert(id, object)?;
+        self.peer.push(object.clone()?)?;
         self.next_peer = id + 1;
         Ok(object)
     }
@@ -135,21 +168,53 @@ impl Table {
         ensures exhausted { (result ≡ Err send_error.IdsExhausted) ↔ (own_end self.old ≤ self.old.next_own) }
         ensures err { OnErr result (self.new ≡ self.old) }
         ensures not_long { result ≡ Err send_error.MessageTooLong → ⊥ }
+        ensures room { self.old.next_own < self.old.room → HasFixedName (interface_view interface) → IsErrOf result send_error.NoMemory → ⊥ }
     {
         let id = self.next_own;
         if id >= self.own_end() {
             return Err(SendError::IdsExhausted);
         }
         let object = Object::new(id, interface, version, self.client);
-        self.objects.insert(id, object)?;
+        self.own.push(object.clone()?)?;
         self.next_own = id + 1;
         Ok(object)
+    }
+
+    /// Makes room for so many more own objects, as far as there are own ids: to make them takes no memory, where
+    /// their names are among the thirteen.
+    pub(crate) fn reserve(&mut self, objects: usize) -> Result<(), NoMemory>
+        ensures ok { OnOk result (self.new ≡ with_room objects self.old) }
+        ensures err { OnErr result (self.new ≡ self.old) }
+    {
+        let count = self.ids_left().min(objects as u64);
+        self.own.reserve(count as usize)?;
+        self.room = self.room.max(self.next_own + count);
+        Ok(())
+    }
+
+    /// Own ids below this are made without want of memory, where their names are among the thirteen.
+    pub(crate) fn room(&self) -> u64
+        ensures { result ≡ self.now.room }
+    {
+        self.room
+    }
+
+    /// Takes back room that was made.
+    pub(crate) fn cut_room(&mut self, room: u64)
+        requires { room ≤ self.old.room }
+        ensures { self.new ≡ record self.old { room = room } }
+    {
+        self.room = room;
     }
 
     /// Takes the object of an id out of the table. An unknown id changes nothing.
     pub fn remove_id(&mut self, id: u64)
         ensures { self.new ≡ without self.old id }
     {
-        self.objects.remove(&id);
+        if self.is_own(id) {
+            take_out(&mut self.own, id);
+        } else {
+            take_out(&mut self.peer, id);
+        }
     }
 }

@@ -116,3 +116,39 @@ fn an_object_has_the_next_id(rt: HostRuntime) -> Result<(), Fail> {
     );
     Ok(())
 }
+
+/// Announces so many callbacks, each with a handle.
+fn burst(backend: &mut Backend, count: u32) -> Result<(), Fail> {
+    for number in 0..count {
+        let id = backend.next_id();
+        let args = [Arg::NewId(id), Arg::Uint32(number), Arg::Fd(Handle(3))];
+        let callback = InterfaceName::Known(KnownInterface::Callback);
+        backend.request_new(0, 2, &args, callback, 1)?;
+    }
+    Ok(())
+}
+
+#[test]
+fn a_burst_after_room_was_made(rt: HostRuntime) -> Result<(), Fail> {
+    let mut server = Backend::new(rt.alloc(), false)?;
+    server.reserve(50 * 28, 50, 50)?;
+    burst(&mut server, 50)?;
+    let waits = (server.unsent().len(), server.unsent_handles().len());
+    assert_eq!(rt;
+        (waits, server.next_id()),
+        ((1400, 50), 0xff00_0000_0000_0032)
+    );
+    // no memory holds so much, and then nothing changed
+    assert!(rt; server.reserve(usize::MAX, 0, 1).is_err());
+    assert!(rt; server.reserve(1, usize::MAX, 1).is_err());
+    assert_eq!(rt;
+        (server.unsent().len(), server.unsent_handles().len()),
+        waits
+    );
+    // one own id is left, so that room for one object is enough
+    let mut client = Backend::with_next_id(rt.alloc(), true, 0xff00_0000_0000_0000 - 1)?;
+    client.reserve(0, 0, usize::MAX)?;
+    burst(&mut client, 1)?;
+    assert_eq!(rt; client.ids_left(), 0);
+    Ok(())
+}

@@ -106,6 +106,11 @@ abbrev pub RefusesOther : Error → HandshakerView → BackendView → Handshake
 RefusesOther (error.Handshake handshake_error.NonHandshakeEvent) h b new sent = Same h b new sent
 RefusesOther e h b new sent = ⊥
 
+-- how a request of the handshake that isn't built is refused
+abbrev pub RefusesUnbuilt : Error → HandshakerView → BackendView → HandshakerView → BackendView → Type 0
+RefusesUnbuilt error.NotBuilt h b new sent = Same h b new sent
+RefusesUnbuilt e h b new sent = ⊥
+
 -- what a server's handshake does with a request of the handshake
 abbrev pub HandlesAsked : ℕ → HandshakerView → BackendView → Asked → Result (Option EisHandshakeResp) Error → HandshakerView → BackendView → Type 0
 HandlesAsked handshake h b (asked.InterfaceVersion name version) (Ok None) new sent = (new ≡ record h { versions = with_version h.versions name version }) × (sent ≡ b)
@@ -114,9 +119,11 @@ HandlesAsked handshake h b (asked.InterfaceVersion name version) (Err e) new sen
 HandlesAsked handshake h b asked.Finish (Ok None) new sent = ⊥
 HandlesAsked handshake h b asked.Finish (Ok (Some resp)) new sent = Completes handshake h b resp new sent
 HandlesAsked handshake h b asked.Finish (Err e) new sent = RefusesFinish e handshake h b new sent
+HandlesAsked handshake h b other (Ok answer) new sent = ⊥
+HandlesAsked handshake h b other (Err e) new sent = RefusesUnbuilt e h b new sent
 
 -- what a server's handshake does with a request
 abbrev pub Handles : HandshakerView → BackendView → Request → Result (Option EisHandshakeResp) Error → HandshakerView → BackendView → Type 0
 Handles h b (request.Handshake proxy m) result new sent = HandlesAsked proxy.id h b m result new sent
-Handles h b (request.Connection proxy m) (Ok answer) new sent = ⊥
-Handles h b (request.Connection proxy m) (Err e) new sent = RefusesOther e h b new sent
+Handles h b other (Ok answer) new sent = ⊥
+Handles h b other (Err e) new sent = RefusesOther e h b new sent

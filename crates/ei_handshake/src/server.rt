@@ -76,7 +76,8 @@ impl EisHandshaker {
     ///
     /// `NonHandshakeEvent` for a request of another interface; `MissingInterface` at a `finish` before
     /// which ei_connection, ei_callback or ei_pingpong wasn't announced, with the events for those that
-    /// were announced left buffered; `IdsExhausted` where no own id is left for the connection.
+    /// were announced left buffered; `IdsExhausted` where no own id is left for the connection; `NotBuilt`
+    /// for a request of the handshake that is neither `interface_version` nor `finish`.
     pub fn handle_request(
         &mut self,
         ctx: &mut Context,
@@ -86,7 +87,7 @@ impl EisHandshaker {
     {
         match request {
             Request::Handshake(handshake, asked) => self.handle(ctx, handshake, asked),
-            Request::Connection(_, _) => Err(Error::Handshake(HandshakeError::NonHandshakeEvent)),
+            _ => Err(Error::Handshake(HandshakeError::NonHandshakeEvent)),
         }
     }
 
@@ -105,9 +106,10 @@ impl EisHandshaker {
                 Ok(None)
             }
             handshake::Request::Finish => {
-                let resp = self.finish(ctx, handshake)?;
+                let resp = self.finish(ctx, &handshake)?;
                 Ok(Some(resp))
             }
+            _ => Err(Error::NotBuilt),
         }
     }
 
@@ -135,8 +137,12 @@ impl EisHandshaker {
     }
 
     /// Ends the handshake: the versions that both ends have, and the connection.
-    fn finish(&mut self, ctx: &mut Context, handshake: Handshake) -> Result<EisHandshakeResp, Error>
-        ensures { Finishes handshake.id self.old ctx.old result self.new ctx.new }
+    fn finish(
+        &mut self,
+        ctx: &mut Context,
+        handshake: &Handshake,
+    ) -> Result<EisHandshakeResp, Error>
+        ensures { Finishes handshake.now.id self.old ctx.old result self.new ctx.new }
     {
         send_settled(handshake, ctx, &self.versions)?;
         if !self.has_required() {
@@ -167,12 +173,12 @@ fn server_version(interface: KnownInterface) -> Option<u32>
 
 /// Tells the client the version of an interface, where both ends have it.
 fn send_if_settled(
-    handshake: Handshake,
+    handshake: &Handshake,
     ctx: &mut Context,
     versions: &Versions,
     interface: KnownInterface,
 ) -> Result<(), Error>
-    ensures ok { OnOk result (ctx.new ≡ sends ctx.old (event_if handshake.id interface (settled_in versions.now interface))) }
+    ensures ok { OnOk result (ctx.new ≡ sends ctx.old (event_if handshake.now.id interface (settled_in versions.now interface))) }
     ensures only { IfErr result (λ e. e ≡ error.NoMemory) }
 {
     match versions.get(interface.name()) {
@@ -185,8 +191,8 @@ fn send_if_settled(
 }
 
 /// Tells the client the versions that both ends have, in the order of the list.
-fn send_settled(handshake: Handshake, ctx: &mut Context, versions: &Versions) -> Result<(), Error>
-    ensures ok { OnOk result (ctx.new ≡ sends ctx.old (settled_events handshake.id (settled_in versions.now))) }
+fn send_settled(handshake: &Handshake, ctx: &mut Context, versions: &Versions) -> Result<(), Error>
+    ensures ok { OnOk result (ctx.new ≡ sends ctx.old (settled_events handshake.now.id (settled_in versions.now))) }
     ensures only { IfErr result (λ e. e ≡ error.NoMemory) }
 {
     let interfaces = known_interfaces();

@@ -1,9 +1,10 @@
 -- The server's converter, and what a request of the client means.
-use Rattle.std.specs.Prelude.{◌≡◌, List, [], ◌∷◌, ◌++◌, Option, Some, None, Result, Ok, Err, refl}
+use Rattle.std.specs.Prelude.{◌≡◌, ◌||◌, Bool, true, false, List, [], ◌∷◌, ◌++◌, Option, Some, None, Result, Ok, Err, refl}
 use Rattle.std.specs.Coded.{Coded, code_by, coded×, coded_list}
 use Rattle.ei_spec.specs.Groups.{Plain}
 use Rattle.ei_server.specs.declared.request.Request.{Request as ClientRequest}
 use Rattle.ei_server.specs.declared.request.Request.TheVariants as request
+use Rattle.ei_server.specs.declared.connection.Request.TheVariants as of_connection
 use Rattle.ei_types.specs.declared.error.Error.{Error}
 use Rattle.ei_types.specs.declared.error.Error.TheVariants as error
 use Rattle.ei_session.specs.Framed.{Request, Disconnect}
@@ -33,14 +34,24 @@ abbrev pub rest_of : List EisRequest → List EisRequest
 rest_of [] = []
 rest_of (r ∷ rs) = rs
 
+-- whether it is a request of the handshake
+abbrev pub is_handshake : ClientRequest → Bool
+is_handshake (request.Handshake proxy m) = true
+is_handshake other = false
+
+-- whether it is a `disconnect`
+abbrev pub is_last : ClientRequest → Bool
+is_last (request.Connection proxy of_connection.Disconnect) = true
+is_last other = false
+
 -- how a request may be refused
 abbrev pub Refuses : ClientRequest → Error → Type 0
 Refuses r error.NoMemory = Unit {0}
-Refuses (request.Handshake proxy m) error.UnexpectedHandshakeEvent = Unit {0}
+Refuses r error.UnexpectedHandshakeEvent = is_handshake r ≡ true
+Refuses r error.NotBuilt = (is_handshake r || is_last r) ≡ false
 Refuses r e = ⊥
 
 -- what the converter does with a request: a disconnect is queued, and a refusal changes nothing
 abbrev pub Converts : ConverterView → ClientRequest → Result Unit Error → ConverterView → Type 0
-Converts old (request.Handshake proxy m) (Ok x) new = ⊥
-Converts old (request.Connection proxy m) (Ok x) new = new ≡ record old { queue = old.queue ++ asked.Disconnect ∷ [] }
+Converts old r (Ok x) new = (is_last r ≡ true) × (new ≡ record old { queue = old.queue ++ asked.Disconnect ∷ [] })
 Converts old r (Err e) new = Refuses r e × (new ≡ old)

@@ -116,15 +116,15 @@ impl Connection {
         if let Some(name) = name {
             seat.name(&mut self.context, name)?;
         }
-        offer(seat, &mut self.context, &self.negotiated, capabilities)?;
+        offer(&seat, &mut self.context, &self.negotiated, capabilities)?;
         seat.done(&mut self.context)?;
         Ok(Seat::over(seat))
     }
 }
 
 /// Offers a capability.
-fn offer_one(seat: SeatProxy, ctx: &mut Context, one: DeviceCapability) -> Result<(), SendError>
-    ensures ok { OnOk result (ctx.new ≡ sends ctx.old (capability_event seat.id (bit_of one, interface_of one) ∷ [])) }
+fn offer_one(seat: &SeatProxy, ctx: &mut Context, one: DeviceCapability) -> Result<(), SendError>
+    ensures ok { OnOk result (ctx.new ≡ sends ctx.old (capability_event seat.now.id (bit_of one, interface_of one) ∷ [])) }
     ensures only { IfErr result (λ e. e ≡ send_error.NoMemory) }
 {
     seat.capability(ctx, one.bit(), one.interface_name())
@@ -132,13 +132,13 @@ fn offer_one(seat: SeatProxy, ctx: &mut Context, one: DeviceCapability) -> Resul
 
 /// Offers a capability, where it is one of these and both ends have its interface.
 fn offer_if_settled(
-    seat: SeatProxy,
+    seat: &SeatProxy,
     ctx: &mut Context,
     versions: &Versions,
     capabilities: DeviceCapabilities,
     one: DeviceCapability,
 ) -> Result<(), SendError>
-    ensures ok { OnOk result (ctx.new ≡ sends ctx.old (capability_if seat.id (bits_of capabilities) (is_settled versions.now) (bit_of one, interface_of one))) }
+    ensures ok { OnOk result (ctx.new ≡ sends ctx.old (capability_if seat.now.id (bits_of capabilities) (is_settled versions.now) (bit_of one, interface_of one))) }
     ensures only { IfErr result (λ e. e ≡ send_error.NoMemory) }
 {
     if capabilities.has(one) && versions.contains(one.interface_name()) {
@@ -150,12 +150,12 @@ fn offer_if_settled(
 
 /// Offers the capabilities whose interface both ends have, by rising bit.
 fn offer(
-    seat: SeatProxy,
+    seat: &SeatProxy,
     ctx: &mut Context,
     versions: &Versions,
     capabilities: DeviceCapabilities,
 ) -> Result<(), SendError>
-    ensures ok { OnOk result (ctx.new ≡ sends ctx.old (capability_events seat.id (bits_of capabilities) (is_settled versions.now))) }
+    ensures ok { OnOk result (ctx.new ≡ sends ctx.old (capability_events seat.now.id (bits_of capabilities) (is_settled versions.now))) }
     ensures only { IfErr result (λ e. e ≡ send_error.NoMemory) }
 {
     let all = DeviceCapability::ALL;

@@ -73,7 +73,8 @@ impl EisRequestConverter {
 
     /// Queues what a request of the client means.
     ///
-    /// `UnexpectedHandshakeEvent` for a request of the handshake. A refused call changes nothing.
+    /// `UnexpectedHandshakeEvent` for a request of the handshake, `NotBuilt` for any other that isn't a
+    /// `disconnect`. A refused call changes nothing.
     pub fn handle_request<C: Clock>(&mut self, clock: &mut C, request: Request) -> Result<(), Error>
         ensures converts { Converts self.old request result self.new }
         ensures later { C.later clock.old clock.new }
@@ -84,6 +85,7 @@ impl EisRequestConverter {
                 self.queue.push_back(EisRequest::Disconnect)?;
                 Ok(())
             }
+            _ => Err(Error::NotBuilt),
         }
     }
 }

@@ -6,7 +6,7 @@ use ei_server::Seat as Proxy;
 use std::marker::Model;
 
 /// A seat of the connection. Contracts see the object.
-#[derive(Clone, Copy, Debug)]
+#[derive(Debug, Drop)]
 pub struct Seat {
     proxy: Proxy,
 }
@@ -20,8 +20,6 @@ impl Model for Seat {
     ghost coded = { object_code };
 
     ghost view = { λ s. s.proxy };
-
-    ghost inverse = { λ o. record { proxy = o } };
 }
 
 impl Seat {

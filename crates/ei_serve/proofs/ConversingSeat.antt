@@ -98,10 +98,10 @@ pub record Announces (setup : Setup) (before : List Raw) (after : List ℕ) (han
 abbrev seated_at : BackendView → ObjectView → ℕ → List Raw → BackendView
 seated_at b proxy v offers = record (sends b (seat_event proxy.id b.table.next_own v ∷ (offers ++ (done_event b.table.next_own ∷ [])))) { table = with_own b.table (Known known.Seat) v }
 
-with_seat_is : (setup : Setup) (before : List Raw) (after : List ℕ) (handles : List Handle) (resp : EisHandshakeResp) (context : BackendView) → HandsOver setup before after handles resp context →
-    (with_seat (handed setup resp context) None setup.capabilities).ctx ≡ sends (quiet (seat_table (version before known.Seat)) after handles) (finish_events setup before)
+with_seat_is : (setup : Setup) (before : List Raw) (after : List ℕ) (handles : List Handle) (resp : EisHandshakeResp) (context : BackendView) → (over : HandsOver setup before after handles resp context) →
+    (with_seat (handed setup resp context) None setup.capabilities).ctx ≡ sends (quiet (seat_table (version before known.Seat)) after handles over.ring) (finish_events setup before)
 with_seat_is setup before after handles resp context over =
-    let start = quiet connection_table after handles in
+    let start = quiet connection_table after handles over.ring in
     let offers = capability_events seat_id setup.capabilities (is_settled resp.negotiated_interfaces) in
     let wanted = capability_events seat_id setup.capabilities (λ interface. is_some (settled before interface)) in
     let v = seat_version resp.negotiated_interfaces in
@@ -114,7 +114,7 @@ with_seat_is setup before after handles resp context over =
     ∙ ap (λ (x : List Raw). seated_at (sends start (handing setup before)) connection_object v x) same_offers
     ∙ ap (λ (x : ℕ). seated_at (sends start (handing setup before)) connection_object x wanted) same_version
     ∙ ap (λ (x : BackendView). record x { table = seat_table (version before known.Seat) }) (sends-append start (handing setup before) (seat_parts (version before known.Seat) wanted))
-    ∙ ap (λ (x : List Raw). sends (quiet (seat_table (version before known.Seat)) after handles) x) (finish_is setup before)
+    ∙ ap (λ (x : List Raw). sends (quiet (seat_table (version before known.Seat)) after handles over.ring) x) (finish_is setup before)
 
 -- ---- what is sent, and what stands when it is
 
@@ -125,7 +125,7 @@ seated_now setup before after handles resp context made lent seated b a =
     a.seated_is ∙ ap (λ (x : ConnectionView). with_seat x None setup.capabilities) is
 
 waits_to_go : (setup : Setup) (before : List Raw) (after : List ℕ) (handles : List Handle) (resp : EisHandshakeResp) (context : BackendView) (made : ConverterView) (lent seated : ConnectionView) (b : BackendView) →
-    Announces setup before after handles resp context made lent seated b → b ≡ sends (quiet (seat_table (version before known.Seat)) after handles) (finish_events setup before)
+    (a : Announces setup before after handles resp context made lent seated b) → b ≡ sends (quiet (seat_table (version before known.Seat)) after handles a.over.ring) (finish_events setup before)
 waits_to_go setup before after handles resp context made lent seated b a =
     a.b_is
     ∙ ap (λ (x : ConnectionView). x.ctx) (seated_now setup before after handles resp context made lent seated b a)
@@ -137,13 +137,14 @@ pub connects : (setup : Setup) (before : List Raw) (finish : Raw) (after : List 
     IsConnected setup (finish ∷ before) after handles (record { handle = record { ctx = new; proxy = seated.proxy; negotiated = seated.negotiated; last_serial = seated.last_serial }; queue = made.queue }) × TellsFinish setup before old taken
 connects setup before finish after handles resp context made lent seated b new old taken c e a none kept took =
     let now : seated ≡ with_seat (handed setup resp context) None setup.capabilities = seated_now setup before after handles resp context made lent seated b a in
-    let to_go : b ≡ sends (quiet (seat_table (version before known.Seat)) after handles) (finish_events setup before) = waits_to_go setup before after handles resp context made lent seated b a in (
+    let to_go : b ≡ sends (quiet (seat_table (version before known.Seat)) after handles a.over.ring) (finish_events setup before) = waits_to_go setup before after handles resp context made lent seated b a in (
       record {
         finished = connects_now before finish e;
+        ring = a.over.ring;
         endpoint = kept
             ∙ ap (λ (x : Piece). with_unsent x b) none
             ∙ ap (λ (x : BackendView). with_unsent nothing x) to_go
-            ∙ ap (λ (v : ℕ). quiet (seat_table v) after handles) (sym (version_still before finish known.Seat c e));
+            ∙ ap (λ (v : ℕ). quiet (seat_table v) after handles a.over.ring) (sym (version_still before finish known.Seat c e));
         proxy = ap (λ (x : ConnectionView). x.proxy) now ∙ a.over.connection;
         versions = λ interface. ap (λ (x : ConnectionView). settled_in x.negotiated interface) now ∙ a.over.versions interface ∙ sym (settled_still before finish interface c e);
         serial = ap (λ (x : ConnectionView). x.last_serial) now;
@@ -165,7 +166,7 @@ front_of (suc n) bytes held = refl
 pub cuts_off : (setup : Setup) (before : List Raw) (finish : Raw) (after : List ℕ) (handles : List Handle) (resp : EisHandshakeResp) (context : BackendView) (made : ConverterView) (lent seated : ConnectionView) (b : BackendView) (waiting : Piece) (e : FlushError) (y : Error) (r : Result ConverterView Error) (old taken : Option Piece) →
     Announces setup before after handles resp context made lent seated b → ((held : Piece) → old ≡ Some held → Flushes held (unsent_of b) (Err e) waiting taken) → r ≡ Err y → y ≡ error_of_flush e → Connects setup before finish after handles r old taken
 cuts_off setup before finish after handles resp context made lent seated b waiting e y r old taken a took r_is y_is =
-    let to_go : b ≡ sends (quiet (seat_table (version before known.Seat)) after handles) (finish_events setup before) = waits_to_go setup before after handles resp context made lent seated b a in
+    let to_go : b ≡ sends (quiet (seat_table (version before known.Seat)) after handles a.over.ring) (finish_events setup before) = waits_to_go setup before after handles resp context made lent seated b a in
     rw (r_is, y_is) (
       cut_off e,
       λ held told.

@@ -1,3 +1,5 @@
+pub mod Ringing
+pub mod FewUnread
 pub mod Asked
 pub mod Causes
 pub mod NoHandles

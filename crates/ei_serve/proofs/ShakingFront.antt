@@ -1,5 +1,5 @@
 -- The message at the front during the handshake.
-use Rattle.std.proofs.Common.{◌≡◌, ◌==◌, ℕ, Bool, true, false, cond, ◌&&◌, ◌||◌, List, [], ◌∷◌, Option, Some, None, refl, sym, ap, ◌∙◌}
+use Rattle.std.proofs.Common.{◌≡◌, ◌==◌, ℕ, Bool, true, false, cond, ◌&&◌, ◌||◌, List, [], ◌∷◌, Option, Some, None, refl, sym, ap, ◌∙◌, inl, inr}
 use Rattle.std.specs.Prelude.{is_some}
 use Rattle.std.specs.Ordering.{nat_cmp, eq_by_cmp}
 use Rattle.std.specs.Cmp.{nat_cmp_total, Equal-is}
@@ -17,14 +17,16 @@ use Rattle.ei_backend.specs.Backend.{BackendView}
 use Rattle.ei_server.specs.declared.handshake.Request.{Request as Asked}
 use Rattle.ei_server.specs.declared.handshake.Request.TheVariants as asked
 use Rattle.ei_server.specs.Handshake as handshake
-use Rattle.ei_server.specs.Request.{as_one_of}
+use Rattle.ei_server.specs.declared.request.Request.{Request}
+use Rattle.ei_server.specs.declared.request.Request.TheVariants as request
+use Rattle.ei_server.specs.Request.{as_one_of, target_of, code_of, values_of}
 use Rattle.ei_session.specs.Arguments.{request_args}
 use Rattle.ei_session.specs.Handshake.{Announced, announced, announced_by, is_finish}
 use Rattle.ei_session.specs.Built.{all_settled, is_built_before, names_required}
 use Rattle.ei_handshake.specs.Versions.{VersionMap}
 use Rattle.ei_handshake.specs.Handshaker.{has_required}
-use Rattle.ei_serve.specs.Asking.{AllKnown, Takes, Unreadable}
-use Rattle.ei_serve.specs.Standing.{AreSettled, handshake_table, quiet}
+use Rattle.ei_serve.specs.Asking.{AllKnown, is_sync, Takes, Unreadable}
+use Rattle.ei_serve.specs.Standing.{AreSettled, Ring, handshake_table, quiet}
 use Rattle.ei_serve.specs.Shaking.{is_required, is_taken}
 use Rattle.ei_serve.proofs.Standing.{found_first}
 
@@ -48,14 +50,14 @@ all_known id target h = (known.Handshake, ap (λ (o : ObjectView). o.interface) 
 -- ---- what was taken out
 
 -- a request of the handshake to object 0 stood at the front
-pub record Front (rest : List ℕ) (handles : List Handle) (asked : Asked) (new : BackendView) : Type 0 where
+pub record Front (rest : List ℕ) (handles : List Handle) (ring : Ring) (asked : Asked) (new : BackendView) : Type 0 where
   pub m : Raw
   pub after : List ℕ
   pub front_is : front rest ≡ Whole m after
   pub id_is : m.id ≡ 0
   pub opcode_is : m.opcode ≡ handshake.code_of asked
   pub args : request_args known.Handshake m ≡ Some (handshake.values_of asked)
-  pub new_is : new ≡ quiet handshake_table after handles
+  pub new_is : new ≡ quiet handshake_table after handles ring
 
 -- the object is object 0, and a request of the handshake is to it
 is_handshake : (id : ℕ) (target : ObjectView) (interface wanted : KnownInterface) → found handshake_table id ≡ Some target → target.interface ≡ Known interface → target.interface ≡ Known wanted → (known.Handshake ≡ wanted) × (known.Handshake ≡ interface)
@@ -65,10 +67,14 @@ is_handshake id target interface wanted f i w =
     let other : Known known.Handshake ≡ Known interface = same ∙ i in
     (cc, cc)
 
-pub front_of : (rest : List ℕ) (handles : List Handle) (proxy : ObjectView) (asked : Asked) (new : BackendView) →
-    Takes (quiet handshake_table rest handles) (as_one_of known.Handshake proxy) (handshake.code_of asked) (handshake.values_of asked) new →
-    (proxy.id ≡ 0) × Front rest handles asked new
-front_of rest handles proxy asked new h =
+-- no request of the handshake announces an object
+no_sync : (m : Raw) {interface : KnownInterface} → known.Handshake ≡ interface → is_sync interface m.opcode ≡ false
+no_sync m e = ap (λ (k : KnownInterface). is_sync k m.opcode) (sym e)
+
+pub front_of : (rest : List ℕ) (handles : List Handle) (ring : Ring) (proxy : ObjectView) (asked : Asked) (new : BackendView) →
+    Takes (quiet handshake_table rest handles ring) (as_one_of known.Handshake proxy) (handshake.code_of asked) (handshake.values_of asked) new →
+    (proxy.id ≡ 0) × Front rest handles ring asked new
+front_of rest handles ring proxy asked new h =
     let is = only_first h.m.id (as_one_of known.Handshake proxy) h.target_is in
     let i = is_handshake h.m.id (as_one_of known.Handshake proxy) h.interface known.Handshake h.target_is h.interface_is refl in (
       sym (ap (λ (o : ObjectView). o.id) is.1),
@@ -78,16 +84,34 @@ front_of rest handles proxy asked new h =
         front_is = h.front_is;
         id_is = is.0;
         opcode_is = sym h.opcode_is;
-        args = ap (λ (k : KnownInterface). request_args k h.m) i.1 ∙ h.args;
-        new_is = h.after;
+        args = ap (λ (k : KnownInterface). request_args k h.m) i.1 ∙ h.args (no_sync h.m i.1);
+        new_is = h.after (no_sync h.m i.1);
       },
     )
 
-pub no_connection : (rest : List ℕ) (handles : List Handle) (proxy : ObjectView) (opcode : ℕ) (values : List Value) (new : BackendView) →
-    Takes (quiet handshake_table rest handles) (as_one_of known.Connection proxy) opcode values new → ⊥
-no_connection rest handles proxy opcode values new h =
-    let one : known.Handshake ≡ known.Connection = (is_handshake h.m.id (as_one_of known.Connection proxy) h.interface known.Connection h.target_is h.interface_is refl).0 in
-    absurd cc
+-- no other object is there
+no_other : (rest : List ℕ) (handles : List Handle) (ring : Ring) (wanted : KnownInterface) (proxy : ObjectView) (opcode : ℕ) (values : List Value) (new : BackendView) →
+    Takes (quiet handshake_table rest handles ring) (as_one_of wanted proxy) opcode values new → known.Handshake ≡ wanted
+no_other rest handles ring wanted proxy opcode values new h = (is_handshake h.m.id (as_one_of wanted proxy) h.interface wanted h.target_is h.interface_is refl).0
+
+-- a request of the handshake
+abbrev pub IsShaking : Request → Type 0
+IsShaking (request.Handshake proxy m) = Unit {0}
+IsShaking other = ⊥
+
+pub only_shaking : (rest : List ℕ) (handles : List Handle) (ring : Ring) (r : Request) (new : BackendView) → Takes (quiet handshake_table rest handles ring) (target_of r) (code_of r) (values_of r) new → IsShaking r
+only_shaking rest handles ring (request.Handshake proxy m) new h = tt
+only_shaking rest handles ring (request.Connection proxy m) new h = let e : known.Handshake ≡ known.Connection = no_other rest handles ring known.Connection proxy _ _ new h in absurd cc
+only_shaking rest handles ring (request.Pingpong proxy m) new h = let e : known.Handshake ≡ known.Pingpong = no_other rest handles ring known.Pingpong proxy _ _ new h in absurd cc
+only_shaking rest handles ring (request.Seat proxy m) new h = let e : known.Handshake ≡ known.Seat = no_other rest handles ring known.Seat proxy _ _ new h in absurd cc
+only_shaking rest handles ring (request.Device proxy m) new h = let e : known.Handshake ≡ known.Device = no_other rest handles ring known.Device proxy _ _ new h in absurd cc
+only_shaking rest handles ring (request.Pointer proxy m) new h = let e : known.Handshake ≡ known.Pointer = no_other rest handles ring known.Pointer proxy _ _ new h in absurd cc
+only_shaking rest handles ring (request.PointerAbsolute proxy m) new h = let e : known.Handshake ≡ known.PointerAbsolute = no_other rest handles ring known.PointerAbsolute proxy _ _ new h in absurd cc
+only_shaking rest handles ring (request.Scroll proxy m) new h = let e : known.Handshake ≡ known.Scroll = no_other rest handles ring known.Scroll proxy _ _ new h in absurd cc
+only_shaking rest handles ring (request.Button proxy m) new h = let e : known.Handshake ≡ known.Button = no_other rest handles ring known.Button proxy _ _ new h in absurd cc
+only_shaking rest handles ring (request.Keyboard proxy m) new h = let e : known.Handshake ≡ known.Keyboard = no_other rest handles ring known.Keyboard proxy _ _ new h in absurd cc
+only_shaking rest handles ring (request.Touchscreen proxy m) new h = let e : known.Handshake ≡ known.Touchscreen = no_other rest handles ring known.Touchscreen proxy _ _ new h in absurd cc
+only_shaking rest handles ring (request.Text proxy m) new h = let e : known.Handshake ≡ known.Text = no_other rest handles ring known.Text proxy _ _ new h in absurd cc
 
 -- ---- whether it is taken
 
@@ -177,26 +201,47 @@ unbuilt_unread past m e =
     ∙ ap (λ (values : Option (List Value)). built_by None (is_finish m) (is_some values) (all_settled past)) e
     ∙ and_false (is_finish m)
 
+unbuilt_by : (past : List Raw) (m : Raw) → announced m ≡ None → is_finish m ≡ false → is_built_before past m ≡ false
+unbuilt_by past m a f =
+    built_is past m
+    ∙ ap (λ (o : Option Announced). built_by o (is_finish m) (is_some (request_args known.Handshake m)) (all_settled past)) a
+    ∙ ap (λ (b : Bool). built_by None b (is_some (request_args known.Handshake m)) (all_settled past)) f
+
+-- nor for the messages of the handshake of other opcodes
+announces_none : (m : Raw) (n : ℕ) → m.opcode ≡ n → (n == 4) ≡ false → announced m ≡ None
+unfolding announced
+announces_none m n e plain = ap (λ (k : ℕ). tests_of m k (m.id == 0)) e ∙ ap (λ (b : Bool). cond ((m.id == 0) && b) (announced_by (request_args known.Handshake m)) None) plain ∙ none_of (m.id == 0) (announced_by (request_args known.Handshake m))
+
+finishes_not : (m : Raw) (n : ℕ) → m.opcode ≡ n → (n == 1) ≡ false → is_finish m ≡ false
+unfolding is_finish
+finishes_not m n e plain = ap (λ (k : ℕ). (m.id == 0) && (k == 1)) e ∙ ap (λ (b : Bool). (m.id == 0) && b) plain ∙ and_false (m.id == 0)
+
+other_unbuilt : (past : List Raw) (m : Raw) (n : ℕ) → m.opcode ≡ n → (n == 4) ≡ false → (n == 1) ≡ false → is_built_before past m ≡ false
+other_unbuilt past m n e four one = unbuilt_by past m (announces_none m n e four) (finishes_not m n e one)
+
 -- a server has been built for just those that are taken
-pub built_front : (asked : Asked) (past : List Raw) (rest : List ℕ) (handles : List Handle) (versions : VersionMap) (new : BackendView) → AreSettled versions past → (f : Front rest handles asked new) → is_built_before past f.m ≡ is_taken asked versions
-built_front asked.Finish past rest handles versions new h f = built_finish past f.m versions h f.id_is f.opcode_is f.args
-built_front (asked.InterfaceVersion name version) past rest handles versions new h f = built_announcement past f.m name version f.id_is f.opcode_is f.args
+pub built_front : (asked : Asked) (past : List Raw) (rest : List ℕ) (handles : List Handle) (ring : Ring) (versions : VersionMap) (new : BackendView) → AreSettled versions past → (f : Front rest handles ring asked new) → is_built_before past f.m ≡ is_taken asked versions
+built_front asked.Finish past rest handles ring versions new h f = built_finish past f.m versions h f.id_is f.opcode_is f.args
+built_front (asked.InterfaceVersion name version) past rest handles ring versions new h f = built_announcement past f.m name version f.id_is f.opcode_is f.args
+built_front (asked.HandshakeVersion version) past rest handles ring versions new h f = other_unbuilt past f.m 0 f.opcode_is refl refl
+built_front (asked.ContextType kind) past rest handles ring versions new h f = other_unbuilt past f.m 2 f.opcode_is refl refl
+built_front (asked.Name name) past rest handles ring versions new h f = other_unbuilt past f.m 3 f.opcode_is refl refl
 
-pub is_finish_front : (rest : List ℕ) (handles : List Handle) (new : BackendView) (f : Front rest handles asked.Finish new) → is_finish f.m ≡ true
-is_finish_front rest handles new f = finish_of f.m f.id_is f.opcode_is
+pub is_finish_front : (rest : List ℕ) (handles : List Handle) (ring : Ring) (new : BackendView) (f : Front rest handles ring asked.Finish new) → is_finish f.m ≡ true
+is_finish_front rest handles ring new f = finish_of f.m f.id_is f.opcode_is
 
-pub no_finish_front : (name : List ℕ) (version : ℕ) (rest : List ℕ) (handles : List Handle) (new : BackendView) (f : Front rest handles (asked.InterfaceVersion name version) new) → is_finish f.m ≡ false
-no_finish_front name version rest handles new f = no_finish f.m f.opcode_is
+pub no_finish_front : (name : List ℕ) (version : ℕ) (rest : List ℕ) (handles : List Handle) (ring : Ring) (new : BackendView) (f : Front rest handles ring (asked.InterfaceVersion name version) new) → is_finish f.m ≡ false
+no_finish_front name version rest handles ring new f = no_finish f.m f.opcode_is
 
-pub announced_front : (name : List ℕ) (version : ℕ) (rest : List ℕ) (handles : List Handle) (new : BackendView) (f : Front rest handles (asked.InterfaceVersion name version) new) → announced f.m ≡ Some (record { name = name; version = version })
-announced_front name version rest handles new f = announces_this f.m name version f.id_is f.opcode_is f.args
+pub announced_front : (name : List ℕ) (version : ℕ) (rest : List ℕ) (handles : List Handle) (ring : Ring) (new : BackendView) (f : Front rest handles ring (asked.InterfaceVersion name version) new) → announced f.m ≡ Some (record { name = name; version = version })
+announced_front name version rest handles ring new f = announces_this f.m name version f.id_is f.opcode_is f.args
 
 -- and not for a message that can't be read
-unbuilt_at : (past : List Raw) (rest : List ℕ) (handles : List Handle) (u : Unreadable (quiet handshake_table rest handles)) (b : Bool) → (u.m.id == 0) ≡ b → is_built_before past u.m ≡ false
-unbuilt_at past rest handles u true e =
+unbuilt_at : (past : List Raw) (rest : List ℕ) (handles : List Handle) (ring : Ring) (u : Unreadable (quiet handshake_table rest handles ring)) (b : Bool) → (u.m.id == 0) ≡ b → is_built_before past u.m ≡ false
+unbuilt_at past rest handles ring u true e =
     let there : found handshake_table u.m.id ≡ Some first = ap (found handshake_table) (eqb-true u.m.id 0 e) ∙ found_first false first_server_id in
-    unbuilt_unread past u.m (u.why first known.Handshake there refl)
-unbuilt_at past rest handles u false e = unbuilt_elsewhere past u.m e
+    elim (u.why first known.Handshake there refl) [ inl none ↦ unbuilt_unread past u.m none | inr sync ↦ absurd cc ]
+unbuilt_at past rest handles ring u false e = unbuilt_elsewhere past u.m e
 
-pub unbuilt : (past : List Raw) (rest : List ℕ) (handles : List Handle) (u : Unreadable (quiet handshake_table rest handles)) → is_built_before past u.m ≡ false
-unbuilt past rest handles u = unbuilt_at past rest handles u (u.m.id == 0) refl
+pub unbuilt : (past : List Raw) (rest : List ℕ) (handles : List Handle) (ring : Ring) (u : Unreadable (quiet handshake_table rest handles ring)) → is_built_before past u.m ≡ false
+unbuilt past rest handles ring u = unbuilt_at past rest handles ring u (u.m.id == 0) refl

@@ -17,7 +17,6 @@ use Rattle.ei_backend.specs.Backend.{BackendView}
 use Rattle.ei_server.specs.declared.request.Request.{Request}
 use Rattle.ei_server.specs.declared.request.Request.TheVariants as request
 use Rattle.ei_server.specs.declared.handshake.Request.TheVariants as asked
-use Rattle.ei_server.specs.Connection as connection
 use Rattle.ei_session.specs.Setup.{Setup, connection_id}
 use Rattle.ei_session.specs.Handshake.{connected, is_finish, settled}
 use Rattle.ei_session.specs.Built.{judge}
@@ -29,32 +28,32 @@ use Rattle.ei_handshake.specs.declared.server.EisHandshakeResp.{EisHandshakeResp
 use Rattle.ei_handshake.proofs.Sending.{sends-append}
 use Rattle.ei_serve.specs.declared.shaking.Shaken.{Shaken}
 use Rattle.ei_serve.specs.Asking.{AllKnown, Asks, RefusesToAsk}
-use Rattle.ei_serve.specs.Standing.{AreSettled, ShakesHands, connection_table, handshake_table, quiet}
+use Rattle.ei_serve.specs.Standing.{AreSettled, Ring, ShakesHands, connection_table, handshake_table, quiet}
 use Rattle.ei_serve.specs.Steps.{HandsOver, Refuses, Shakes}
 use Rattle.ei_serve.specs.Shaking.{is_taken, taken_of}
-use Rattle.ei_serve.proofs.ShakingFront.{Front, all_known, announced_front, built_front, front_of, is_finish_front, no_connection, no_finish_front, unbuilt}
+use Rattle.ei_serve.proofs.ShakingFront.{Front, all_known, announced_front, built_front, front_of, is_finish_front, only_shaking, no_finish_front, unbuilt}
 use Rattle.ei_serve.proofs.ShakingVersions.{settled_then}
 
 -- ---- asking
 
 -- what asking answers where it shakes hands
-pub asks_here : (setup : Setup) (past : List Raw) (rest : List ℕ) (handles : List Handle) (b new : BackendView) (h : HandshakerView) (answer : Result (Option Request) Error) → ShakesHands setup past rest handles b h → (AllKnown b.table → Asks b answer new) → Asks (quiet handshake_table rest handles) answer new
+pub asks_here : (setup : Setup) (past : List Raw) (rest : List ℕ) (handles : List Handle) (b new : BackendView) (h : HandshakerView) (answer : Result (Option Request) Error) → (s : ShakesHands setup past rest handles b h) → (AllKnown b.table → Asks b answer new) → Asks (quiet handshake_table rest handles s.ring) answer new
 asks_here setup past rest handles b new h answer s asks =
-    let here : AllKnown (quiet handshake_table rest handles).table → Asks (quiet handshake_table rest handles) answer new = subst (λ (x : BackendView). AllKnown x.table → Asks x answer new) s.endpoint asks in
+    let here : AllKnown (quiet handshake_table rest handles s.ring).table → Asks (quiet handshake_table rest handles s.ring) answer new = subst (λ (x : BackendView). AllKnown x.table → Asks x answer new) s.endpoint asks in
     here all_known
 
-pub answers_here : (setup : Setup) (past : List Raw) (rest : List ℕ) (handles : List Handle) (b new : BackendView) (h : HandshakerView) (answer r : Option Request) → ShakesHands setup past rest handles b h → answer ≡ r → (AllKnown b.table → Asks b (Ok answer) new) → Asks (quiet handshake_table rest handles) (Ok r) new
+pub answers_here : (setup : Setup) (past : List Raw) (rest : List ℕ) (handles : List Handle) (b new : BackendView) (h : HandshakerView) (answer r : Option Request) → (s : ShakesHands setup past rest handles b h) → answer ≡ r → (AllKnown b.table → Asks b (Ok answer) new) → Asks (quiet handshake_table rest handles s.ring) (Ok r) new
 answers_here setup past rest handles b new h answer r s e asks =
-    subst (λ (x : Option Request). Asks (quiet handshake_table rest handles) (Ok x) new) e (asks_here setup past rest handles b new h (Ok answer) s asks)
+    subst (λ (x : Option Request). Asks (quiet handshake_table rest handles s.ring) (Ok x) new) e (asks_here setup past rest handles b new h (Ok answer) s asks)
 
-pub waits : (setup : Setup) (past : List Raw) (rest : List ℕ) (handles : List Handle) (b new : BackendView) (h : HandshakerView) → ShakesHands setup past rest handles b h → Asks (quiet handshake_table rest handles) (Ok None) new → (front rest ≡ Short) × ShakesHands setup past rest handles new h
-waits setup past rest handles b new h s a = (a.0, record { unfinished = s.unfinished; endpoint = a.1; serial = s.serial; versions = s.versions })
+pub waits : (setup : Setup) (past : List Raw) (rest : List ℕ) (handles : List Handle) (b new : BackendView) (h : HandshakerView) → (s : ShakesHands setup past rest handles b h) → Asks (quiet handshake_table rest handles s.ring) (Ok None) new → (front rest ≡ Short) × ShakesHands setup past rest handles new h
+waits setup past rest handles b new h s a = (a.0, record { unfinished = s.unfinished; ring = s.ring; endpoint = a.1; serial = s.serial; versions = s.versions })
 
-pub refuses_asked : (e : Error) (past : List Raw) (rest : List ℕ) (handles : List Handle) → connected past ≡ false → RefusesToAsk (quiet handshake_table rest handles) e → Refuses past rest e
-refuses_asked (error.Parse (parse_error.HeaderLength n)) past rest handles u h = h
-refuses_asked error.NotBuilt past rest handles u h = (h.m, h.rest, h.front_is, refuses past h.m u (unbuilt past rest handles h))
-refuses_asked error.NoMemory past rest handles u h = h
-refuses_asked e past rest handles u h = absurd h
+pub refuses_asked : (e : Error) (past : List Raw) (rest : List ℕ) (handles : List Handle) (ring : Ring) → connected past ≡ false → RefusesToAsk (quiet handshake_table rest handles ring) e → Refuses past rest e
+refuses_asked (error.Parse (parse_error.HeaderLength n)) past rest handles ring u h = h
+refuses_asked error.NotBuilt past rest handles ring u h = (h.m, h.rest, h.front_is, refuses past h.m u (unbuilt past rest handles ring h))
+refuses_asked error.NoMemory past rest handles ring u h = h
+refuses_asked e past rest handles ring u h = absurd h
 
 -- ---- what is taken
 
@@ -70,51 +69,52 @@ is_ok true r s h = (refl, cc)
 is_ok false r s h = absurd cc
 
 -- one that isn't taken is refused
-pub refuses_taken : (r : Request) (e : Error) (past : List Raw) (rest : List ℕ) (handles : List Handle) (versions : VersionMap) (b : BackendView) → connected past ≡ false → AreSettled versions past → taken_of r versions ≡ Err e →
-    Asks (quiet handshake_table rest handles) (Ok (Some r)) b → Refuses past rest e
-refuses_taken (request.Handshake proxy m) e past rest handles versions b u h t a =
-    let f = (front_of rest handles proxy m b a).1 in
+pub refuses_taken : (r : Request) (e : Error) (past : List Raw) (rest : List ℕ) (handles : List Handle) (ring : Ring) (versions : VersionMap) (b : BackendView) → connected past ≡ false → AreSettled versions past → taken_of r versions ≡ Err e →
+    Asks (quiet handshake_table rest handles ring) (Ok (Some r)) b → Refuses past rest e
+refuses_taken (request.Handshake proxy m) e past rest handles ring versions b u h t a =
+    let f = (front_of rest handles ring proxy m b a).1 in
     let n = not_taken (is_taken m versions) (request.Handshake proxy m) e t in
-    subst (Refuses past rest) n.1 (f.m, f.after, f.front_is, refuses past f.m u (built_front m past rest handles versions b h f ∙ n.0))
-refuses_taken (request.Connection proxy m) e past rest handles versions b u h t a = absurd (no_connection rest handles proxy (connection.code_of m) (connection.values_of m) b a)
+    subst (Refuses past rest) n.1 (f.m, f.after, f.front_is, refuses past f.m u (built_front m past rest handles ring versions b h f ∙ n.0))
+refuses_taken other e past rest handles ring versions b u h t a = absurd (only_shaking rest handles ring other b a)
 
 -- one that is taken was a request of the handshake at the front
-abbrev pub IsFront : List ℕ → List Handle → VersionMap → BackendView → Request → Type 0
-IsFront rest handles versions b (request.Handshake proxy m) = (proxy.id ≡ 0) × Front rest handles m b × (is_taken m versions ≡ true)
-IsFront rest handles versions b (request.Connection proxy m) = ⊥
+abbrev pub IsFront : List ℕ → List Handle → Ring → VersionMap → BackendView → Request → Type 0
+IsFront rest handles ring versions b (request.Handshake proxy m) = (proxy.id ≡ 0) × Front rest handles ring m b × (is_taken m versions ≡ true)
+IsFront rest handles ring versions b other = ⊥
 
-pub is_front : (r s : Request) (rest : List ℕ) (handles : List Handle) (versions : VersionMap) (b : BackendView) → taken_of r versions ≡ Ok s → Asks (quiet handshake_table rest handles) (Ok (Some r)) b → IsFront rest handles versions b s
-is_front (request.Handshake proxy m) s rest handles versions b t a =
-    let f = front_of rest handles proxy m b a in
+pub is_front : (r s : Request) (rest : List ℕ) (handles : List Handle) (ring : Ring) (versions : VersionMap) (b : BackendView) → taken_of r versions ≡ Ok s → Asks (quiet handshake_table rest handles ring) (Ok (Some r)) b → IsFront rest handles ring versions b s
+is_front (request.Handshake proxy m) s rest handles ring versions b t a =
+    let f = front_of rest handles ring proxy m b a in
     let n = is_ok (is_taken m versions) (request.Handshake proxy m) s t in
-    subst (IsFront rest handles versions b) n.1 (f.0, f.1, n.0)
-is_front (request.Connection proxy m) s rest handles versions b t a = absurd (no_connection rest handles proxy (connection.code_of m) (connection.values_of m) b a)
+    subst (IsFront rest handles ring versions b) n.1 (f.0, f.1, n.0)
+is_front other s rest handles ring versions b t a = absurd (only_shaking rest handles ring other b a)
 
 -- ---- an announcement
 
 abbrev pub Handled : Setup → List Raw → List ℕ → List Handle → BackendView → HandshakerView → Type 0
 Handled setup past rest handles b h = (m : Raw) × (after : List ℕ) × (front rest ≡ Whole m after) × (judge past m ≡ Accepted) × (is_finish m ≡ false) × ShakesHands setup (m ∷ past) after handles b h
 
-handled : (s : Request) (setup : Setup) (past : List Raw) (rest : List ℕ) (handles : List Handle) (first b sent : BackendView) (h new : HandshakerView) → ShakesHands setup past rest handles first h → IsFront rest handles h.versions b s → Handles h b s (Ok None) new sent → Handled setup past rest handles sent new
+handled : (s : Request) (setup : Setup) (past : List Raw) (rest : List ℕ) (handles : List Handle) (first b sent : BackendView) (h new : HandshakerView) → (shakes : ShakesHands setup past rest handles first h) → IsFront rest handles shakes.ring h.versions b s → Handles h b s (Ok None) new sent → Handled setup past rest handles sent new
 handled (request.Handshake proxy (asked.InterfaceVersion name version)) setup past rest handles first b sent h new s f d =
     let m = f.1.m in
-    let no = no_finish_front name version rest handles b f.1 in (
+    let no = no_finish_front name version rest handles s.ring b f.1 in (
       m,
       f.1.after,
       f.1.front_is,
-      accepts past m s.unfinished (built_front (asked.InterfaceVersion name version) past rest handles h.versions b s.versions f.1 ∙ f.2),
+      accepts past m s.unfinished (built_front (asked.InterfaceVersion name version) past rest handles s.ring h.versions b s.versions f.1 ∙ f.2),
       no,
       record {
         unfinished = connected_more past m ∙ ap (λ (x : Bool). x || connected past) no ∙ s.unfinished;
+        ring = s.ring;
         endpoint = d.1 ∙ f.1.new_is;
         serial = ap (λ (x : HandshakerView). x.serial) d.0 ∙ s.serial;
-        versions = λ i. ap (λ (x : HandshakerView). settled_in x.versions i) d.0 ∙ settled_then h.versions past m name version s.unfinished (announced_front name version rest handles b f.1) f.2 s.versions i;
+        versions = λ i. ap (λ (x : HandshakerView). settled_in x.versions i) d.0 ∙ settled_then h.versions past m name version s.unfinished (announced_front name version rest handles s.ring b f.1) f.2 s.versions i;
       },
     )
-handled (request.Handshake proxy asked.Finish) setup past rest handles first b sent h new s f d = absurd d
-handled (request.Connection proxy m) setup past rest handles first b sent h new s f d = absurd d
+handled (request.Handshake proxy other) setup past rest handles first b sent h new s f d = absurd d
+handled other setup past rest handles first b sent h new s f d = absurd d
 
-pub handled_at : (s : Request) (answer : Option EisHandshakeResp) (setup : Setup) (past : List Raw) (rest : List ℕ) (handles : List Handle) (first b sent : BackendView) (h new : HandshakerView) → ShakesHands setup past rest handles first h → IsFront rest handles h.versions b s → answer ≡ None → Handles h b s (Ok answer) new sent → Handled setup past rest handles sent new
+pub handled_at : (s : Request) (answer : Option EisHandshakeResp) (setup : Setup) (past : List Raw) (rest : List ℕ) (handles : List Handle) (first b sent : BackendView) (h new : HandshakerView) → (shakes : ShakesHands setup past rest handles first h) → IsFront rest handles shakes.ring h.versions b s → answer ≡ None → Handles h b s (Ok answer) new sent → Handled setup past rest handles sent new
 handled_at s answer setup past rest handles first b sent h new shakes f e d = handled s setup past rest handles first b sent h new shakes f (subst (λ (x : Option EisHandshakeResp). Handles h b s (Ok x) new sent) e d)
 
 -- ---- a finish
@@ -128,40 +128,41 @@ same_events : (handshake : ℕ) (x y : KnownInterface → Option ℕ) → ((inte
 unfolding settled_events
 same_events handshake x y e = events_at handshake x y the_twelve e
 
-handed_over : (after : List ℕ) (handles : List Handle) (serial : ℕ) (events : List Raw) →
-    hands_over (sends (quiet handshake_table after handles) events) 0 serial ≡ sends (quiet connection_table after handles) (events ++ connection_event 0 serial connection_id ∷ [])
-handed_over after handles serial events = sends-append (quiet connection_table after handles) events (connection_event 0 serial connection_id ∷ [])
+handed_over : (after : List ℕ) (handles : List Handle) (ring : Ring) (serial : ℕ) (events : List Raw) →
+    hands_over (sends (quiet handshake_table after handles ring) events) 0 serial ≡ sends (quiet connection_table after handles ring) (events ++ connection_event 0 serial connection_id ∷ [])
+handed_over after handles ring serial events = sends-append (quiet connection_table after handles ring) events (connection_event 0 serial connection_id ∷ [])
 
-sent_is : (after : List ℕ) (handles : List Handle) (b : BackendView) (id serial told : ℕ) (x y : KnownInterface → Option ℕ) → b ≡ quiet handshake_table after handles → id ≡ 0 → serial ≡ told → ((interface : KnownInterface) → x interface ≡ y interface) →
-    hands_over (sends b (settled_events id x)) id serial ≡ sends (quiet connection_table after handles) (settled_events 0 y ++ connection_event 0 told connection_id ∷ [])
-sent_is after handles b id serial told x y e i s same =
+sent_is : (after : List ℕ) (handles : List Handle) (ring : Ring) (b : BackendView) (id serial told : ℕ) (x y : KnownInterface → Option ℕ) → b ≡ quiet handshake_table after handles ring → id ≡ 0 → serial ≡ told → ((interface : KnownInterface) → x interface ≡ y interface) →
+    hands_over (sends b (settled_events id x)) id serial ≡ sends (quiet connection_table after handles ring) (settled_events 0 y ++ connection_event 0 told connection_id ∷ [])
+sent_is after handles ring b id serial told x y e i s same =
     ap (λ (c : BackendView). hands_over (sends c (settled_events id x)) id serial) e
-    ∙ ap (λ (n : ℕ). hands_over (sends (quiet handshake_table after handles) (settled_events n x)) n serial) i
-    ∙ ap (hands_over (sends (quiet handshake_table after handles) (settled_events 0 x)) 0) s
-    ∙ ap (λ (events : List Raw). hands_over (sends (quiet handshake_table after handles) events) 0 told) (same_events 0 x y same)
-    ∙ handed_over after handles told (settled_events 0 y)
+    ∙ ap (λ (n : ℕ). hands_over (sends (quiet handshake_table after handles ring) (settled_events n x)) n serial) i
+    ∙ ap (hands_over (sends (quiet handshake_table after handles ring) (settled_events 0 x)) 0) s
+    ∙ ap (λ (events : List Raw). hands_over (sends (quiet handshake_table after handles ring) events) 0 told) (same_events 0 x y same)
+    ∙ handed_over after handles ring told (settled_events 0 y)
 
 abbrev pub Completed : Setup → List Raw → List ℕ → List Handle → EisHandshakeResp → BackendView → Type 0
 Completed setup past rest handles resp b = (m : Raw) × (after : List ℕ) × (front rest ≡ Whole m after) × (judge past m ≡ Accepted) × (is_finish m ≡ true) × HandsOver setup past after handles resp b
 
-completed : (s : Request) (setup : Setup) (past : List Raw) (rest : List ℕ) (handles : List Handle) (first b sent : BackendView) (h new : HandshakerView) (resp : EisHandshakeResp) → ShakesHands setup past rest handles first h → IsFront rest handles h.versions b s → Handles h b s (Ok (Some resp)) new sent → Completed setup past rest handles resp sent
+completed : (s : Request) (setup : Setup) (past : List Raw) (rest : List ℕ) (handles : List Handle) (first b sent : BackendView) (h new : HandshakerView) (resp : EisHandshakeResp) → (shakes : ShakesHands setup past rest handles first h) → IsFront rest handles shakes.ring h.versions b s → Handles h b s (Ok (Some resp)) new sent → Completed setup past rest handles resp sent
 completed (request.Handshake proxy asked.Finish) setup past rest handles first b sent h new resp s f d =
     let m = f.1.m in (
       m,
       f.1.after,
       f.1.front_is,
-      accepts past m s.unfinished (built_front asked.Finish past rest handles h.versions b s.versions f.1 ∙ f.2),
-      is_finish_front rest handles b f.1,
+      accepts past m s.unfinished (built_front asked.Finish past rest handles s.ring h.versions b s.versions f.1 ∙ f.2),
+      is_finish_front rest handles s.ring b f.1,
       record {
         connection = d.connection ∙ ap (λ (x : BackendView). own x.table (Known known.Connection) 1) f.1.new_is;
         versions = λ i. ap (λ (x : VersionMap). settled_in x i) d.versions ∙ s.versions i;
-        endpoint = d.events ∙ sent_is f.1.after handles b proxy.id h.serial setup.serial (settled_in h.versions) (settled past) f.1.new_is f.0 s.serial s.versions;
+        ring = s.ring;
+        endpoint = d.events ∙ sent_is f.1.after handles s.ring b proxy.id h.serial setup.serial (settled_in h.versions) (settled past) f.1.new_is f.0 s.serial s.versions;
       },
     )
-completed (request.Handshake proxy (asked.InterfaceVersion name version)) setup past rest handles first b sent h new resp s f d = absurd d
-completed (request.Connection proxy m) setup past rest handles first b sent h new resp s f d = absurd d
+completed (request.Handshake proxy other) setup past rest handles first b sent h new resp s f d = absurd d
+completed other setup past rest handles first b sent h new resp s f d = absurd d
 
-pub completed_at : (s : Request) (answer : Option EisHandshakeResp) (setup : Setup) (past : List Raw) (rest : List ℕ) (handles : List Handle) (first b sent : BackendView) (h new : HandshakerView) (resp : EisHandshakeResp) → ShakesHands setup past rest handles first h → IsFront rest handles h.versions b s → answer ≡ Some resp → Handles h b s (Ok answer) new sent → Completed setup past rest handles resp sent
+pub completed_at : (s : Request) (answer : Option EisHandshakeResp) (setup : Setup) (past : List Raw) (rest : List ℕ) (handles : List Handle) (first b sent : BackendView) (h new : HandshakerView) (resp : EisHandshakeResp) → (shakes : ShakesHands setup past rest handles first h) → IsFront rest handles shakes.ring h.versions b s → answer ≡ Some resp → Handles h b s (Ok answer) new sent → Completed setup past rest handles resp sent
 completed_at s answer setup past rest handles first b sent h new resp shakes f e d = completed s setup past rest handles first b sent h new resp shakes f (subst (λ (x : Option EisHandshakeResp). Handles h b s (Ok x) new sent) e d)
 
 -- ---- how handling is refused
@@ -171,21 +172,22 @@ refuses_announcement error.NoMemory past rest h new b sent d = tt
 refuses_announcement e past rest h new b sent d = absurd d
 
 -- an id is left for the connection
-id_left : (b : BackendView) (after : List ℕ) (handles : List Handle) → b ≡ quiet handshake_table after handles → own_end b.table ≤ b.table.next_own → ⊥
-id_left b after handles e le =
+id_left : (b : BackendView) (after : List ℕ) (handles : List Handle) (ring : Ring) → b ≡ quiet handshake_table after handles ring → own_end b.table ≤ b.table.next_own → ⊥
+id_left b after handles ring e le =
     let full : 18446744073709551615 ≤ 18374686479671623680 = subst (λ (x : BackendView). own_end x.table ≤ x.table.next_own) e le in
     absurd (omega (arith, full))
 
-refuses_finish : (e : Error) (past : List Raw) (rest after : List ℕ) (handles : List Handle) (id : ℕ) (h new : HandshakerView) (b sent : BackendView) → b ≡ quiet handshake_table after handles → has_required h.versions ≡ true → RefusesFinish e id h b new sent → Refuses past rest e
-refuses_finish error.NoMemory past rest after handles id h new b sent q t d = tt
-refuses_finish (error.Handshake handshake_error.MissingInterface) past rest after handles id h new b sent q t d = let g : true ≡ false = sym t ∙ d.0 in absurd cc
-refuses_finish error.IdsExhausted past rest after handles id h new b sent q t d = absurd (id_left b after handles q d.1)
-refuses_finish e past rest after handles id h new b sent q t d = absurd d
+refuses_finish : (e : Error) (past : List Raw) (rest after : List ℕ) (handles : List Handle) (ring : Ring) (id : ℕ) (h new : HandshakerView) (b sent : BackendView) → b ≡ quiet handshake_table after handles ring → has_required h.versions ≡ true → RefusesFinish e id h b new sent → Refuses past rest e
+refuses_finish error.NoMemory past rest after handles ring id h new b sent q t d = tt
+refuses_finish (error.Handshake handshake_error.MissingInterface) past rest after handles ring id h new b sent q t d = let g : true ≡ false = sym t ∙ d.0 in absurd cc
+refuses_finish error.IdsExhausted past rest after handles ring id h new b sent q t d = absurd (id_left b after handles ring q d.1)
+refuses_finish e past rest after handles ring id h new b sent q t d = absurd d
 
-pub refuses_handled : (s : Request) (e : Error) (past : List Raw) (rest : List ℕ) (handles : List Handle) (b sent : BackendView) (h new : HandshakerView) → IsFront rest handles h.versions b s → Handles h b s (Err e) new sent → Refuses past rest e
-refuses_handled (request.Handshake proxy (asked.InterfaceVersion name version)) e past rest handles b sent h new f d = refuses_announcement e past rest h new b sent d
-refuses_handled (request.Handshake proxy asked.Finish) e past rest handles b sent h new f d = refuses_finish e past rest f.1.after handles proxy.id h new b sent f.1.new_is f.2 d
-refuses_handled (request.Connection proxy m) e past rest handles b sent h new f d = absurd f
+pub refuses_handled : (s : Request) (e : Error) (past : List Raw) (rest : List ℕ) (handles : List Handle) (ring : Ring) (b sent : BackendView) (h new : HandshakerView) → IsFront rest handles ring h.versions b s → Handles h b s (Err e) new sent → Refuses past rest e
+refuses_handled (request.Handshake proxy (asked.InterfaceVersion name version)) e past rest handles ring b sent h new f d = refuses_announcement e past rest h new b sent d
+refuses_handled (request.Handshake proxy asked.Finish) e past rest handles ring b sent h new f d = refuses_finish e past rest f.1.after handles ring proxy.id h new b sent f.1.new_is f.2 d
+refuses_handled (request.Handshake proxy other) e past rest handles ring b sent h new f d = let g : false ≡ true = f.2 in absurd cc
+refuses_handled other e past rest handles ring b sent h new f d = absurd f
 
 -- the error that comes out is the one that came in
 pub at_err : (r : Result Shaken Error) (given e : Error) (setup : Setup) (past : List Raw) (rest : List ℕ) (handles : List Handle) (b : BackendView) (h : HandshakerView) → r ≡ Err given → given ≡ e → Refuses past rest e → Shakes setup past rest handles r b h

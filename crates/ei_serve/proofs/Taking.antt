@@ -1,19 +1,21 @@
 -- The message at the front, as a server's endpoint takes it, and the arguments that the definitions read of it.
-use Rattle.std.proofs.Common.{◌≡◌, ℕ, ◌+◌, Bool, true, false, cond, eqb, List, length, drop, Option, Some, None, Result, Ok, Err, refl, ap, ◌∙◌}
-use Rattle.std.specs.Prelude.{MatchOption}
+use Rattle.std.proofs.Common.{◌≡◌, ℕ, ◌+◌, Bool, true, false, ◌||◌, cond, eqb, ltb, leb, List, [], ◌∷◌, length, drop, Option, Some, None, Result, Ok, Err, refl, ap, ◌∙◌}
+use Rattle.std.specs.Prelude.{MatchOption, MatchResult, codes}
 use Rattle.ei_spec.specs.declared.handle.Handle.{Handle}
 use Rattle.ei_spec.specs.declared.interface.KnownInterface.{KnownInterface}
 use Rattle.ei_spec.specs.declared.interface.KnownInterface.TheVariants as known
-use Rattle.ei_spec.specs.Value.{Value}
+use Rattle.ei_spec.specs.Value.{Value, New, U32}
 use Rattle.ei_spec.specs.Interface.{Known, ObjectView, short_of}
-use Rattle.ei_spec.specs.Reading.{Fault, InvalidOpcode, HeaderLength, MessageLength, Unread, Stop, ◌then◌, stopping, all_at}
-use Rattle.ei_spec.specs.Rows.{Row, Nothing, rows, row_at}
+use Rattle.ei_spec.specs.Reading.{Fault, InvalidId, InvalidOpcode, HeaderLength, MessageLength, Unread, Stop, ◌then◌, stopping, all_at}
+use Rattle.ei_spec.specs.Rows.{Row, Nothing, Fixed, announcing, new_id, row_at}
+use Rattle.ei_spec.specs.Table.{table}
 use Rattle.ei_spec.specs.Message.{Raw, size, Short, Unlawful, Whole, front}
 use Rattle.ei_spec.proofs.Faults.{IsNoHeader, StopsNoHeader, all_no_header}
 use Rattle.ei_spec.proofs.Handleless.{AreNoHandles, Got, got_of, all_alike}
-use Rattle.ei_backend.specs.Table.{TableView, found}
-use Rattle.ei_backend.specs.Message.{Parsed, announce, some_row}
+use Rattle.ei_backend.specs.Table.{TableView, found, peer_end}
+use Rattle.ei_backend.specs.Message.{Parsed, announce, with_new, some_row}
 use Rattle.ei_backend.specs.Backend.{BackendView, Outcome, outcome, body_read, Answer, Waits, Refused, Gone, Message, next, said_of}
+use Rattle.ei_serve.specs.Asking.{is_sync}
 use Rattle.ei_session.specs.Arguments.{whole, body_of, row_args, request_args}
 use Rattle.ei_serve.proofs.NoHandles.{KeepsTaken, all_keeps}
 
@@ -25,21 +27,25 @@ choice : (b : Bool) (x y : Option Row) → IsPlain x → IsPlain y → IsPlain (
 choice true x y p q = p
 choice false x y p q = q
 
--- each request that is built is one
-pub plain_rows : (interface : KnownInterface) (opcode : ℕ) → IsPlain (row_at opcode (rows false interface))
-plain_rows known.Handshake opcode = choice (eqb opcode 1) _ _ (refl, tt) (choice (eqb opcode 4) _ _ (refl, (tt, (tt, tt))) tt)
-plain_rows known.Connection opcode = choice (eqb opcode 1) _ _ (refl, tt) tt
-plain_rows known.Callback opcode = tt
-plain_rows known.Pingpong opcode = tt
-plain_rows known.Seat opcode = tt
-plain_rows known.Device opcode = tt
-plain_rows known.Pointer opcode = tt
-plain_rows known.PointerAbsolute opcode = tt
-plain_rows known.Scroll opcode = tt
-plain_rows known.Button opcode = tt
-plain_rows known.Keyboard opcode = tt
-plain_rows known.Touchscreen opcode = tt
-plain_rows known.Text opcode = tt
+-- each request is one, but `sync`
+pub plain_rows : (interface : KnownInterface) (opcode : ℕ) → is_sync interface opcode ≡ false → IsPlain (row_at opcode (table false interface))
+plain_rows known.Handshake opcode h =
+    choice (eqb opcode 0) _ _ (refl, (tt, tt)) (choice (eqb opcode 1) _ _ (refl, tt) (choice (eqb opcode 2) _ _ (refl, (tt, tt)) (choice (eqb opcode 3) _ _ (refl, (tt, tt)) (choice (eqb opcode 4) _ _ (refl, (tt, (tt, tt))) tt))))
+plain_rows known.Connection opcode h = rw h (choice (eqb opcode 1) _ _ (refl, tt) tt)
+plain_rows known.Callback opcode h = tt
+plain_rows known.Pingpong opcode h = choice (eqb opcode 0) _ _ (refl, (tt, tt)) tt
+plain_rows known.Seat opcode h = choice (eqb opcode 0) _ _ (refl, tt) (choice (eqb opcode 1) _ _ (refl, (tt, tt)) (choice (eqb opcode 2) _ _ (refl, (tt, tt)) tt))
+plain_rows known.Device opcode h =
+    choice (eqb opcode 0) _ _ (refl, tt) (choice (eqb opcode 1) _ _ (refl, (tt, (tt, tt))) (choice (eqb opcode 2) _ _ (refl, (tt, tt)) (choice (eqb opcode 3) _ _ (refl, (tt, (tt, tt))) (choice (eqb opcode 4) _ _ (refl, tt) tt))))
+plain_rows known.Pointer opcode h = choice (eqb opcode 0) _ _ (refl, tt) (choice (eqb opcode 1) _ _ (refl, (tt, (tt, tt))) tt)
+plain_rows known.PointerAbsolute opcode h = choice (eqb opcode 0) _ _ (refl, tt) (choice (eqb opcode 1) _ _ (refl, (tt, (tt, tt))) tt)
+plain_rows known.Scroll opcode h =
+    choice (eqb opcode 0) _ _ (refl, tt) (choice (eqb opcode 1) _ _ (refl, (tt, (tt, tt))) (choice (eqb opcode 2) _ _ (refl, (tt, (tt, tt))) (choice (eqb opcode 3) _ _ (refl, (tt, (tt, (tt, tt)))) tt)))
+plain_rows known.Button opcode h = choice (eqb opcode 0) _ _ (refl, tt) (choice (eqb opcode 1) _ _ (refl, (tt, (tt, tt))) tt)
+plain_rows known.Keyboard opcode h = choice (eqb opcode 0) _ _ (refl, tt) (choice (eqb opcode 1) _ _ (refl, (tt, (tt, tt))) tt)
+plain_rows known.Touchscreen opcode h =
+    choice (eqb opcode 0) _ _ (refl, tt) (choice (eqb opcode 1) _ _ (refl, (tt, (tt, (tt, tt)))) (choice (eqb opcode 2) _ _ (refl, (tt, (tt, (tt, tt)))) (choice (eqb opcode 3) _ _ (refl, (tt, tt)) (choice (eqb opcode 4) _ _ (refl, (tt, tt)) tt))))
+plain_rows known.Text opcode h = choice (eqb opcode 0) _ _ (refl, tt) (choice (eqb opcode 1) _ _ (refl, (tt, (tt, tt))) (choice (eqb opcode 2) _ _ (refl, (tt, tt)) tt))
 
 -- what reading a body says, where the definitions read these arguments of it
 abbrev pub OutcomeIs : Option (List Value) → TableView → Outcome → Type 0
@@ -82,10 +88,42 @@ some_case (Some r) short m handles t p =
     row_case r (size m) t (all_at r.kinds s) (all_at r.kinds (body_of m)) p.0 (all_alike r.kinds s (body_of m) p.1 refl) (all_keeps r.kinds s 0 p.1 refl) (all_no_header r.kinds s)
 
 -- what a whole message says to an object of a known interface is what the definitions read of it
-pub body_is : (interface : KnownInterface) (target : ObjectView) (m : Raw) (handles : List Handle) (t : TableView) → target.interface ≡ Known interface →
+pub body_is : (interface : KnownInterface) (target : ObjectView) (m : Raw) (handles : List Handle) (t : TableView) → target.interface ≡ Known interface → is_sync interface m.opcode ≡ false →
     OutcomeIs (request_args interface m) t (body_read false target m.opcode m.body handles t)
 unfolding request_args
-body_is interface target m handles t e = rw e (some_case (row_at m.opcode (rows false interface)) (short_of interface) m handles t (plain_rows interface m.opcode))
+body_is interface target m handles t e h = rw e (some_case (row_at m.opcode (table false interface)) (short_of interface) m handles t (plain_rows interface m.opcode h))
+
+-- ---- what a `sync` says
+
+-- a message, or a refusal that isn't that of a length
+abbrev pub SaysSome : Outcome → Type 0
+SaysSome o = MatchResult o.said (λ values. Unit {0}) (λ f. IsNoHeader f)
+
+said_some : (b : Bool) (values : List Value) (a n taken : ℕ) (t : TableView) → SaysSome (record { said = said_if b values a n; table = t; taken = taken })
+said_some true values a n taken t = tt
+said_some false values a n taken t = tt
+
+made_some : (len taken : ℕ) (t : TableView) (values : List Value) (s : Unread) (u : Result TableView Fault) → MatchResult u (λ x. Unit {0}) (λ f. IsNoHeader f) →
+    SaysSome (outcome len t (stopping taken u then λ x. Ok (record { values = values; table = x; unread = s })))
+made_some len taken t values s (Ok u) h = said_some (eqb (length s.bytes) 0) values (len + length s.bytes) len s.taken u
+made_some len taken t values s (Err f) h = h
+
+accepted_if : (b : Bool) (id : ℕ) (x : ObjectView × TableView) → MatchResult (with_new (cond b (Err (InvalidId id)) (Ok x))) (λ u. Unit {0}) (λ f. IsNoHeader f)
+accepted_if true id x = tt
+accepted_if false id x = tt
+
+abbrev sync_row : Row
+sync_row = announcing (codes "sync") (New ∷ U32 ∷ []) (Fixed known.Callback)
+
+read_some : (len : ℕ) (t : TableView) (a : Result (List Value × Unread) Stop) → StopsNoHeader a → SaysSome (outcome len t (announced sync_row t a))
+read_some len t (Ok x) h = made_some len x.1.taken t x.0 x.1 (announce (Fixed known.Callback) (New ∷ U32 ∷ []) x.0 t) (accepted_if (ltb (new_id (New ∷ U32 ∷ []) x.0) t.next_peer || leb (peer_end t) (new_id (New ∷ U32 ∷ []) x.0)) (new_id (New ∷ U32 ∷ []) x.0) _)
+read_some len t (Err f) h = h
+
+pub sync_is : (target : ObjectView) (m : Raw) (handles : List Handle) (t : TableView) → target.interface ≡ Known known.Connection → is_sync known.Connection m.opcode ≡ true →
+    SaysSome (body_read false target m.opcode m.body handles t)
+sync_is target m handles t e h =
+    let s : Unread = record { bytes = m.body; handles = handles; taken = 0 } in
+    rw (e, h) (read_some (size m) t (all_at (New ∷ U32 ∷ []) s) (all_no_header (New ∷ U32 ∷ []) s))
 
 -- ---- the next message, from what stands at the front
 
@@ -125,16 +163,32 @@ says b target m rest None o h = record {
 after_is : (b : BackendView) (t : TableView) (rest : List ℕ) (n : ℕ) → t ≡ b.table → n ≡ 0 → ◌≡◌ {A = BackendView} (record b { table = t; unread = rest; handles = drop n b.handles }) (record b { unread = rest })
 after_is b t rest n e z = rw (e, z) refl
 
-pub next_taken : (b : BackendView) (m : Raw) (rest : List ℕ) (target : ObjectView) (interface : KnownInterface) (vs : List Value) → front b.unread ≡ Whole m rest → found b.table m.id ≡ Some target → target.interface ≡ Known interface → request_args interface m ≡ Some vs →
+pub next_taken : (b : BackendView) (m : Raw) (rest : List ℕ) (target : ObjectView) (interface : KnownInterface) (vs : List Value) → front b.unread ≡ Whole m rest → found b.table m.id ≡ Some target → target.interface ≡ Known interface → is_sync interface m.opcode ≡ false → request_args interface m ≡ Some vs →
     (answer_of (next false b) ≡ Message target m.opcode vs) × (backend_of (next false b) ≡ record b { unread = rest })
-next_taken b m rest target interface vs e f k a =
+next_taken b m rest target interface vs e f k plain a =
     let o = body_read false target m.opcode m.body b.handles b.table in
-    let h = (says b target m rest (request_args interface m) o (body_is interface target m b.handles b.table k)).values vs a in
+    let h = (says b target m rest (request_args interface m) o (body_is interface target m b.handles b.table k plain)).values vs a in
     rw (e, f) (h.0, after_is b o.table rest o.taken h.1 h.2)
 
-pub next_refused : (b : BackendView) (m : Raw) (rest : List ℕ) (target : ObjectView) (interface : KnownInterface) → front b.unread ≡ Whole m rest → found b.table m.id ≡ Some target → target.interface ≡ Known interface → request_args interface m ≡ None →
+pub next_refused : (b : BackendView) (m : Raw) (rest : List ℕ) (target : ObjectView) (interface : KnownInterface) → front b.unread ≡ Whole m rest → found b.table m.id ≡ Some target → target.interface ≡ Known interface → is_sync interface m.opcode ≡ false → request_args interface m ≡ None →
     (f : Fault) × (answer_of (next false b) ≡ Refused f) × IsNoHeader f
-next_refused b m rest target interface e f k a =
+next_refused b m rest target interface e f k plain a =
     let o = body_read false target m.opcode m.body b.handles b.table in
-    let h = (says b target m rest (request_args interface m) o (body_is interface target m b.handles b.table k)).none a in
+    let h = (says b target m rest (request_args interface m) o (body_is interface target m b.handles b.table k plain)).none a in
     rw (e, f) h
+
+-- what a `sync` is answered by
+abbrev pub AnswersSync : ObjectView → ℕ → Answer → Type 0
+AnswersSync target opcode (Message t op vs) = (t ≡ target) × (op ≡ opcode)
+AnswersSync target opcode (Refused f) = IsNoHeader f
+AnswersSync target opcode a = ⊥
+
+says_sync : (target : ObjectView) (opcode : ℕ) (r : Result (List Value) Fault) → MatchResult r (λ values. Unit {0}) (λ f. IsNoHeader f) → AnswersSync target opcode (said_of target opcode r)
+says_sync target opcode (Ok vs) h = (refl, refl)
+says_sync target opcode (Err f) h = h
+
+pub next_sync : (b : BackendView) (m : Raw) (rest : List ℕ) (target : ObjectView) → front b.unread ≡ Whole m rest → found b.table m.id ≡ Some target → target.interface ≡ Known known.Connection → is_sync known.Connection m.opcode ≡ true →
+    AnswersSync target m.opcode (answer_of (next false b))
+next_sync b m rest target e f k h =
+    let o = body_read false target m.opcode m.body b.handles b.table in
+    rw (e, f) (says_sync target m.opcode o.said (sync_is target m b.handles b.table k h))

@@ -1,6 +1,7 @@
 -- The request at the front of what a server has not read.
-use Rattle.std.specs.Prelude.{◌≡◌, ℕ, List, Option, Some, None, Result, Ok, Err}
+use Rattle.std.specs.Prelude.{◌≡◌, ◌⊎◌, ◌==◌, ℕ, Bool, true, false, List, Option, Some, None, Result, Ok, Err}
 use Rattle.ei_spec.specs.declared.interface.KnownInterface.{KnownInterface}
+use Rattle.ei_spec.specs.declared.interface.KnownInterface.TheVariants as known
 use Rattle.ei_spec.specs.Value.{Value}
 use Rattle.ei_spec.specs.Interface.{Known, ObjectView}
 use Rattle.ei_spec.specs.Message.{Raw, Short, Unlawful, Whole, front}
@@ -20,6 +21,11 @@ use Rattle.ei_session.specs.Arguments.{request_args}
 abbrev pub AllKnown : TableView → Type 0
 AllKnown t = (id : ℕ) (target : ObjectView) → found t id ≡ Some target → (interface : KnownInterface) × (target.interface ≡ Known interface)
 
+-- whether the request is `sync`, the one that announces an object
+abbrev pub is_sync : KnownInterface → ℕ → Bool
+is_sync known.Connection opcode = opcode == 0
+is_sync interface opcode = false
+
 -- the message at the front is this request, and it was taken out
 pub record Takes (b : BackendView) (target : ObjectView) (opcode : ℕ) (values : List Value) (new : BackendView) : Type 0 where
   pub m : Raw
@@ -29,15 +35,15 @@ pub record Takes (b : BackendView) (target : ObjectView) (opcode : ℕ) (values 
   pub target_is : found b.table m.id ≡ Some target
   pub interface_is : target.interface ≡ Known interface
   pub opcode_is : opcode ≡ m.opcode
-  pub args : request_args interface m ≡ Some values
-  pub after : new ≡ record b { unread = rest }
+  pub args : is_sync interface m.opcode ≡ false → request_args interface m ≡ Some values
+  pub after : is_sync interface m.opcode ≡ false → new ≡ record b { unread = rest }
 
--- a whole message stands at the front that is no request to an object
+-- a whole message stands at the front that is no request to an object, or a `sync`
 pub record Unreadable (b : BackendView) : Type 0 where
   pub m : Raw
   pub rest : List ℕ
   pub front_is : front b.unread ≡ Whole m rest
-  pub why : (target : ObjectView) (interface : KnownInterface) → found b.table m.id ≡ Some target → target.interface ≡ Known interface → request_args interface m ≡ None
+  pub why : (target : ObjectView) (interface : KnownInterface) → found b.table m.id ≡ Some target → target.interface ≡ Known interface → (request_args interface m ≡ None) ⊎ (is_sync interface m.opcode ≡ true)
 
 -- how asking for a request may be refused
 abbrev pub RefusesToAsk : BackendView → Error → Type 0

@@ -1,5 +1,5 @@
 -- Which requests of the handshake a server takes.
-use Rattle.std.specs.Prelude.{ℕ, Bool, List, Result, Ok, Err, if◌then◌else◌}
+use Rattle.std.specs.Prelude.{ℕ, Bool, false, List, Result, Ok, Err, if◌then◌else◌}
 use Rattle.std.specs.List.{list_any}
 use Rattle.std.specs.Str.{bytes_eq}
 use Rattle.ei_spec.specs.Interface.{name_of}
@@ -21,8 +21,9 @@ is_required name = list_any (λ interface. bytes_eq name (name_of interface)) re
 abbrev pub is_taken : Asked → VersionMap → Bool
 is_taken asked.Finish versions = has_required versions
 is_taken (asked.InterfaceVersion name version) versions = is_required name
+is_taken other versions = false
 
 -- the request, where it is one of the handshake that is taken
 abbrev pub taken_of : Request → VersionMap → Result Request Error
 taken_of (request.Handshake proxy m) versions = if is_taken m versions then Ok (request.Handshake proxy m) else Err error.NotBuilt
-taken_of (request.Connection proxy m) versions = Err error.NotBuilt
+taken_of other versions = Err error.NotBuilt

@@ -12,6 +12,7 @@ use Rattle.ei_session.specs.Setup.{Setup}
 use Rattle.ei_session.specs.Handshake.{connected, settled, version}
 use Rattle.ei_session.specs.Session.{reading_of, accepted, is_over}
 use Rattle.ei_backend.specs.Table.{TableView, new_table, first_server_id, own, with_own, without}
+use Rattle.ei_backend.specs.Outgoing.{no_room}
 use Rattle.ei_backend.specs.Backend.{BackendView}
 use Rattle.ei_handshake.specs.Versions.{VersionMap}
 use Rattle.ei_handshake.specs.Handshaker.{HandshakerView, settled_in}
@@ -44,9 +45,18 @@ seat_table v = with_own connection_table (Known known.Seat) v
 
 -- ---- the phases
 
+-- the most bytes that the ring of unread ones holds
+abbrev pub most_capacity : ℕ
+most_capacity = 2097152
+
+-- how many bytes a ring holds
+pub record Ring : Type 0 where
+  pub capacity : ℕ
+  pub most : capacity ≤ most_capacity
+
 -- an open endpoint over these objects that has nothing to send
-abbrev pub quiet : TableView → List ℕ → List Handle → BackendView
-quiet table unread handles = record { table = table; unread = unread; handles = handles; unsent = []; unsent_handles = []; closed = false }
+abbrev pub quiet : TableView → List ℕ → List Handle → Ring → BackendView
+quiet table unread handles ring = record { table = table; unread = unread; handles = handles; unsent = []; unsent_handles = []; closed = false; capacity = ring.capacity; room = no_room }
 
 -- the versions are those that the messages settled
 abbrev pub AreSettled : VersionMap → List Raw → Type 0
@@ -55,14 +65,16 @@ AreSettled versions past = (interface : KnownInterface) → settled_in versions 
 -- after these messages, with these bytes and handles unread, it shakes hands
 pub record ShakesHands (setup : Setup) (past : List Raw) (rest : List ℕ) (handles : List Handle) (b : BackendView) (h : HandshakerView) : Type 0 where
   pub unfinished : connected past ≡ false
-  pub endpoint : b ≡ quiet handshake_table rest handles
+  pub ring : Ring
+  pub endpoint : b ≡ quiet handshake_table rest handles ring
   pub serial : h.serial ≡ setup.serial
   pub versions : AreSettled h.versions past
 
 -- or the connection stands
 pub record IsConnected (setup : Setup) (past : List Raw) (rest : List ℕ) (handles : List Handle) (c : ConverterView) : Type 0 where
   pub finished : connected past ≡ true
-  pub endpoint : c.handle.ctx ≡ quiet (seat_table (version past known.Seat)) rest handles
+  pub ring : Ring
+  pub endpoint : c.handle.ctx ≡ quiet (seat_table (version past known.Seat)) rest handles ring
   pub proxy : c.handle.proxy ≡ connection_object
   pub versions : AreSettled c.handle.negotiated past
   pub serial : c.handle.last_serial ≡ setup.serial
@@ -72,6 +84,12 @@ abbrev pub StandsAt : Setup → List Raw → List ℕ → List Handle → Phase 
 StandsAt setup past rest handles (phase.Handshake b h) = ShakesHands setup past rest handles b h
 StandsAt setup past rest handles (phase.Connected c) = IsConnected setup past rest handles c
 StandsAt setup past rest handles phase.Over = ⊥
+
+-- how many bytes the ring of a phase holds
+abbrev pub capacity_in : Phase → ℕ
+capacity_in (phase.Handshake b h) = b.capacity
+capacity_in (phase.Connected c) = c.handle.ctx.capacity
+capacity_in phase.Over = 0
 
 -- ---- the session
 

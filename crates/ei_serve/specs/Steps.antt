@@ -25,7 +25,7 @@ use Rattle.ei_serve.specs.declared.phase.Phase.{Phase}
 use Rattle.ei_serve.specs.declared.phase.Phase.TheVariants as phase
 use Rattle.ei_serve.specs.declared.phase.Step.{Step}
 use Rattle.ei_serve.specs.declared.phase.Step.TheVariants as step
-use Rattle.ei_serve.specs.Standing.{StandsAt, ShakesHands, IsConnected, AreSettled, quiet, connection_object, connection_table}
+use Rattle.ei_serve.specs.Standing.{StandsAt, ShakesHands, IsConnected, AreSettled, Ring, quiet, connection_object, connection_table}
 
 -- ---- what a session gives and answers
 
@@ -72,7 +72,8 @@ Refuses past rest e = ⊥
 pub record HandsOver (setup : Setup) (before : List Raw) (after : List ℕ) (handles : List Handle) (resp : EisHandshakeResp) (b : BackendView) : Type 0 where
   pub connection : resp.connection ≡ connection_object
   pub versions : AreSettled resp.negotiated_interfaces before
-  pub endpoint : b ≡ sends (quiet connection_table after handles) (settled_events 0 (settled before) ++ connection_event 0 setup.serial connection_id ∷ [])
+  pub ring : Ring
+  pub endpoint : b ≡ sends (quiet connection_table after handles ring) (settled_events 0 (settled before) ++ connection_event 0 setup.serial connection_id ∷ [])
 
 -- what becomes of the message at the front during the handshake
 abbrev pub Shakes : Setup → List Raw → List ℕ → List Handle → Result Shaken Error → BackendView → HandshakerView → Type 0

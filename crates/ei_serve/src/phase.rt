@@ -1,6 +1,6 @@
 //! The two phases of a session, message by message.
 
-ghost use Rattle.std.specs.Prelude.{◌≡◌, ◌≤◌, ◌↔◌, List, [], ℕ, true, false, length, Some, IsTrue, IsErrOf, OnOk, OnErr, IfOk, IfErr};
+ghost use Rattle.std.specs.Prelude.{◌≡◌, ◌≤◌, ◌<◌, ◌↔◌, List, [], ℕ, true, false, length, Some, IsTrue, IsErrOf, OnOk, OnErr, IfOk, IfErr};
 ghost use Rattle.ei_spec.specs.declared.handle.Handle.{Handle};
 ghost use Rattle.ei_spec.specs.Message.{Raw};
 ghost use Rattle.ei_types.specs.declared.error.Error.TheVariants as error;
@@ -11,7 +11,7 @@ ghost use Rattle.ei_session.specs.Setup.{Setup as Started};
 ghost use Rattle.ei_session.specs.Handshake.{connected, is_finish};
 ghost use Rattle.ei_serve.specs.declared.phase.Phase.TheVariants as phases;
 ghost use Rattle.ei_serve.specs.Causes.{Greeted, GreetedInPart, NoFault, RefusesToStart};
-ghost use Rattle.ei_serve.specs.Standing.{StandsAt, setup_of};
+ghost use Rattle.ei_serve.specs.Standing.{capacity_in, most_capacity, StandsAt, setup_of};
 ghost use Rattle.ei_serve.specs.Steps.{Steps, HandsOverIn, ConnectsPhase};
 ghost use Rattle.ei_serve.specs.Taking.{ReadsPhase};
 ghost use Rattle.ei_serve.specs.Turning.{HandlesAll};
@@ -95,10 +95,23 @@ impl Phase {
         }
     }
 
+    /// How many bytes may be unread before the ring that holds them grows.
+    #[tactic(auto, using(crate::proofs::Ringing::phase_most))]
+    pub(crate) fn ring_capacity(&self) -> usize
+        ensures value { result ≡ capacity_in self.now }
+        ensures most { (setup : Started) (past : List Raw) (rest : List ℕ) (handles : List Handle) → StandsAt setup past rest handles self.now → result ≤ most_capacity }
+    {
+        match self {
+            Phase::Handshake(context, _) => context.ring_capacity(),
+            Phase::Connected(converter) => converter.handle().context().ring_capacity(),
+            Phase::Over => 0,
+        }
+    }
+
     /// Takes a piece.
     pub(crate) fn read<S: Source>(&mut self, source: &mut S) -> Result<usize, ReadError>
         ensures reads { (setup : Started) (past : List Raw) (rest : List ℕ) (handles : List Handle) →
-            StandsAt setup past rest handles self.old →
+            length rest < 1048576 → StandsAt setup past rest handles self.old →
             ReadsPhase setup past rest handles result self.new (S.left source.old) (S.left source.new) }
         ensures last_end { (setup : Started) (past : List Raw) (rest : List ℕ) (handles : List Handle) →
             StandsAt setup past rest handles self.old →

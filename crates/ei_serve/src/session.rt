@@ -8,7 +8,7 @@ ghost use Rattle.ei_types.specs.declared.error.Error.TheVariants as error;
 ghost use Rattle.ei_backend.specs.Outside.{Piece, Rose};
 ghost use Rattle.ei_serve.specs.Causes.{Greeted, GreetedInPart, RefusesToStart};
 ghost use Rattle.ei_backend.specs.declared.outside.LastAnswer.TheVariants as answers;
-ghost use Rattle.ei_serve.specs.Standing.{Stands, StandsAt, IsOver, setup_of};
+ghost use Rattle.ei_serve.specs.Standing.{Stands, StandsAt, IsOver, setup_of, capacity_in, most_capacity};
 ghost use Rattle.ei_serve.specs.Taking.{TakesPiece, piece_came};
 ghost use Rattle.ei_serve.specs.Turning.{Turns, IsAtEnd, goes_on, at_end};
 
@@ -89,6 +89,16 @@ impl Session {
         ensures { IsTrue result ↔ IsOver self.now }
     {
         self.phase.is_over()
+    }
+
+    /// How many bytes the session can hold that aren't read yet, before it makes more room: 131072 at
+    /// first, and never more than 2097152. 0 where it is over, since it then holds none.
+    #[tactic(auto, using(crate::proofs::Ringing::session_most))]
+    pub fn buffer_capacity(&self) -> usize
+        ensures value { result ≡ capacity_in self.now.phase }
+        ensures most { (setup : Started) (pieces : List Piece) → Stands setup pieces self.now → result ≤ most_capacity }
+    {
+        self.phase.ring_capacity()
     }
 
     /// Takes one piece and handles every whole message: `out` grows by the requests, and the sink takes

@@ -39,6 +39,7 @@ fn is_taken(asked: &handshake::Request, handshaker: &EisHandshaker) -> bool
     match asked {
         handshake::Request::Finish => handshaker.has_required(),
         handshake::Request::InterfaceVersion { name, .. } => is_required(name.as_str()),
+        _ => false,
     }
 }
 
@@ -54,7 +55,7 @@ fn taken(request: Request, handshaker: &EisHandshaker) -> Result<Request, Error>
                 Err(Error::NotBuilt)
             }
         }
-        Request::Connection(_, _) => Err(Error::NotBuilt),
+        _ => Err(Error::NotBuilt),
     }
 }
 

@@ -1,11 +1,15 @@
 -- The requests of `ei_connection`, by the table of messages.
-use Rattle.std.specs.Prelude.{ℕ, List, []}
-use Rattle.ei_spec.specs.Value.{Value}
+use Rattle.std.specs.Prelude.{ℕ, List, [], ◌∷◌}
+use Rattle.ei_spec.specs.Value.{Value, Word, Long}
 use Rattle.ei_server.specs.declared.connection.Request.{Request}
-use Rattle.ei_server.specs.declared.connection.Request.TheVariants.{Disconnect}
+use Rattle.ei_server.specs.declared.connection.Request.TheVariants.{Sync, Disconnect}
 
+-- the opcode
 abbrev pub code_of : Request → ℕ
+code_of (Sync callback) = 0
 code_of Disconnect = 1
 
+-- the arguments: of the callback its id and its version
 abbrev pub values_of : Request → List Value
+values_of (Sync callback) = Long callback.id ∷ Word callback.version ∷ []
 values_of Disconnect = []

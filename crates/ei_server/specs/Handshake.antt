@@ -1,13 +1,22 @@
 -- The requests of `ei_handshake`, by the table of messages.
 use Rattle.std.specs.Prelude.{ℕ, List, [], ◌∷◌}
 use Rattle.ei_spec.specs.Value.{Value, Word, Letters}
+use Rattle.ei_types.specs.Enums.{context_type_number}
 use Rattle.ei_server.specs.declared.handshake.Request.{Request}
-use Rattle.ei_server.specs.declared.handshake.Request.TheVariants.{Finish, InterfaceVersion}
+use Rattle.ei_server.specs.declared.handshake.Request.TheVariants.{HandshakeVersion, Finish, ContextType, Name, InterfaceVersion}
 
+-- the opcode
 abbrev pub code_of : Request → ℕ
+code_of (HandshakeVersion version) = 0
 code_of Finish = 1
+code_of (ContextType context_type) = 2
+code_of (Name name) = 3
 code_of (InterfaceVersion name version) = 4
 
+-- the arguments
 abbrev pub values_of : Request → List Value
+values_of (HandshakeVersion version) = Word version ∷ []
 values_of Finish = []
+values_of (ContextType context_type) = Word (context_type_number context_type) ∷ []
+values_of (Name name) = Letters name ∷ []
 values_of (InterfaceVersion name version) = Letters name ∷ Word version ∷ []

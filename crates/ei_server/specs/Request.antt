@@ -8,6 +8,16 @@ use Rattle.ei_server.specs.declared.request.Request.{Request}
 use Rattle.ei_server.specs.declared.request.Request.TheVariants as request
 use Rattle.ei_server.specs.Handshake as handshake
 use Rattle.ei_server.specs.Connection as connection
+use Rattle.ei_server.specs.Pingpong as pingpong
+use Rattle.ei_server.specs.Seat as seat
+use Rattle.ei_server.specs.Device as device
+use Rattle.ei_server.specs.Pointer as pointer
+use Rattle.ei_server.specs.PointerAbsolute as pointer_absolute
+use Rattle.ei_server.specs.Scroll as scroll
+use Rattle.ei_server.specs.Button as button
+use Rattle.ei_server.specs.Keyboard as keyboard
+use Rattle.ei_server.specs.Touchscreen as touchscreen
+use Rattle.ei_server.specs.Text as text
 
 -- the object as one of the interface
 abbrev pub as_one_of : KnownInterface → ObjectView → ObjectView
@@ -17,11 +27,43 @@ as_one_of interface o = record o { interface = Known interface }
 abbrev pub target_of : Request → ObjectView
 target_of (request.Handshake proxy m) = as_one_of known.Handshake proxy
 target_of (request.Connection proxy m) = as_one_of known.Connection proxy
+target_of (request.Pingpong proxy m) = as_one_of known.Pingpong proxy
+target_of (request.Seat proxy m) = as_one_of known.Seat proxy
+target_of (request.Device proxy m) = as_one_of known.Device proxy
+target_of (request.Pointer proxy m) = as_one_of known.Pointer proxy
+target_of (request.PointerAbsolute proxy m) = as_one_of known.PointerAbsolute proxy
+target_of (request.Scroll proxy m) = as_one_of known.Scroll proxy
+target_of (request.Button proxy m) = as_one_of known.Button proxy
+target_of (request.Keyboard proxy m) = as_one_of known.Keyboard proxy
+target_of (request.Touchscreen proxy m) = as_one_of known.Touchscreen proxy
+target_of (request.Text proxy m) = as_one_of known.Text proxy
 
+-- the opcode
 abbrev pub code_of : Request → ℕ
 code_of (request.Handshake proxy m) = handshake.code_of m
 code_of (request.Connection proxy m) = connection.code_of m
+code_of (request.Pingpong proxy m) = pingpong.code_of m
+code_of (request.Seat proxy m) = seat.code_of m
+code_of (request.Device proxy m) = device.code_of m
+code_of (request.Pointer proxy m) = pointer.code_of m
+code_of (request.PointerAbsolute proxy m) = pointer_absolute.code_of m
+code_of (request.Scroll proxy m) = scroll.code_of m
+code_of (request.Button proxy m) = button.code_of m
+code_of (request.Keyboard proxy m) = keyboard.code_of m
+code_of (request.Touchscreen proxy m) = touchscreen.code_of m
+code_of (request.Text proxy m) = text.code_of m
 
+-- the arguments
 abbrev pub values_of : Request → List Value
 values_of (request.Handshake proxy m) = handshake.values_of m
 values_of (request.Connection proxy m) = connection.values_of m
+values_of (request.Pingpong proxy m) = pingpong.values_of m
+values_of (request.Seat proxy m) = seat.values_of m
+values_of (request.Device proxy m) = device.values_of m
+values_of (request.Pointer proxy m) = pointer.values_of m
+values_of (request.PointerAbsolute proxy m) = pointer_absolute.values_of m
+values_of (request.Scroll proxy m) = scroll.values_of m
+values_of (request.Button proxy m) = button.values_of m
+values_of (request.Keyboard proxy m) = keyboard.values_of m
+values_of (request.Touchscreen proxy m) = touchscreen.values_of m
+values_of (request.Text proxy m) = text.values_of m

@@ -1,23 +1,19 @@
 //! The server's endpoint.
 
-ghost use Rattle.std.specs.Prelude.{◌≡◌, ◌≤◌, ◌<◌, ◌↔◌, ℕ, List, Some, IfOk, OnOk, OnErr, IsErrOf, true, false, length, map};
-ghost use Rattle.ei_spec.specs.Message.{message, size};
-ghost use Rattle.ei_wire.specs.Gives.{value_of_arg};
-ghost use Rattle.ei_wire.specs.declared.error.SendError.TheVariants as send_error;
+ghost use Rattle.std.specs.Prelude.{◌≡◌, ◌≤◌, ℕ, List, Some, IfOk, OnOk, OnErr, IsErrOf, true, false, length};
 ghost use Rattle.ei_wire.specs.declared.error.ReadError.TheVariants as read_error;
 ghost use Rattle.ei_wire.specs.declared.error.FlushError.TheVariants as flush_error;
 ghost use Rattle.ei_backend.specs.declared.outside.LastAnswer.TheVariants as answers;
-ghost use Rattle.ei_backend.specs.Object.{interface_view};
 ghost use Rattle.ei_backend.specs.Outside.{Piece, Rose};
-ghost use Rattle.ei_backend.specs.Table.{found, new_table, first_server_id, own, own_end};
+ghost use Rattle.ei_backend.specs.Table.{found, new_table, first_server_id};
 ghost use Rattle.ei_backend.specs.Outgoing.{StopsAfter, Flushes};
-ghost use Rattle.ei_backend.specs.Backend.{new_backend, ReadsOn, ReadsPiece, Answers, Shortens, next, sent, sent_new, removed, unsent_of, with_unsent};
+ghost use Rattle.ei_backend.specs.Backend.{new_backend, ReadsOn, ReadsPiece, Answers, Shortens, next, unsent_of, with_unsent};
 ghost use Rattle.ei_server.specs.Request.{target_of, code_of, values_of};
 
 use crate::handshake::Handshake;
 use crate::request::Request;
-use ei_backend::{Backend, InterfaceName, Object, PendingRequestResult, Sink, Source};
-use ei_wire::{Arg, FlushError, NoMemory, ReadError, SendError};
+use ei_backend::{Backend, HasBackend, Interface, PendingRequestResult, Sink, Source};
+use ei_wire::{FlushError, NoMemory, ReadError};
 use std::alloc::Global;
 use std::marker::Model;
 
@@ -36,6 +32,26 @@ impl Model for Context {
     ghost coded = { backend_code };
 
     ghost view = { λ c. c.backend };
+}
+
+impl HasBackend for Context {
+    ghost use Rattle.std.specs.Prelude.{refl};
+
+    ghost seen = { λ c. c };
+
+    ghost with_backend = { λ _ b. b };
+
+    ghost seen_with = { λ c b. refl };
+
+    ghost with_seen = { λ c. refl };
+
+    fn backend(&self) -> &Backend {
+        &self.backend
+    }
+
+    fn backend_mut(&mut self) -> &mut Backend {
+        &mut self.backend
+    }
 }
 
 impl Context {
@@ -96,14 +112,19 @@ impl Context {
         self.backend.unread_len()
     }
 
+    /// How many bytes may be unread before the ring that holds them grows.
+    pub fn ring_capacity(&self) -> usize
+        ensures { result ≡ self.now.capacity }
+    {
+        self.backend.ring_capacity()
+    }
+
     /// The handshake; `None` exactly where object 0 isn't there, after the connection was sent.
     pub fn handshake(&self) -> Option<Handshake>
         ensures { result ≡ found self.now.table 0 }
     {
-        match self.backend.object_for_id(0) {
-            Some(object) => Some(Handshake::over(object)),
-            None => None,
-        }
+        let object = self.backend.object_for_id(0)?;
+        Some(Handshake::new_unchecked(object.copy()))
     }
 
     /// The next request that is whole, taken out, if there is one.
@@ -116,52 +137,5 @@ impl Context {
         ensures err { OnErr result (self.new ≡ self.old) }
     {
         self.backend.pending()
-    }
-
-    /// Writes a message behind what waits to be sent, or nothing.
-    pub(crate) fn send(
-        &mut self,
-        object_id: u64,
-        opcode: u32,
-        args: &[Arg<'_>],
-    ) -> Result<(), SendError>
-        ensures ok { OnOk result (self.new ≡ sent self.old object_id opcode (map value_of_arg args.now)) }
-        ensures long { IsErrOf result send_error.MessageTooLong ↔ (1048576 < size (message object_id opcode (map value_of_arg args.now))) }
-        ensures not_exhausted { IsErrOf result send_error.IdsExhausted → ⊥ }
-        ensures err { OnErr result (self.new ≡ self.old) }
-    {
-        self.backend.request(object_id, opcode, args)
-    }
-
-    /// Writes a message that announces the next object of this end, and makes the object, or neither.
-    pub(crate) fn send_new(
-        &mut self,
-        object_id: u64,
-        opcode: u32,
-        args: &[Arg<'_>],
-        interface: InterfaceName,
-        version: u32,
-    ) -> Result<Object, SendError>
-        ensures ok { IfOk result (λ o. (o ≡ own self.old.table (interface_view interface) version) × (self.new ≡ sent_new self.old object_id opcode (map value_of_arg args.now) (interface_view interface) version)) }
-        ensures exhausted { IsErrOf result send_error.IdsExhausted ↔ (own_end self.old.table ≤ self.old.table.next_own) }
-        ensures long { IsErrOf result send_error.MessageTooLong ↔ ((self.old.table.next_own < own_end self.old.table) × (1048576 < size (message object_id opcode (map value_of_arg args.now)))) }
-        ensures err { OnErr result (self.new ≡ self.old) }
-    {
-        self.backend
-            .request_new(object_id, opcode, args, interface, version)
-    }
-
-    /// Takes the object of an id out of the table.
-    pub(crate) fn remove_id(&mut self, id: u64)
-        ensures { self.new ≡ removed self.old id }
-    {
-        self.backend.remove_id(id);
-    }
-
-    /// The id of the next object that this end makes.
-    pub(crate) fn next_id(&self) -> u64
-        ensures { result ≡ self.now.table.next_own }
-    {
-        self.backend.next_id()
     }
 }

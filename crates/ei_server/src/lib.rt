@@ -4,14 +4,39 @@
 //! There is no handshake here and no policy. Begin with `Context` and `Request`.
 #![tactic(auto)]
 
+pub mod button;
+pub mod callback;
 pub mod connection;
 mod context;
+pub mod device;
 pub mod handshake;
+mod interface;
+pub mod keyboard;
+pub mod pingpong;
+pub mod pointer;
+pub mod pointer_absolute;
 mod request;
+pub mod scroll;
 pub mod seat;
+pub mod text;
+pub mod touchscreen;
 
+pub use button::Button;
+pub use callback::Callback;
 pub use connection::Connection;
 pub use context::Context;
+pub use device::Device;
 pub use handshake::Handshake;
+pub use interface::Interface;
+pub use keyboard::Keyboard;
+pub use pingpong::Pingpong;
+pub use pointer::Pointer;
+pub use pointer_absolute::PointerAbsolute;
 pub use request::Request;
+pub use scroll::Scroll;
 pub use seat::Seat;
+pub use text::Text;
+pub use touchscreen::Touchscreen;
+
+#[cfg(test)]
+mod tests;

@@ -5,7 +5,7 @@ use Rattle.std.proofs.lemmas.Bool.{eqb-true}
 use Rattle.ei_spec.specs.declared.interface.KnownInterface.TheVariants as known
 use Rattle.ei_spec.specs.Value.{Value, Text, U32}
 use Rattle.ei_spec.specs.Reading.{Unread, all_at}
-use Rattle.ei_spec.specs.Rows.{row, destructor, row_at, rows}
+use Rattle.ei_spec.specs.Rows.{row, destructor, row_at}
 use Rattle.ei_spec.specs.Table.{table}
 use Rattle.ei_spec.specs.Message.{Raw}
 use Rattle.ei_spec.specs.Stream.{Accepted, Final}
@@ -92,9 +92,9 @@ some_args : (o : Option (List Value)) → is_some o ≡ true → (args : List Va
 some_args None h = absurd cc
 some_args (Some args) h = (args, refl)
 
-row_read : (m : Raw) (j : ℕ) → m.opcode ≡ j → request_args known.Handshake m ≡ row_args (row_at j (rows false known.Handshake)) m
+row_read : (m : Raw) (j : ℕ) → m.opcode ≡ j → request_args known.Handshake m ≡ row_args (row_at j (table false known.Handshake)) m
 unfolding request_args
-row_read m j o = ap (λ (n : ℕ). row_args (row_at n (rows false known.Handshake)) m) o
+row_read m j o = ap (λ (n : ℕ). row_args (row_at n (table false known.Handshake)) m) o
 
 announcing_taken : (setup : Setup) (before : List Raw) (m : Raw) (a : Announced) → object before 0 ≡ Some the_handshake → announced m ≡ Some a → refusal setup before m ≡ None
 unfolding announced
@@ -180,9 +180,9 @@ disconnect_allowed setup before m args o k h =
     ap (refused_at setup before m) k ∙ ap (refused_row setup before m the_connection) r ∙
     rw (disconnect_bare m args h, sync_not m o, no_input_there before m k) refl
 
-connection_read : (m : Raw) (j : ℕ) → m.opcode ≡ j → request_args known.Connection m ≡ row_args (row_at j (rows false known.Connection)) m
+connection_read : (m : Raw) (j : ℕ) → m.opcode ≡ j → request_args known.Connection m ≡ row_args (row_at j (table false known.Connection)) m
 unfolding request_args
-connection_read m j o = ap (λ (n : ℕ). row_args (row_at n (rows false known.Connection)) m) o
+connection_read m j o = ap (λ (n : ℕ). row_args (row_at n (table false known.Connection)) m) o
 
 old_final : (before : List Raw) (m : Raw) (b : Bool) → connected before ≡ b → old_judge before m ≡ Final → (connected before ≡ true) × (is_disconnect_of m ≡ true)
 old_final before m true on h = (on, ended (is_disconnect_of m) refl (sym (judged_after before m on) ∙ h))

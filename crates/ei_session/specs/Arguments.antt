@@ -3,7 +3,8 @@ use Rattle.std.specs.Prelude.{ℕ, Bool, true, false, List, [], ◌∷◌, lengt
 use Rattle.ei_spec.specs.declared.interface.KnownInterface.{KnownInterface}
 use Rattle.ei_spec.specs.Value.{Value}
 use Rattle.ei_spec.specs.Reading.{Unread, Stop, all_at}
-use Rattle.ei_spec.specs.Rows.{Row, rows, row_at, row_named}
+use Rattle.ei_spec.specs.Rows.{Row, row_at, row_named}
+use Rattle.ei_spec.specs.Table.{table}
 use Rattle.ei_spec.specs.Message.{Raw, message}
 
 -- the arguments that are read, where no byte is left behind them
@@ -22,7 +23,7 @@ row_args (Some row) m = whole (all_at row.kinds (body_of m))
 
 -- the arguments of a request to an object of the interface
 unfoldable pub request_args : KnownInterface → Raw → Option (List Value)
-request_args interface m = row_args (row_at m.opcode (rows false interface)) m
+request_args interface m = row_args (row_at m.opcode (table false interface)) m
 
 abbrev pub opcode_of : Option (ℕ × Row) → ℕ
 opcode_of None = 0
@@ -30,4 +31,4 @@ opcode_of (Some row) = row.0
 
 -- the event of that name, sent to an object of the interface
 abbrev pub event : KnownInterface → List ℕ → ℕ → List Value → Raw
-event interface name id values = message id (opcode_of (row_named name (rows true interface))) values
+event interface name id values = message id (opcode_of (row_named name (table true interface))) values

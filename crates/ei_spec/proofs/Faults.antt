@@ -1,13 +1,13 @@
 -- No argument is refused as a header is.
-use Rattle.std.proofs.Common.{◌≡◌, ℕ, ◌+◌, ◌-◌, Bool, true, false, cond, ltb, eqb, List, [], ◌∷◌, length, take, drop, Option, Some, None, Result, Ok, Err, refl, arith}
+use Rattle.std.proofs.Common.{ℕ, ◌+◌, ◌-◌, Bool, true, false, cond, ltb, eqb, List, [], ◌∷◌, length, take, drop, Option, Some, None, Result, Ok, Err}
 use Rattle.std.specs.Prelude.{nat_eq, slice_get, MatchResult}
 use Rattle.std.specs.Int.{Width, w32, w64, byte_len, from_le_bytes, cast_signed}
 use Rattle.std.specs.List.{list_any}
 use Rattle.std.specs.Str.{is_utf8}
 use Rattle.std.specs.Str.Lossy.{utf8_valid_len}
 use Rattle.ei_spec.specs.declared.handle.Handle.{Handle as Descriptor}
-use Rattle.ei_spec.specs.Value.{Kind, U32, I32, U64, I64, Float, Text, Nullable, Handle, New, Choice, Value, Word, Long, Signed, SignedLong, Letters, Null, Fd, padding}
-use Rattle.ei_spec.specs.Reading.{Fault, EndOfMessage, Utf8, InvalidId, NoFd, InvalidOpcode, InvalidVariant, InvalidInterface, HeaderLength, MessageLength, InvalidNull, ◌>>=◌, Unread, Read, number_at, letters_at, text_at, some_text, or_null, choice_at, of_bytes, of_handle, read, utf8, Stop, ◌then◌, stopping, all_at}
+use Rattle.ei_spec.specs.Value.{Kind, U32, I32, U64, I64, Float, Text, Nullable, Handle, New, Choice, Value, Word, Long, Signed, SignedLong, Letters, padding}
+use Rattle.ei_spec.specs.Reading.{Fault, EndOfMessage, Utf8, InvalidVariant, HeaderLength, ◌>>=◌, Unread, number_at, letters_at, text_at, some_text, or_null, choice_at, of_bytes, of_handle, read, utf8, Stop, ◌then◌, stopping, all_at}
 
 -- a fault that isn't the length of a header
 abbrev pub IsNoHeader : Fault → Type 0

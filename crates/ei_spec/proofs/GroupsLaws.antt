@@ -49,6 +49,10 @@ module _ {X Y : Type 0} where
   pub group_more : (device : ℕ) (before : List (Slot X Y)) (slot : Slot X Y) → group device (slot ∷ before) ≡ waits device (group device before) slot.item
   group_more device before slot = group_at device before slot.item slot.serial
 
+  -- by the item of the slot
+  pub group_by : (device : ℕ) (before : List (Slot X Y)) (slot : Slot X Y) (item : Option (Item X Y)) → slot.item ≡ item → group device (slot ∷ before) ≡ waits device (group device before) item
+  group_by device before slot item e = group_more device before slot ∙ ap (waits device (group device before)) e
+
   pub grouped_more : (readings : List ℕ) (before : List (Slot X Y)) (slot : Slot X Y) → grouped readings (slot ∷ before) ≡ grouped readings before ++ gives readings before slot
   unfolding grouped joined
   grouped_more readings before slot = refl

@@ -1,6 +1,7 @@
 pub mod Utf8
 pub mod Again
 pub mod KindLaws
+pub mod EnumLaws
 pub mod RowLaws
 pub mod Numbers
 pub mod FrontLaws

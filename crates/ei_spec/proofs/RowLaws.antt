@@ -1,8 +1,8 @@
 -- What stands for each value of a row is read as these values.
-use Rattle.std.proofs.Common.{◌≡◌, List, [], ◌∷◌, Result, Ok, refl}
+use Rattle.std.proofs.Common.{◌≡◌, List, [], ◌∷◌, Ok, refl}
 use Rattle.ei_spec.specs.Value.{Kind, Value}
-use Rattle.ei_spec.specs.Spelling.{Begins, AllBegin}
-use Rattle.ei_spec.specs.Reading.{Fault, ◌then◌, stopping, Unread, read, all_at}
+use Rattle.ei_spec.specs.Spelling.{AllBegin}
+use Rattle.ei_spec.specs.Reading.{Unread, all_at}
 use Rattle.ei_spec.proofs.Again.{again}
 
 pub all_again : (ks : List Kind) (vs : List Value) (s t : Unread) → AllBegin ks vs s t → all_at ks s ≡ Ok (vs, t)

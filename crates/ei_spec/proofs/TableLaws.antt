@@ -1,37 +1,10 @@
--- The rows that are built are rows of the table, and the table's opcodes and names differ.
-use Rattle.std.proofs.Common.{◌≡◌, ℕ, Bool, true, false, cond, ◌||◌, eqb, List, [], ◌∷◌, length, Some, refl, ap, ◌∙◌, arith}
+-- The table's opcodes and names differ.
+use Rattle.std.proofs.Common.{◌≡◌, ℕ, Bool, true, false, cond, ◌||◌, List, [], ◌∷◌, length, refl, arith}
 use Rattle.std.specs.List.{IsDistinct, AllByRecursion, list_any, range_with_len, Contains}
 use Rattle.std.specs.Str.{bytes_eq}
-use Rattle.std.proofs.lemmas.Bool.{eqb-true}
 use Rattle.ei_spec.specs.declared.interface.KnownInterface.{KnownInterface}
 use Rattle.ei_spec.specs.declared.interface.KnownInterface.TheVariants as known
-use Rattle.ei_spec.specs.Rows.{Row, rows, row_at}
 use Rattle.ei_spec.specs.Table.{table, opcodes, names, the_thirteen}
-
--- each row of the first list is found in the second at its opcode
-abbrev pub AreIn : List (ℕ × Row) → List (ℕ × Row) → Type 0
-AreIn [] all = Unit {0}
-AreIn (r ∷ rs) all = (row_at r.0 all ≡ Some r.1) × AreIn rs all
-
-found_at : (x : ℕ × Row) (rs all : List (ℕ × Row)) (opcode : ℕ) (r : Row) (b : Bool) → row_at x.0 all ≡ Some x.1 →
-    (row_at opcode rs ≡ Some r → row_at opcode all ≡ Some r) → eqb opcode x.0 ≡ b → cond b (Some x.1) (row_at opcode rs) ≡ Some r → row_at opcode all ≡ Some r
-found_at x rs all opcode r true here later e h = ap (λ (n : ℕ). row_at n all) (eqb-true opcode x.0 e) ∙ here ∙ h
-found_at x rs all opcode r false here later e h = later h
-
-pub found : (rs all : List (ℕ × Row)) → AreIn rs all → (opcode : ℕ) (r : Row) → row_at opcode rs ≡ Some r → row_at opcode all ≡ Some r
-found [] all each opcode r h = absurd cc
-found (x ∷ rs) all each opcode r h = found_at x rs all opcode r (eqb opcode x.0) each.0 (found rs all each.1 opcode r) refl h
-
-are_in : (events : Bool) (interface : KnownInterface) → AreIn (rows events interface) (table events interface)
-are_in false known.Handshake = (refl, (refl, tt))
-are_in false known.Connection = (refl, tt)
-are_in true known.Handshake = (refl, (refl, (refl, tt)))
-are_in true known.Connection = (refl, tt)
-are_in true known.Seat = (refl, (refl, (refl, tt)))
-are_in events interface = tt
-
-pub built : (events : Bool) (interface : KnownInterface) (opcode : ℕ) (r : Row) → row_at opcode (rows events interface) ≡ Some r → row_at opcode (table events interface) ≡ Some r
-built events interface = found (rows events interface) (table events interface) (are_in events interface)
 
 pub interfaces : (interface : KnownInterface) → Contains the_thirteen interface
 interfaces known.Handshake = (0, omega arith, refl)

@@ -1,9 +1,9 @@
-use Rattle.std.proofs.Common.{◌≡◌, ℕ, zero, suc, ◌≤◌, Bool, true, false, List, [], ◌∷◌, take, Result, Ok, Err, refl, arith}
+use Rattle.std.proofs.Common.{◌≡◌, ℕ, zero, suc, ◌≤◌, Bool, true, false, List, [], ◌∷◌, take, Ok, Err, refl, arith}
 use Rattle.std.specs.Prelude.{replicate}
 use Rattle.std.specs.Str.{IsUtf8, is_utf8}
 use Rattle.std.specs.Str.Lossy.{utf8_valid_len}
 use Rattle.std.proofs.lemmas.Str.{is_utf8-from_IsUtf8, IsUtf8-from_is_utf8}
-use Rattle.ei_spec.specs.Reading.{Fault, Utf8, utf8}
+use Rattle.ei_spec.specs.Reading.{Utf8, utf8}
 
 pub utf8_if : (bs : List ℕ) → IsUtf8 bs → utf8 bs ≡ Ok bs
 utf8_if bs h = rw (is_utf8-from_IsUtf8 bs h) refl

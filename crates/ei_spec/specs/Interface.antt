@@ -1,5 +1,5 @@
 -- The interfaces: their names, their versions, and objects of them.
-use Rattle.std.specs.Prelude.{◌≡◌, ℕ, Bool, true, false, List, [], ◌∷◌, Option, Some, None, codes, if◌then◌else◌}
+use Rattle.std.specs.Prelude.{ℕ, Bool, List, [], ◌∷◌, Option, Some, None, codes, if◌then◌else◌}
 use Rattle.std.specs.Str.{bytes_eq}
 use Rattle.ei_spec.specs.declared.interface.KnownInterface.{KnownInterface}
 use Rattle.ei_spec.specs.declared.interface.KnownInterface.TheVariants.{Handshake, Connection, Callback, Pingpong, Seat, Device, Pointer, PointerAbsolute, Scroll, Button, Keyboard, Touchscreen, Text}

@@ -1,5 +1,5 @@
 -- The pieces in which bytes and handles come.
-use Rattle.std.specs.Prelude.{ℕ, List, [], ◌∷◌, ◌++◌, length}
+use Rattle.std.specs.Prelude.{ℕ, List, length}
 use Rattle.std.specs.List.{flat_map, sum_by}
 use Rattle.ei_spec.specs.declared.handle.Handle.{Handle}
 

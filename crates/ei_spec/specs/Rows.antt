@@ -1,9 +1,8 @@
--- The table of messages: names, opcodes and arguments, a line for each. Everything else is checked against it.
-use Rattle.std.specs.Prelude.{ℕ, Bool, true, false, List, [], ◌∷◌, Option, Some, None, codes, ◌==◌, if◌then◌else◌}
+-- What a row of the table of messages says, and what is looked up in its rows. The table itself is in `Table`.
+use Rattle.std.specs.Prelude.{ℕ, Bool, true, false, List, [], ◌∷◌, Option, Some, None, ◌==◌, if◌then◌else◌}
 use Rattle.std.specs.Str.{bytes_eq}
-use Rattle.ei_spec.specs.Value.{Kind, U32, I32, U64, I64, Float, Text, Nullable, Handle, New, Choice, Value, Word, Long, Letters}
+use Rattle.ei_spec.specs.Value.{Kind, New, Value, Word, Long, Letters}
 use Rattle.ei_spec.specs.declared.interface.KnownInterface.{KnownInterface}
-use Rattle.ei_spec.specs.declared.interface.KnownInterface.TheVariants as known
 
 -- what a message announces
 pub data Announces : Type 0 where
@@ -30,30 +29,6 @@ announcing name kinds what = record { name = name; kinds = kinds; announces = wh
 -- a destructor that announces too
 abbrev pub handing_over : List ℕ → List Kind → Announces → Row
 handing_over name kinds what = record { name = name; kinds = kinds; announces = what; destroys = true }
-
--- The rows of each interface by opcode: the requests of the client, and where events is true the events of the server.
-abbrev pub rows : Bool → KnownInterface → List (ℕ × Row)
-rows false known.Handshake =
-    (1, row (codes "finish") [])
-    ∷ (4, row (codes "interface_version") (Text ∷ U32 ∷ []))
-    ∷ []
-rows false known.Connection =
-    (1, destructor (codes "disconnect") [])
-    ∷ []
-rows true known.Handshake =
-    (0, row (codes "handshake_version") (U32 ∷ []))
-    ∷ (1, row (codes "interface_version") (Text ∷ U32 ∷ []))
-    ∷ (2, handing_over (codes "connection") (U32 ∷ New ∷ U32 ∷ []) (Fixed known.Connection))
-    ∷ []
-rows true known.Connection =
-    (1, announcing (codes "seat") (New ∷ U32 ∷ []) (Fixed known.Seat))
-    ∷ []
-rows true known.Seat =
-    (1, row (codes "name") (Text ∷ []))
-    ∷ (2, row (codes "capability") (U64 ∷ Text ∷ []))
-    ∷ (3, row (codes "done") [])
-    ∷ []
-rows events k = []
 
 -- the row of an opcode
 abbrev pub row_at : ℕ → List (ℕ × Row) → Option Row

@@ -1,6 +1,6 @@
 -- The messages of a stream, and where and why reading it stops.
-use Rattle.std.specs.Prelude.{◌≡◌, ℕ, zero, suc, ◌-◌, ◌<◌, slice_index, List, [], ◌∷◌, ◌++◌, length, take, drop, nat_lt, if◌then◌else◌}
-use Rattle.ei_spec.specs.Message.{Raw, IsLawful, bytes_of, IsBytes, Front, Short, Unlawful, Whole, front}
+use Rattle.std.specs.Prelude.{◌≡◌, ℕ, zero, suc, List, [], ◌∷◌, ◌++◌, length}
+use Rattle.ei_spec.specs.Message.{Raw, IsLawful, bytes_of, Short, Unlawful, Whole, front}
 
 -- what becomes of a whole message, given the messages before it
 pub data Verdict (E : Type 0) : Type 0 where

@@ -1,4 +1,4 @@
--- The table of all messages of the protocol, a line for each: 36 requests and 48 events. `Rows` has those that are built.
+-- The table of all messages of the protocol, a line for each: 36 requests and 48 events. Everything else is checked against it.
 use Rattle.std.specs.Prelude.{ℕ, Bool, true, false, List, [], ◌∷◌, map, length, codes}
 use Rattle.std.specs.List.{sum_by}
 use Rattle.ei_spec.specs.Value.{Kind, U32, I32, U64, Float, Text, Nullable, Handle, New, Choice}

@@ -1,14 +1,14 @@
 //! The laws of the definitions. Each function does nothing: its clauses are the laws.
 
-ghost use Rattle.std.specs.Prelude.{◌≡◌, ℕ, ◌++◌, List, Bool, true, false, Some, Ok, Err, length};
-ghost use Rattle.std.specs.List.{IsDistinct, range_with_len, Contains};
+ghost use Rattle.std.specs.Prelude.{◌≡◌, ℕ, ◌≤◌, ◌++◌, [], ◌∷◌, ◌==◌, if◌then◌else◌, List, Bool, true, false, Some, None, Ok, Err, length, nat_eq};
+ghost use Rattle.std.specs.List.{IsDistinct, range_with_len, Contains, list_any};
 ghost use Rattle.std.specs.Str.{bytes_eq};
 ghost use Rattle.ei_spec.specs.declared.interface.KnownInterface.{KnownInterface};
-ghost use Rattle.ei_spec.specs.Value.{Kind, Value, IsOf};
-ghost use Rattle.ei_spec.specs.Reading.{Unread, Fault, read, all_at};
+ghost use Rattle.ei_spec.specs.Value.{Kind, U32, Choice, Value, Word, IsOf};
+ghost use Rattle.ei_spec.specs.Reading.{Unread, Fault, InvalidVariant, read, all_at};
 ghost use Rattle.ei_spec.specs.Spelling.{Begins, Follows, AllBegin};
-ghost use Rattle.ei_spec.specs.Rows.{Row, rows, row_at};
 ghost use Rattle.ei_spec.specs.Table.{table, opcodes, names, count, the_thirteen};
+ghost use Rattle.ei_spec.specs.Groups.{Slot, Given, Input, Frame, Other, Free, group, gives, grouped, frames_made};
 ghost use Rattle.ei_spec.specs.Message.{Raw, IsLawful, IsBytes, bytes_of, front, Whole};
 
 /// What is spelled is read, whatever follows it, and what is refused isn't spelled.
@@ -19,6 +19,16 @@ pub fn spelling()
     ensures all { (ks : List Kind) (vs : List Value) (s t : Unread) → AllBegin ks vs s t → all_at ks s ≡ Ok (vs, t) }
 {}
 
+/// A value of an enum is read as its number, and every number that is no value of it is refused by the enum's
+/// name and the number.
+pub fn enums()
+    ensures value { (type_name values : List ℕ) (number : ℕ) (s t : Unread) → list_any (nat_eq number) values ≡ true →
+        read U32 s ≡ Ok (Word number, t) → read (Choice type_name values) s ≡ Ok (Word number, t) }
+    ensures unknown { (type_name values : List ℕ) (number : ℕ) (s t : Unread) → list_any (nat_eq number) values ≡ false →
+        read U32 s ≡ Ok (Word number, t) → read (Choice type_name values) s ≡ Err (InvalidVariant type_name number) }
+    ensures refused { (type_name values : List ℕ) (s : Unread) (f : Fault) → read U32 s ≡ Err f → read (Choice type_name values) s ≡ Err f }
+{}
+
 /// The bytes of a message, and the message at the front of some bytes, are one.
 pub fn messages()
     ensures found { (m : Raw) (rest : List ℕ) → IsLawful m → front (bytes_of m ++ rest) ≡ Whole m rest }
@@ -27,14 +37,36 @@ pub fn messages()
     ensures more { (bytes more : List ℕ) (m : Raw) (rest : List ℕ) → front bytes ≡ Whole m rest → front (bytes ++ more) ≡ Whole m (rest ++ more) }
 {}
 
-/// The rows that are built are rows of the table of all messages. It has 36 requests and 48 events, of each
-/// interface by opcodes from 0 on and by names that differ.
+/// The table of all messages has 36 requests and 48 events, of each interface by opcodes from 0 on and by
+/// names that differ.
 pub fn all_messages()
-    ensures built { (events : Bool) (interface : KnownInterface) (opcode : ℕ) (r : Row) →
-        row_at opcode (rows events interface) ≡ Some r → row_at opcode (table events interface) ≡ Some r }
     ensures interfaces { (interface : KnownInterface) → Contains the_thirteen interface }
     ensures requests { count false ≡ 36 }
     ensures events { count true ≡ 48 }
     ensures opcodes { (events : Bool) (interface : KnownInterface) → opcodes events interface ≡ range_with_len 0 (length (table events interface)) }
     ensures names { (events : Bool) (interface : KnownInterface) → IsDistinct bytes_eq (names events interface) }
+{}
+
+/// What one more position adds to the groups of inputs: `slot` comes behind those before it.
+pub fn groups<X, Y>()
+    ensures more { (readings : List ℕ) (before : List (Slot X Y)) (slot : Slot X Y) →
+        grouped readings (slot ∷ before) ≡ grouped readings before ++ gives readings before slot }
+    ensures prefix { (readings : List ℕ) (more before : List (Slot X Y)) →
+        (rest : List (Given X Y)) × (grouped readings (more ++ before) ≡ grouped readings before ++ rest) }
+    ensures readings { (readings later : List ℕ) (slots : List (Slot X Y)) → frames_made slots ≤ length readings →
+        grouped (readings ++ later) slots ≡ grouped readings slots }
+{}
+
+/// The inputs that wait on a device, after an item of each kind.
+pub fn waiting_inputs<X, Y>()
+    ensures input { (device d : ℕ) (x : X) (before : List (Slot X Y)) (slot : Slot X Y) → slot.item ≡ Some (Input d x) →
+        group device (slot ∷ before) ≡ (if d == device then group device before ++ (x ∷ []) else group device before) }
+    ensures frame { (device d serial time : ℕ) (before : List (Slot X Y)) (slot : Slot X Y) → slot.item ≡ Some (Frame d serial time) →
+        group device (slot ∷ before) ≡ (if d == device then [] else group device before) }
+    ensures other { (device d : ℕ) (y : Y) (before : List (Slot X Y)) (slot : Slot X Y) → slot.item ≡ Some (Other d y) →
+        group device (slot ∷ before) ≡ (if d == device then [] else group device before) }
+    ensures free { (device : ℕ) (y : Y) (before : List (Slot X Y)) (slot : Slot X Y) → slot.item ≡ Some (Free y) →
+        group device (slot ∷ before) ≡ group device before }
+    ensures none { (device : ℕ) (before : List (Slot X Y)) (slot : Slot X Y) → slot.item ≡ None →
+        group device (slot ∷ before) ≡ group device before }
 {}

@@ -11,4 +11,4 @@ mod laws;
 
 pub use handle::Handle;
 pub use interface::KnownInterface;
-pub use laws::{all_messages, messages, spelling};
+pub use laws::{all_messages, enums, groups, messages, spelling, waiting_inputs};

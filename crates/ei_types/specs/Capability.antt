@@ -1,5 +1,5 @@
 -- Capabilities: their bits, their interfaces, and sets of them as numbers.
-use Rattle.std.specs.Prelude.{ℕ, ◌/◌, ◌%◌, ◌==◌, Bool, List, [], ◌∷◌, Option, Some, None, option_and_then}
+use Rattle.std.specs.Prelude.{ℕ, ◌/◌, ◌%◌, ◌==◌, Bool, List, [], ◌∷◌, Option, Some, None, option_and_then, IsTrue}
 use Rattle.ei_spec.specs.declared.interface.KnownInterface.{KnownInterface}
 use Rattle.ei_spec.specs.declared.interface.KnownInterface.TheVariants as known
 use Rattle.ei_spec.specs.Interface.{name_of, known_of}
@@ -75,3 +75,11 @@ all_bits = 127
 -- whether a set of these bits has this bit
 abbrev pub has_bit : ℕ → ℕ → Bool
 has_bit mask bit = mask / bit % 2 == 1
+
+-- whether a set has a capability
+abbrev pub holds : DeviceCapabilities → DeviceCapability → Bool
+holds set one = has_bit (bits_of set) (bit_of one)
+
+-- a set has each capability of another
+abbrev pub HoldsEach : DeviceCapabilities → DeviceCapabilities → Type 0
+HoldsEach set other = (one : DeviceCapability) → IsTrue (holds other one) → IsTrue (holds set one)

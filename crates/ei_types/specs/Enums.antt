@@ -1,5 +1,5 @@
--- The numbers of the enums on the wire.
-use Rattle.std.specs.Prelude.{ℕ}
+-- The numbers of the enums on the wire, and their names: that of the type, and that of the value.
+use Rattle.std.specs.Prelude.{ℕ, List, codes}
 use Rattle.ei_types.specs.declared.enums.ContextType.{ContextType}
 use Rattle.ei_types.specs.declared.enums.ContextType.TheVariants as context
 use Rattle.ei_types.specs.declared.enums.DisconnectReason.{DisconnectReason}
@@ -45,3 +45,36 @@ key_state_number key.Press = 1
 -- the number of a form of keymaps
 abbrev pub keymap_type_number : KeymapType → ℕ
 keymap_type_number keymap.Xkb = 1
+
+-- the names of a context type
+abbrev pub context_type_names : ContextType → List ℕ × List ℕ
+context_type_names context.Receiver = (codes "context_type", codes "receiver")
+context_type_names context.Sender = (codes "context_type", codes "sender")
+
+-- the names of a reason to end a connection
+abbrev pub disconnect_reason_names : DisconnectReason → List ℕ × List ℕ
+disconnect_reason_names reason.Disconnected = (codes "disconnect_reason", codes "disconnected")
+disconnect_reason_names reason.Error = (codes "disconnect_reason", codes "error")
+disconnect_reason_names reason.Mode = (codes "disconnect_reason", codes "mode")
+disconnect_reason_names reason.Protocol = (codes "disconnect_reason", codes "protocol")
+disconnect_reason_names reason.Value = (codes "disconnect_reason", codes "value")
+disconnect_reason_names reason.Transport = (codes "disconnect_reason", codes "transport")
+
+-- the names of a device type
+abbrev pub device_type_names : DeviceType → List ℕ × List ℕ
+device_type_names device.Virtual = (codes "device_type", codes "virtual")
+device_type_names device.Physical = (codes "device_type", codes "physical")
+
+-- the names of a state of a button
+abbrev pub button_state_names : ButtonState → List ℕ × List ℕ
+button_state_names button.Released = (codes "button_state", codes "released")
+button_state_names button.Press = (codes "button_state", codes "press")
+
+-- the names of a state of a key
+abbrev pub key_state_names : KeyState → List ℕ × List ℕ
+key_state_names key.Released = (codes "key_state", codes "released")
+key_state_names key.Press = (codes "key_state", codes "press")
+
+-- the names of a form of keymaps
+abbrev pub keymap_type_names : KeymapType → List ℕ × List ℕ
+keymap_type_names keymap.Xkb = (codes "keymap_type", codes "xkb")

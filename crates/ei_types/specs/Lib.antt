@@ -1,5 +1,6 @@
 pub mod Enums
 pub mod Capability
 pub mod Twelve
+pub mod Operations
 pub mod Errors
 pub mod Texts

@@ -1,8 +1,8 @@
 //! Capabilities of devices.
 
-ghost use Rattle.std.specs.Prelude.{⊤, ◌≡◌, ◌==◌, ◌≤◌, ◌↔◌, [], ◌∷◌, codes, Some, IfSome, IsSome, slice_get};
+ghost use Rattle.std.specs.Prelude.{⊤, ◌≡◌, true, false, ◌||◌, IsTrue, ◌==◌, ◌≤◌, ◌↔◌, [], ◌∷◌, codes, Some, IfSome, IsSome, slice_get};
 ghost use Rattle.std.specs.Int.RustNames.{bit_and, bit_or};
-ghost use Rattle.ei_types.specs.Capability.{all_bits, bit_of, bits_of, capabilities, capability_list, capability_named, has_bit, index_of, interface_name_of, interface_of};
+ghost use Rattle.ei_types.specs.Capability.{all_bits, bit_of, bits_of, capabilities, capability_list, capability_named, has_bit, holds, HoldsEach, index_of, interface_name_of, interface_of};
 
 use bitflags::{Flag, Flags, bitflag_items};
 use ei_spec::KnownInterface;
@@ -148,7 +148,8 @@ impl Flags for DeviceCapabilities {
 impl DeviceCapabilities {
     /// The set without a capability.
     pub fn empty() -> DeviceCapabilities
-        ensures { bits_of result ≡ 0 }
+        ensures value { bits_of result ≡ 0 }
+        ensures none { (one : DeviceCapability) → holds result one ≡ false }
     {
         <DeviceCapabilities as Flags>::empty()
     }
@@ -156,7 +157,8 @@ impl DeviceCapabilities {
     /// The set of all seven.
     #[tactic(auto, unfolding(bitflags::specs::Sets::known_from))]
     pub fn all() -> DeviceCapabilities
-        ensures { bits_of result ≡ all_bits }
+        ensures value { bits_of result ≡ all_bits }
+        ensures each { (one : DeviceCapability) → holds result one ≡ true }
     {
         <DeviceCapabilities as Flags>::all()
     }
@@ -178,15 +180,21 @@ impl DeviceCapabilities {
     }
 
     /// Whether the set has each capability of the other.
+    #[tactic(auto, using(crate::proofs::Masks::contained, crate::proofs::Masks::contains_known))]
     pub fn contains(&self, other: DeviceCapabilities) -> bool
-        ensures { result ≡ (bit_and (bits_of self.now) (bits_of other) == bits_of other) }
+        ensures value { result ≡ (bit_and (bits_of self.now) (bits_of other) == bits_of other) }
+        ensures each { IsTrue result → HoldsEach self.now other }
+        ensures known { bits_of other ≤ all_bits → HoldsEach self.now other → IsTrue result }
     {
         Flags::contains(self, other)
     }
 
     /// The capabilities of both sets together.
+    #[tactic(auto, using(crate::proofs::Masks::union_has, crate::proofs::Masks::union_known))]
     pub fn union(self, other: DeviceCapabilities) -> DeviceCapabilities
-        ensures { bits_of result ≡ bit_or (bits_of self) (bits_of other) }
+        ensures value { bits_of result ≡ bit_or (bits_of self) (bits_of other) }
+        ensures each { (one : DeviceCapability) → holds result one ≡ (holds self one || holds other one) }
+        ensures known { bits_of self ≤ all_bits → bits_of other ≤ all_bits → bits_of result ≤ all_bits }
     {
         Flags::union(self, other)
     }

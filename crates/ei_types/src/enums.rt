@@ -1,8 +1,10 @@
 //! The enums that messages bear. An enum is its number on the wire.
 
-ghost use Rattle.std.specs.Prelude.{◌≡◌, [], ◌∷◌, codes};
-ghost use Rattle.ei_spec.specs.Value.{Choice, Word};
+ghost use Rattle.std.specs.Prelude.{◌≡◌, Some};
+ghost use Rattle.ei_spec.specs.Value.{Word};
+ghost use Rattle.ei_spec.specs.Table.{button_state, context_type, device_type, disconnect_reason, key_state, keymap_type};
 ghost use Rattle.ei_types.specs.Enums.{button_state_number, context_type_number, device_type_number, disconnect_reason_number, key_state_number, keymap_type_number};
+ghost use Rattle.ei_types.specs.Enums.{button_state_names, context_type_names, device_type_names, disconnect_reason_names, key_state_names, keymap_type_names};
 
 use ei_wire::{Arg, ByteStream, OwnedArg, ParseError};
 
@@ -27,9 +29,11 @@ impl From<ContextType> for u32 {
 }
 
 impl OwnedArg for ContextType {
-    ghost kind = { Choice (codes "ContextType") (1 ∷ 2 ∷ []) };
+    ghost kind = { context_type };
 
     ghost value = { λ kind. Word (context_type_number kind) };
+
+    ghost names = { λ kind. Some (context_type_names kind) };
 
     fn parse(stream: &mut ByteStream<'_>) -> Result<ContextType, ParseError> {
         let number = stream.choice("ContextType", &[1, 2])?;
@@ -42,6 +46,14 @@ impl OwnedArg for ContextType {
 
     fn as_arg(&self) -> Arg<'_> {
         Arg::Uint32(u32::from(*self))
+    }
+
+    fn enum_name(&self) -> Option<(&'static str, &'static str)> {
+        let value = match self {
+            ContextType::Receiver => "receiver",
+            ContextType::Sender => "sender",
+        };
+        Some(("context_type", value))
     }
 }
 
@@ -78,9 +90,11 @@ impl From<DisconnectReason> for u32 {
 }
 
 impl OwnedArg for DisconnectReason {
-    ghost kind = { Choice (codes "DisconnectReason") (0 ∷ 1 ∷ 2 ∷ 3 ∷ 4 ∷ 5 ∷ []) };
+    ghost kind = { disconnect_reason };
 
     ghost value = { λ reason. Word (disconnect_reason_number reason) };
+
+    ghost names = { λ reason. Some (disconnect_reason_names reason) };
 
     fn parse(stream: &mut ByteStream<'_>) -> Result<DisconnectReason, ParseError> {
         match stream.choice("DisconnectReason", &[0, 1, 2, 3, 4, 5])? {
@@ -95,6 +109,18 @@ impl OwnedArg for DisconnectReason {
 
     fn as_arg(&self) -> Arg<'_> {
         Arg::Uint32(u32::from(*self))
+    }
+
+    fn enum_name(&self) -> Option<(&'static str, &'static str)> {
+        let value = match self {
+            DisconnectReason::Disconnected => "disconnected",
+            DisconnectReason::Error => "error",
+            DisconnectReason::Mode => "mode",
+            DisconnectReason::Protocol => "protocol",
+            DisconnectReason::Value => "value",
+            DisconnectReason::Transport => "transport",
+        };
+        Some(("disconnect_reason", value))
     }
 }
 
@@ -119,9 +145,11 @@ impl From<DeviceType> for u32 {
 }
 
 impl OwnedArg for DeviceType {
-    ghost kind = { Choice (codes "DeviceType") (1 ∷ 2 ∷ []) };
+    ghost kind = { device_type };
 
     ghost value = { λ kind. Word (device_type_number kind) };
+
+    ghost names = { λ kind. Some (device_type_names kind) };
 
     fn parse(stream: &mut ByteStream<'_>) -> Result<DeviceType, ParseError> {
         let number = stream.choice("DeviceType", &[1, 2])?;
@@ -134,6 +162,14 @@ impl OwnedArg for DeviceType {
 
     fn as_arg(&self) -> Arg<'_> {
         Arg::Uint32(u32::from(*self))
+    }
+
+    fn enum_name(&self) -> Option<(&'static str, &'static str)> {
+        let value = match self {
+            DeviceType::Virtual => "virtual",
+            DeviceType::Physical => "physical",
+        };
+        Some(("device_type", value))
     }
 }
 
@@ -158,9 +194,11 @@ impl From<ButtonState> for u32 {
 }
 
 impl OwnedArg for ButtonState {
-    ghost kind = { Choice (codes "ButtonState") (0 ∷ 1 ∷ []) };
+    ghost kind = { button_state };
 
     ghost value = { λ state. Word (button_state_number state) };
+
+    ghost names = { λ state. Some (button_state_names state) };
 
     fn parse(stream: &mut ByteStream<'_>) -> Result<ButtonState, ParseError> {
         let number = stream.choice("ButtonState", &[0, 1])?;
@@ -173,6 +211,14 @@ impl OwnedArg for ButtonState {
 
     fn as_arg(&self) -> Arg<'_> {
         Arg::Uint32(u32::from(*self))
+    }
+
+    fn enum_name(&self) -> Option<(&'static str, &'static str)> {
+        let value = match self {
+            ButtonState::Released => "released",
+            ButtonState::Press => "press",
+        };
+        Some(("button_state", value))
     }
 }
 
@@ -197,9 +243,11 @@ impl From<KeyState> for u32 {
 }
 
 impl OwnedArg for KeyState {
-    ghost kind = { Choice (codes "KeyState") (0 ∷ 1 ∷ []) };
+    ghost kind = { key_state };
 
     ghost value = { λ state. Word (key_state_number state) };
+
+    ghost names = { λ state. Some (key_state_names state) };
 
     fn parse(stream: &mut ByteStream<'_>) -> Result<KeyState, ParseError> {
         let number = stream.choice("KeyState", &[0, 1])?;
@@ -212,6 +260,14 @@ impl OwnedArg for KeyState {
 
     fn as_arg(&self) -> Arg<'_> {
         Arg::Uint32(u32::from(*self))
+    }
+
+    fn enum_name(&self) -> Option<(&'static str, &'static str)> {
+        let value = match self {
+            KeyState::Released => "released",
+            KeyState::Press => "press",
+        };
+        Some(("key_state", value))
     }
 }
 
@@ -233,9 +289,11 @@ impl From<KeymapType> for u32 {
 }
 
 impl OwnedArg for KeymapType {
-    ghost kind = { Choice (codes "KeymapType") (1 ∷ []) };
+    ghost kind = { keymap_type };
 
     ghost value = { λ kind. Word (keymap_type_number kind) };
+
+    ghost names = { λ kind. Some (keymap_type_names kind) };
 
     fn parse(stream: &mut ByteStream<'_>) -> Result<KeymapType, ParseError> {
         let _number = stream.choice("KeymapType", &[1])?;
@@ -244,5 +302,12 @@ impl OwnedArg for KeymapType {
 
     fn as_arg(&self) -> Arg<'_> {
         Arg::Uint32(u32::from(*self))
+    }
+
+    fn enum_name(&self) -> Option<(&'static str, &'static str)> {
+        let value = match self {
+            KeymapType::Xkb => "xkb",
+        };
+        Some(("keymap_type", value))
     }
 }

@@ -54,7 +54,7 @@ pub enum HandshakeError {
 }
 
 /// Why a session stops.
-#[derive(Debug, Drop)]
+#[derive(Debug, Drop, PartialEq, Eq)]
 pub enum Error {
     /// A handshake message came after the handshake.
     UnexpectedHandshakeEvent,

@@ -7,11 +7,13 @@
 mod capability;
 mod enums;
 mod error;
+mod operation;
 mod twelve;
 
 pub use capability::{DeviceCapabilities, DeviceCapability};
 pub use enums::{ButtonState, ContextType, DeviceType, DisconnectReason, KeyState, KeymapType};
 pub use error::{Error, EventError, HandshakeError, RequestError};
+pub use operation::op_name;
 pub use twelve::{interfaces, known_interfaces};
 
 #[cfg(test)]

@@ -1,5 +1,6 @@
 pub mod ArgText
 pub mod Gives
 pub mod Header
+pub mod Kinds
 pub mod Spellings
 pub mod Texts

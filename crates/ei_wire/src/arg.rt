@@ -1,8 +1,10 @@
 //! Arguments.
 
-ghost use Rattle.std.specs.Prelude.{◌≡◌, ℕ, List, ◌++◌, ◌≤◌, ◌<◌, ◌^◌, replicate, length, vec_len, vec_capacity, ◌+◌, IfErr, OnOk, OnErr, Ok, Err, Some, None, IsTrue, codes, [], ◌∷◌};
+ghost use Rattle.std.specs.Prelude.{◌≡◌, ℕ, List, ◌++◌, ◌≤◌, ◌<◌, ◌^◌, replicate, length, vec_len, vec_capacity, ◌+◌, IfErr, IsOk, OnOk, OnErr, Ok, Err, Some, None, IsTrue, IsSome, Option, ◌↔◌, codes, [], ◌∷◌};
+ghost use Rattle.std.specs.Option.{option_map};
 ghost use Rattle.ei_spec.specs.Value.{Kind, U32, I32, U64, I64, Float, Text, Nullable, Handle as HandleKind, Choice, Value, Word, Long, Signed, SignedLong, Letters, Fd, written, handles_of, IsOf, HasSpelling, text_bytes};
 ghost use Rattle.ei_wire.specs.Gives.{Gives, MayStop, value_of_arg};
+ghost use Rattle.ei_wire.specs.Kinds.{IsArgOf, IsEnum};
 ghost use Rattle.ei_spec.specs.Reading.{read, or_null, Unread, Fault};
 ghost use Rattle.ei_spec.specs.Spelling.{Begins, Follows};
 ghost use Rattle.ei_spec.specs.Message.{IsBytes};
@@ -64,6 +66,10 @@ impl Arg<'_> {
         ensures handles { OnOk result (handles.new.items ≡ handles.old.items ++ handles_of (value_of_arg self.now)) }
         ensures err { OnErr result (buf.new.items ≡ buf.old.items) }
         ensures err_handles { OnErr result (handles.new.items ≡ handles.old.items) }
+        // a refusal comes only where room was missing, and no room is lost
+        ensures succeeds { vec_len buf.old + length (written (value_of_arg self.now)) ≤ vec_capacity buf.old → vec_len handles.old + length (handles_of (value_of_arg self.now)) ≤ vec_capacity handles.old → IsOk result }
+        ensures capacity { vec_capacity buf.old ≤ vec_capacity buf.new }
+        ensures handle_capacity { vec_capacity handles.old ≤ vec_capacity handles.new }
     {
         match self {
             Arg::Uint32(value) | Arg::Float(value) => buf.extend_from_slice(&value.to_le_bytes())?,
@@ -85,6 +91,8 @@ fn write_text(buf: &mut Vec<u8>, text: &str) -> Result<(), NoMemory>
     requires { length text.now ≤ 4294967294 }
     ensures ok { OnOk result (buf.new.items ≡ buf.old.items ++ text_bytes text.now) }
     ensures err { OnErr result (buf.new.items ≡ buf.old.items) }
+    ensures succeeds { vec_len buf.old + length (text_bytes text.now) ≤ vec_capacity buf.old → IsOk result }
+    ensures capacity { vec_capacity buf.old ≤ vec_capacity buf.new }
 {
     let len = text.len() as u32 + 1;
     let zeros = 1 + (4 - len % 4) % 4;
@@ -99,6 +107,7 @@ fn push_zeros(buf: &mut Vec<u8>, count: u32) -> Result<(), NoMemory>
     requires { count ≤ 4 }
     ensures ok { OnOk result (buf.new.items ≡ buf.old.items ++ replicate count 0) }
     ensures full { OnErr result (vec_capacity buf.old < vec_len buf.old + count) }
+    ensures capacity { vec_capacity buf.old ≤ vec_capacity buf.new }
 {
     let zeros = [0u8; 4];
     buf.extend_from_slice(&zeros[..count as usize])?;
@@ -113,6 +122,9 @@ pub trait OwnedArg: Sized {
     /// The value, apart from how it is kept.
     ghost value: { Self → Value };
 
+    /// Of an enum the name of its type and that of the value, as bytes; else none.
+    ghost names: { Self → Option (List ℕ × List ℕ) };
+
     /// Takes the value at the front.
     fn parse(stream: &mut ByteStream<'_>) -> Result<Self, ParseError>
         ensures read { Gives (λ x. (value x, stream.new)) result (read kind stream.old) }
@@ -122,13 +134,21 @@ pub trait OwnedArg: Sized {
     /// The value as an argument to be written.
     fn as_arg(&self) -> Arg<'_>
         ensures value { value_of_arg result ≡ value self.now }
-        ensures kind { IsOf kind (value self.now) };
+        ensures kind { IsOf kind (value self.now) }
+        ensures variant { IsArgOf kind result };
+
+    /// For an enum the name of its type and that of the value, as `key_state` and `press`; else `None`.
+    fn enum_name(&self) -> Option<(&'static str, &'static str)>
+        ensures names { option_map (λ pair. (pair.0.now, pair.1.now)) result ≡ names self.now }
+        ensures enums { IsSome result ↔ IsEnum kind };
 }
 
 impl OwnedArg for u32 {
     ghost kind = { U32 };
 
     ghost value = { Word };
+
+    ghost names = { λ _. None };
 
     fn parse(stream: &mut ByteStream<'_>) -> Result<u32, ParseError> {
         stream.word()
@@ -137,12 +157,18 @@ impl OwnedArg for u32 {
     fn as_arg(&self) -> Arg<'_> {
         Arg::Uint32(*self)
     }
+
+    fn enum_name(&self) -> Option<(&'static str, &'static str)> {
+        None
+    }
 }
 
 impl OwnedArg for i32 {
     ghost kind = { I32 };
 
     ghost value = { Signed };
+
+    ghost names = { λ _. None };
 
     fn parse(stream: &mut ByteStream<'_>) -> Result<i32, ParseError> {
         Ok(stream.word()?.cast_signed())
@@ -151,12 +177,18 @@ impl OwnedArg for i32 {
     fn as_arg(&self) -> Arg<'_> {
         Arg::Int32(*self)
     }
+
+    fn enum_name(&self) -> Option<(&'static str, &'static str)> {
+        None
+    }
 }
 
 impl OwnedArg for u64 {
     ghost kind = { U64 };
 
     ghost value = { Long };
+
+    ghost names = { λ _. None };
 
     fn parse(stream: &mut ByteStream<'_>) -> Result<u64, ParseError> {
         stream.long()
@@ -165,12 +197,18 @@ impl OwnedArg for u64 {
     fn as_arg(&self) -> Arg<'_> {
         Arg::Uint64(*self)
     }
+
+    fn enum_name(&self) -> Option<(&'static str, &'static str)> {
+        None
+    }
 }
 
 impl OwnedArg for i64 {
     ghost kind = { I64 };
 
     ghost value = { SignedLong };
+
+    ghost names = { λ _. None };
 
     fn parse(stream: &mut ByteStream<'_>) -> Result<i64, ParseError> {
         Ok(stream.long()?.cast_signed())
@@ -179,12 +217,18 @@ impl OwnedArg for i64 {
     fn as_arg(&self) -> Arg<'_> {
         Arg::Int64(*self)
     }
+
+    fn enum_name(&self) -> Option<(&'static str, &'static str)> {
+        None
+    }
 }
 
 impl OwnedArg for RawFloat {
     ghost kind = { Float };
 
     ghost value = { λ x. Word x.0 };
+
+    ghost names = { λ _. None };
 
     fn parse(stream: &mut ByteStream<'_>) -> Result<RawFloat, ParseError> {
         Ok(RawFloat(stream.word()?))
@@ -193,12 +237,18 @@ impl OwnedArg for RawFloat {
     fn as_arg(&self) -> Arg<'_> {
         Arg::Float((*self).word())
     }
+
+    fn enum_name(&self) -> Option<(&'static str, &'static str)> {
+        None
+    }
 }
 
 impl OwnedArg for Handle {
     ghost kind = { HandleKind };
 
     ghost value = { Fd };
+
+    ghost names = { λ _. None };
 
     fn parse(stream: &mut ByteStream<'_>) -> Result<Handle, ParseError> {
         stream.handle()
@@ -207,12 +257,18 @@ impl OwnedArg for Handle {
     fn as_arg(&self) -> Arg<'_> {
         Arg::Fd(*self)
     }
+
+    fn enum_name(&self) -> Option<(&'static str, &'static str)> {
+        None
+    }
 }
 
 impl OwnedArg for Option<EiText> {
     ghost kind = { Nullable };
 
     ghost value = { or_null };
+
+    ghost names = { λ _. None };
 
     fn parse(stream: &mut ByteStream<'_>) -> Result<Option<EiText>, ParseError> {
         stream.text()
@@ -225,12 +281,18 @@ impl OwnedArg for Option<EiText> {
             Some(text) => Arg::String(Some(text.as_str())),
         }
     }
+
+    fn enum_name(&self) -> Option<(&'static str, &'static str)> {
+        None
+    }
 }
 
 impl OwnedArg for EiText {
     ghost kind = { Text };
 
     ghost value = { Letters };
+
+    ghost names = { λ _. None };
 
     fn parse(stream: &mut ByteStream<'_>) -> Result<EiText, ParseError> {
         stream.whole_text()
@@ -239,6 +301,10 @@ impl OwnedArg for EiText {
     #[tactic(auto, using(ei_spec::proofs::Utf8::is_text))]
     fn as_arg(&self) -> Arg<'_> {
         Arg::String(Some(self.as_str()))
+    }
+
+    fn enum_name(&self) -> Option<(&'static str, &'static str)> {
+        None
     }
 }
 

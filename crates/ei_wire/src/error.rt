@@ -141,6 +141,14 @@ impl From<NoMemory> for ParseError {
     }
 }
 
+impl From<AllocError> for ParseError {
+    ghost from_gives = { λ _ e. e ≡ error.NoMemory };
+
+    fn from(_e: AllocError) -> ParseError {
+        ParseError::NoMemory
+    }
+}
+
 impl<T: Drop> From<AllocFailed<T>> for ParseError {
     ghost from_gives = { λ _ e. e ≡ error.NoMemory };
 

@@ -10,9 +10,9 @@ pub loop-interface-preserved : goal.loop-interface-preserved
 loop-interface-preserved c =
     let size = ap length c.known_interfaces-interfaces.ensures in
     c.in_ok-send_if_settled.ensures.ok ∙ sends_more _ _ _ _ c.loop-interface.invariant
-    ∙ ap (sends c.args.ctx.now) (sym (settled_pairs_more c.args.handshake.id (settled_in c.args.versions.now) c.known_interfaces-interfaces.result c.loop-interface.interface-index _ (omega (arith, size, c.loop-interface-test.true))))
+    ∙ ap (sends c.args.ctx.now) (sym (settled_pairs_more c.args.handshake.now.id (settled_in c.args.versions.now) c.known_interfaces-interfaces.result c.loop-interface.interface-index _ (omega (arith, size, c.loop-interface-test.true))))
 
 pub returns-clause-ok : goal.returns-clause-ok
 returns-clause-ok c =
     c.loop-interface.invariant
-    ∙ ap (sends c.args.ctx.now) (settled_pairs_whole c.args.handshake.id (settled_in c.args.versions.now) c.known_interfaces-interfaces.result c.loop-interface.interface-index c.known_interfaces-interfaces.ensures c.loop-interface-test.false)
+    ∙ ap (sends c.args.ctx.now) (settled_pairs_whole c.args.handshake.now.id (settled_in c.args.versions.now) c.known_interfaces-interfaces.result c.loop-interface.interface-index c.known_interfaces-interfaces.ensures c.loop-interface-test.false)

@@ -1,6 +1,6 @@
 use Rattle.std.proofs.Common.{refl}
-use Rattle.ei_spec.proofs.TableLaws.{built, interfaces, in_order, names_differ}
+use Rattle.ei_spec.proofs.TableLaws.{interfaces, in_order, names_differ}
 use Rattle.ei_spec.proofs.laws.all_messages.Goals as goal
 
 pub returns : goal.returns
-returns c = record { built = built; interfaces = interfaces; requests = refl; events = refl; opcodes = in_order; names = names_differ }
+returns c = record { interfaces = interfaces; requests = refl; events = refl; opcodes = in_order; names = names_differ }

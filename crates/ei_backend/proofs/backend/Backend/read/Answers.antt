@@ -1,5 +1,5 @@
 use Rattle.ei_backend.specs.Backend.{BackendView}
-use Rattle.ei_backend.proofs.ReadingOn.{reads_piece}
+use Rattle.ei_backend.proofs.ReadingOn.{reads_on, reads_piece}
 use Rattle.ei_backend.proofs.backend.Backend.read.Goals as goal
 
 pub returns-clause-told : goal.returns-clause-told
@@ -8,8 +8,24 @@ returns-clause-told g c = λ is_open pieces told.
       table = c.self.inside.table;
       unread = c.self.inside.incoming.bytes;
       handles = c.self.inside.incoming.handles;
-      unsent = c.self.inside.outgoing.bytes;
-      unsent_handles = c.self.inside.outgoing.handles;
+      unsent = c.self.inside.outgoing.waiting.bytes;
+      unsent_handles = c.self.inside.outgoing.waiting.handles;
       closed = c.self.inside.closed;
+      capacity = c.self.inside.incoming.capacity;
+      room = c.self.inside.outgoing.room;
     } in
     rw (← c.self.view_is) (reads_piece pieces _ c.read-answer.result b c.read-answer.new.self c.is_limit-self-inside.result c.if-self.false (c.read-answer.ensures.told pieces told) c.is_limit-self-inside.ensures)
+
+pub returns-clause-reads : goal.returns-clause-reads
+returns-clause-reads g c = λ is_open.
+    let b : BackendView = record {
+      table = c.self.inside.table;
+      unread = c.self.inside.incoming.bytes;
+      handles = c.self.inside.incoming.handles;
+      unsent = c.self.inside.outgoing.waiting.bytes;
+      unsent_handles = c.self.inside.outgoing.waiting.handles;
+      closed = c.self.inside.closed;
+      capacity = c.self.inside.incoming.capacity;
+      room = c.self.inside.outgoing.room;
+    } in
+    rw (← c.self.view_is) (reads_on c.read-answer.result b c.read-answer.new.self c.is_limit-self-inside.result c.if-self.false c.read-answer.ensures.reads c.is_limit-self-inside.ensures)

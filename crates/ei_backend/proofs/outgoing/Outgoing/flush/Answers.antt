@@ -8,7 +8,7 @@ returns-clause-stops g c =
     let old : Piece = record { bytes = c.self.inside.bytes.items; handles = c.self.inside.handles.items } in
     let within : c.put_all-done.result.0 ≤ length old.bytes = rw (← c.deref.ensures.value) c.put_all-done.ensures.within in
     let all : OnOk c.put_all-done.result.1 (c.put_all-done.result.0 ≡ length old.bytes) = rw (← c.deref.ensures.value) c.put_all-done.ensures.ok in
-    rw (← c.self.view_is) (stops_after old c.put_all-done.result.0 c.put_all-done.result.1 _ _ c.self.invariant within all c.drop_front.ensures c.drop_beside.ensures)
+    rw (← c.self.view_is) (stops_after old c.put_all-done.result.0 c.put_all-done.result.1 _ _ c.self.invariant.has_bytes within all c.drop_front.ensures.items c.drop_beside.ensures.items)
 
 pub returns-clause-took : goal.returns-clause-took
 returns-clause-took g c = λ held told.
@@ -16,5 +16,5 @@ returns-clause-took g c = λ held told.
     let within : c.put_all-done.result.0 ≤ length old.bytes = rw (← c.deref.ensures.value) c.put_all-done.ensures.within in
     let all : OnOk c.put_all-done.result.1 (c.put_all-done.result.0 ≡ length old.bytes) = rw (← c.deref.ensures.value) c.put_all-done.ensures.ok in
     let took = c.put_all-done.ensures.took held told in
-    rw (← c.self.view_is) (flushes held old c.put_all-done.result.0 c.put_all-done.result.1 _ _ _ c.self.invariant within all c.drop_front.ensures c.drop_beside.ensures
+    rw (← c.self.view_is) (flushes held old c.put_all-done.result.0 c.put_all-done.result.1 _ _ _ c.self.invariant.has_bytes within all c.drop_front.ensures.items c.drop_beside.ensures.items
     (rw (← c.deref.ensures.value, ← c.deref-2.ensures.value) took))

@@ -1,9 +1,15 @@
-use Rattle.std.proofs.Common.{◌≡◌, ◌≤◌, ◌<◌, ap, sym, ◌∙◌, arith}
-use Rattle.ei_backend.specs.Table.{TableView, peer_end}
-use Rattle.ei_backend.proofs.Objects.{one_given, accepted}
+use Rattle.std.proofs.Common.{◌≡◌, ◌++◌, ◌∷◌, [], ap, sym, ◌∙◌, arith}
+use Rattle.ei_spec.specs.Interface.{ObjectView}
+use Rattle.ei_backend.specs.Table.{peer_end}
+use Rattle.ei_backend.proofs.OwnAndPeer.{peer_given, peer_stands}
 use Rattle.ei_backend.proofs.table.Table.new_peer_object.Goals as goal
 
 pub returns-clause-read : goal.returns-clause-read
 returns-clause-read c =
-    let made = one_given c.self.inside.objects.entries c.insert.new.self.entries c.args.id _ c.in_ok-insert.ensures.updates.0 in
-    rw (← c.self.view_is) (accepted _ _ _ _ _ _ c.peer_end.result (omega arith) (omega arith) (c.peer_end.ensures ∙ ap peer_end (sym c.self.view_is)) c.new-object.ensures made)
+    let row : c.push.new.self.items ≡ c.self.inside.peer.items ++ c.new-object.result ∷ [] = c.in_ok-push.ensures.items ∙ ap (λ (o : ObjectView). c.self.inside.peer.items ++ o ∷ []) c.in_ok-clone.ensures.cases in
+    rw (← c.self.view_is) (peer_given _ _ _ _ _ _ _ _ c.self.invariant c.args.id c.peer_end.result _ _ c.new-object.result _ c.new-object.ensures row (omega arith) (omega arith) (c.peer_end.ensures ∙ ap peer_end (sym c.self.view_is)))
+
+pub invariant_of-self-2 : goal.invariant_of-self-2
+invariant_of-self-2 c =
+    let row : c.push.new.self.items ≡ c.self.inside.peer.items ++ c.new-object.result ∷ [] = c.in_ok-push.ensures.items ∙ ap (λ (o : ObjectView). c.self.inside.peer.items ++ o ∷ []) c.in_ok-clone.ensures.cases in
+    peer_stands _ _ _ _ _ _ _ _ c.self.invariant c.args.id c.new-object.result _ (ap (λ (o : ObjectView). o.id) c.new-object.ensures) row (omega arith) (omega (arith, ap peer_end c.self.view_is))

@@ -1,7 +1,7 @@
 use Rattle.std.proofs.Common.{length, ap, arith}
 use Rattle.ei_spec.specs.Reading.{Unread}
 use Rattle.ei_backend.proofs.Shorter.{shorter_ok}
-use Rattle.ei_backend.proofs.backend.read_body.Goals as goal
+use Rattle.ei_backend.proofs.reading.read_body.Goals as goal
 
 pub overflow_cast-error : goal.overflow_cast-error
 overflow_cast-error g c =

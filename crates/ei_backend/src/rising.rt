@@ -1,0 +1,41 @@
+//! Objects in a vector, by rising ids.
+
+ghost use Rattle.std.specs.Prelude.{◌≡◌, ℕ, ◌<◌, ◌≤◌, IfSome, IfNone, IfOk, IfErr, None, length, vec_len, vec_capacity};
+ghost use Rattle.std.specs.Option.{option_copied};
+ghost use Rattle.std.specs.FinMap.{get, remove};
+ghost use Rattle.ei_backend.specs.Table.{RiseWithin, Rise, by_id, IsPlace};
+
+use crate::object::Object;
+
+/// Where the object of an id stands.
+fn place(objects: &[Object], id: u64) -> Option<usize>
+    requires { Rise objects.now }
+    ensures found { IfSome result (IsPlace id objects.now) }
+    ensures absent { IfNone result (get (by_id objects.now) id ≡ None) }
+{
+    objects.binary_search_by_key(&id, |object| object.id()).ok()
+}
+
+/// The object of an id.
+pub(crate) fn look_up(objects: &[Object], id: u64) -> Option<&Object>
+    requires { Rise objects.now }
+    ensures { option_copied result ≡ get (by_id objects.now) id }
+{
+    match place(objects, id) {
+        Some(at) => Some(&objects[at]),
+        None => None,
+    }
+}
+
+/// Takes the object of an id out, and closes the gap. An unknown id changes nothing.
+pub(crate) fn take_out(objects: &mut Vec<Object>, id: u64)
+    requires { Rise objects.old.items }
+    ensures objects { by_id objects.new.items ≡ remove (by_id objects.old.items) id }
+    ensures rises { (from end : ℕ) → RiseWithin from end objects.old.items → RiseWithin from end objects.new.items }
+    ensures fewer { vec_len objects.new ≤ vec_len objects.old }
+    ensures places { vec_capacity objects.new ≡ vec_capacity objects.old }
+{
+    if let Some(at) = place(objects, id) {
+        objects.remove(at);
+    }
+}

@@ -1,0 +1,16 @@
+-- The requests of `ei_button`, by the table of messages.
+use Rattle.std.specs.Prelude.{ℕ, List, [], ◌∷◌}
+use Rattle.ei_spec.specs.Value.{Value, Word}
+use Rattle.ei_types.specs.Enums.{button_state_number}
+use Rattle.ei_server.specs.declared.button.Request.{Request}
+use Rattle.ei_server.specs.declared.button.Request.TheVariants.{Release, Button}
+
+-- the opcode of a request
+abbrev pub code_of : Request → ℕ
+code_of Release = 0
+code_of (Button button state) = 1
+
+-- its arguments
+abbrev pub values_of : Request → List Value
+values_of Release = []
+values_of (Button button state) = Word button ∷ Word (button_state_number state) ∷ []

@@ -1,0 +1,21 @@
+-- The requests of `ei_device`, by the table of messages.
+use Rattle.std.specs.Prelude.{ℕ, List, [], ◌∷◌}
+use Rattle.ei_spec.specs.Value.{Value, Word, Long}
+use Rattle.ei_server.specs.declared.device.Request.{Request}
+use Rattle.ei_server.specs.declared.device.Request.TheVariants.{Release, StartEmulating, StopEmulating, Frame, Ready}
+
+-- the opcode
+abbrev pub code_of : Request → ℕ
+code_of Release = 0
+code_of (StartEmulating last_serial sequence) = 1
+code_of (StopEmulating last_serial) = 2
+code_of (Frame last_serial timestamp) = 3
+code_of Ready = 4
+
+-- the arguments
+abbrev pub values_of : Request → List Value
+values_of Release = []
+values_of (StartEmulating last_serial sequence) = Word last_serial ∷ Word sequence ∷ []
+values_of (StopEmulating last_serial) = Word last_serial ∷ []
+values_of (Frame last_serial timestamp) = Word last_serial ∷ Long timestamp ∷ []
+values_of Ready = []

@@ -1,0 +1,16 @@
+-- The requests of `ei_keyboard`, by the table of messages.
+use Rattle.std.specs.Prelude.{ℕ, List, [], ◌∷◌}
+use Rattle.ei_spec.specs.Value.{Value, Word}
+use Rattle.ei_types.specs.Enums.{key_state_number}
+use Rattle.ei_server.specs.declared.keyboard.Request.{Request}
+use Rattle.ei_server.specs.declared.keyboard.Request.TheVariants.{Release, Key}
+
+-- the opcode of a request
+abbrev pub code_of : Request → ℕ
+code_of Release = 0
+code_of (Key key state) = 1
+
+-- its arguments
+abbrev pub values_of : Request → List Value
+values_of Release = []
+values_of (Key key state) = Word key ∷ Word (key_state_number state) ∷ []

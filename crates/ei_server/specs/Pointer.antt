@@ -1,0 +1,15 @@
+-- The requests of `ei_pointer`, by the table of messages.
+use Rattle.std.specs.Prelude.{ℕ, List, [], ◌∷◌}
+use Rattle.ei_spec.specs.Value.{Value, Word}
+use Rattle.ei_server.specs.declared.pointer.Request.{Request}
+use Rattle.ei_server.specs.declared.pointer.Request.TheVariants.{Release, MotionRelative}
+
+-- the opcode of a request
+abbrev pub code_of : Request → ℕ
+code_of Release = 0
+code_of (MotionRelative x y) = 1
+
+-- its arguments
+abbrev pub values_of : Request → List Value
+values_of Release = []
+values_of (MotionRelative x y) = Word x.0 ∷ Word y.0 ∷ []

@@ -1,0 +1,15 @@
+-- The requests of `ei_pointer_absolute`, by the table of messages.
+use Rattle.std.specs.Prelude.{ℕ, List, [], ◌∷◌}
+use Rattle.ei_spec.specs.Value.{Value, Word}
+use Rattle.ei_server.specs.declared.pointer_absolute.Request.{Request}
+use Rattle.ei_server.specs.declared.pointer_absolute.Request.TheVariants.{Release, MotionAbsolute}
+
+-- the opcode of a request
+abbrev pub code_of : Request → ℕ
+code_of Release = 0
+code_of (MotionAbsolute x y) = 1
+
+-- its arguments
+abbrev pub values_of : Request → List Value
+values_of Release = []
+values_of (MotionAbsolute x y) = Word x.0 ∷ Word y.0 ∷ []

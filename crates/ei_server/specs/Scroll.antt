@@ -1,0 +1,19 @@
+-- The requests of `ei_scroll`, by the table of messages.
+use Rattle.std.specs.Prelude.{ℕ, List, [], ◌∷◌}
+use Rattle.ei_spec.specs.Value.{Value, Word, Signed}
+use Rattle.ei_server.specs.declared.scroll.Request.{Request}
+use Rattle.ei_server.specs.declared.scroll.Request.TheVariants.{Release, Scroll, ScrollDiscrete, ScrollStop}
+
+-- the opcode of a request
+abbrev pub code_of : Request → ℕ
+code_of Release = 0
+code_of (Scroll x y) = 1
+code_of (ScrollDiscrete x y) = 2
+code_of (ScrollStop x y is_cancel) = 3
+
+-- its arguments
+abbrev pub values_of : Request → List Value
+values_of Release = []
+values_of (Scroll x y) = Word x.0 ∷ Word y.0 ∷ []
+values_of (ScrollDiscrete x y) = Signed x ∷ Signed y ∷ []
+values_of (ScrollStop x y is_cancel) = Word x ∷ Word y ∷ Word is_cancel ∷ []

@@ -1,0 +1,18 @@
+-- The requests of `ei_text`, by the table of messages.
+use Rattle.std.specs.Prelude.{ℕ, List, [], ◌∷◌}
+use Rattle.ei_spec.specs.Value.{Value, Word, Letters}
+use Rattle.ei_types.specs.Enums.{key_state_number}
+use Rattle.ei_server.specs.declared.text.Request.{Request}
+use Rattle.ei_server.specs.declared.text.Request.TheVariants.{Release, Keysym, Utf8}
+
+-- the opcode of a request
+abbrev pub code_of : Request → ℕ
+code_of Release = 0
+code_of (Keysym keysym state) = 1
+code_of (Utf8 text) = 2
+
+-- its arguments
+abbrev pub values_of : Request → List Value
+values_of Release = []
+values_of (Keysym keysym state) = Word keysym ∷ Word (key_state_number state) ∷ []
+values_of (Utf8 text) = Letters text ∷ []

@@ -1,0 +1,21 @@
+-- The requests of `ei_touchscreen`, by the table of messages.
+use Rattle.std.specs.Prelude.{ℕ, List, [], ◌∷◌}
+use Rattle.ei_spec.specs.Value.{Value, Word}
+use Rattle.ei_server.specs.declared.touchscreen.Request.{Request}
+use Rattle.ei_server.specs.declared.touchscreen.Request.TheVariants.{Release, Down, Motion, Up, Cancel}
+
+-- the opcode of a request
+abbrev pub code_of : Request → ℕ
+code_of Release = 0
+code_of (Down touchid x y) = 1
+code_of (Motion touchid x y) = 2
+code_of (Up touchid) = 3
+code_of (Cancel touchid) = 4
+
+-- its arguments
+abbrev pub values_of : Request → List Value
+values_of Release = []
+values_of (Down touchid x y) = Word touchid ∷ Word x.0 ∷ Word y.0 ∷ []
+values_of (Motion touchid x y) = Word touchid ∷ Word x.0 ∷ Word y.0 ∷ []
+values_of (Up touchid) = Word touchid ∷ []
+values_of (Cancel touchid) = Word touchid ∷ []
