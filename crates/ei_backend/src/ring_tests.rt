@@ -8,7 +8,7 @@ use crate::{
     Table, Taken,
 };
 use ei_spec::{Handle, KnownInterface};
-use ei_wire::{Arg, ByteStream, EiText, NoMemory, ParseError};
+use ei_wire::{Arg, ByteStream, EiText, NoMemory, ParseError, ReadError};
 use std::alloc::Global;
 use std::test::Fail;
 
@@ -199,6 +199,19 @@ impl Reader {
         Ok(self.waiting == 0 || is_right(&answer, self.waiting))
     }
 
+    /// Lets these bytes come, and says how much the ring holds then.
+    fn held_after(&mut self, bytes: &[u8]) -> Result<usize, Fail> {
+        self.feed.bytes.extend_from_slice(bytes)?;
+        self.backend.read(&mut self.feed)?;
+        Ok(self.backend.ring_capacity())
+    }
+
+    /// Lets one byte come, and says what reading it answered.
+    fn byte_read(&mut self) -> Result<Result<usize, ReadError>, Fail> {
+        self.feed.bytes.push(0)?;
+        Ok(self.backend.read(&mut self.feed))
+    }
+
     /// Whether no message is whole, and so many bytes are unread.
     fn holds(&mut self, count: u32) -> Result<bool, Fail> {
         let answer = self.backend.pending::<InterfaceVersion>()?;
@@ -251,5 +264,56 @@ fn messages_are_read_across_the_end(rt: HostRuntime) -> Result<(), Fail> {
     assert!(rt; reader.comes()?);
     assert!(rt; reader.holds(0)?);
     assert_eq!(rt; reader.backend.ring_capacity(), 131072);
+    Ok(())
+}
+
+/// What the ring holds after each of sixteen pieces of 65536 bytes, the last of 65535.
+const HELD: [usize; 16] = [
+    131072, 131072, 262144, 262144, 524288, 524288, 524288, 524288, 1048576, 1048576, 1048576,
+    1048576, 1048576, 1048576, 1048576, 1048576,
+];
+
+/// Lets the bytes come in pieces, and says how many bytes had come where the ring didn't hold what it should.
+fn held_otherwise(reader: &mut Reader, bytes: &[u8]) -> Result<Option<usize>, Fail> {
+    for (piece, held) in bytes.chunks(PIECE).zip(HELD) {
+        if reader.held_after(piece)? != held {
+            return Ok(Some(reader.backend.unread_len()));
+        }
+    }
+    Ok(None)
+}
+
+// The ring is doubled where a piece may not find room in it.
+#[test]
+fn the_ring_grows_for_the_longest_message(rt: HostRuntime) -> Result<(), Fail> {
+    let alloc = rt.alloc();
+    let mut reader = Reader::new(alloc)?;
+    let bytes = message(alloc, 1048576)?;
+    let (most, last) = bytes.split_at(bytes.len().min(1048575));
+    assert_eq!(rt; held_otherwise(&mut reader, most)?, None);
+    assert!(rt; reader.holds(1048575)?);
+    assert_eq!(rt; reader.held_after(last)?, 2097152);
+    assert!(rt; is_right(&reader.backend.pending()?, 1048576));
+    Ok(())
+}
+
+/// A reader that has taken 64 handles with each of so many bytes.
+fn with_handles(alloc: Global, count: usize) -> Result<Reader, Fail> {
+    let mut reader = Reader::new(alloc)?;
+    reader.feed.handles = 64;
+    for _ in 0..count {
+        reader.byte_read()??;
+    }
+    Ok(reader)
+}
+
+// The piece with the handle that is one too many is dropped, and nothing is asked for after it.
+#[test]
+fn more_than_4096_handles_close_the_endpoint(rt: HostRuntime) -> Result<(), Fail> {
+    let mut reader = with_handles(rt.alloc(), 64)?;
+    assert_eq!(rt; reader.backend.unread_handles(), 4096);
+    assert!(rt; reader.byte_read()? == Err(ReadError::HandleLimit));
+    assert!(rt; reader.byte_read()? == Err(ReadError::UnexpectedEof));
+    assert_eq!(rt; reader.backend.unread_len(), 64);
     Ok(())
 }

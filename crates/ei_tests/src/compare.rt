@@ -80,7 +80,7 @@ fn told_by_serve(alloc: Global, setup: Setup, pieces: &[Piece]) -> Result<Option
 }
 
 /// A source that hands out these pieces, if no piece is too large or has no bytes.
-fn source_of(alloc: Global, pieces: &[Piece]) -> Result<Option<Pieces>, NoMemory> {
+pub(crate) fn source_of(alloc: Global, pieces: &[Piece]) -> Result<Option<Pieces>, NoMemory> {
     let mut source = Pieces::new(alloc);
     for piece in pieces {
         let is_whole = piece.bytes.len() <= MOST_BYTES && piece.handles.len() <= MOST_HANDLES;

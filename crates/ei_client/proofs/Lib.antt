@@ -1,0 +1,3 @@
+mod NameAgain
+mod ByName
+mod ReadAgain

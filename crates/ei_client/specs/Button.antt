@@ -1,0 +1,16 @@
+-- The events of `ei_button`, by the table of messages.
+use Rattle.std.specs.Prelude.{ℕ, List, [], ◌∷◌}
+use Rattle.ei_spec.specs.Value.{Value, Word}
+use Rattle.ei_types.specs.Enums.{button_state_number}
+use Rattle.ei_client.specs.declared.button.Event.{Event}
+use Rattle.ei_client.specs.declared.button.Event.TheVariants.{Destroyed, Button}
+
+-- the opcode
+abbrev pub code_of : Event → ℕ
+code_of (Destroyed serial) = 0
+code_of (Button button state) = 1
+
+-- the arguments
+abbrev pub values_of : Event → List Value
+values_of (Destroyed serial) = Word serial ∷ []
+values_of (Button button state) = Word button ∷ Word (button_state_number state) ∷ []

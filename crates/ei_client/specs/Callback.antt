@@ -1,0 +1,13 @@
+-- The events of `ei_callback`, by the table of messages.
+use Rattle.std.specs.Prelude.{ℕ, List, [], ◌∷◌}
+use Rattle.ei_spec.specs.Value.{Value, Long}
+use Rattle.ei_client.specs.declared.callback.Event.{Event}
+use Rattle.ei_client.specs.declared.callback.Event.TheVariants.{Done}
+
+-- the opcode
+abbrev pub code_of : Event → ℕ
+code_of (Done callback_data) = 0
+
+-- the arguments
+abbrev pub values_of : Event → List Value
+values_of (Done callback_data) = Long callback_data ∷ []

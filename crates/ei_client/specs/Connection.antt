@@ -1,0 +1,21 @@
+-- The events of `ei_connection`, by the table of messages.
+use Rattle.std.specs.Prelude.{ℕ, List, [], ◌∷◌}
+use Rattle.ei_spec.specs.Value.{Value, Word, Long}
+use Rattle.ei_spec.specs.Reading.{or_null}
+use Rattle.ei_types.specs.Enums.{disconnect_reason_number}
+use Rattle.ei_client.specs.declared.connection.Event.{Event}
+use Rattle.ei_client.specs.declared.connection.Event.TheVariants.{Disconnected, Seat, InvalidObject, Ping}
+
+-- the opcode
+abbrev pub code_of : Event → ℕ
+code_of (Disconnected last_serial reason explanation) = 0
+code_of (Seat seat) = 1
+code_of (InvalidObject last_serial invalid_id) = 2
+code_of (Ping ping) = 3
+
+-- the arguments: of a seat or a ping its id and its version
+abbrev pub values_of : Event → List Value
+values_of (Disconnected last_serial reason explanation) = Word last_serial ∷ Word (disconnect_reason_number reason) ∷ or_null explanation ∷ []
+values_of (Seat seat) = Long seat.id ∷ Word seat.version ∷ []
+values_of (InvalidObject last_serial invalid_id) = Word last_serial ∷ Long invalid_id ∷ []
+values_of (Ping ping) = Long ping.id ∷ Word ping.version ∷ []

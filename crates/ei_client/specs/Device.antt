@@ -1,0 +1,39 @@
+-- The events of `ei_device`, by the table of messages.
+use Rattle.std.specs.Prelude.{ℕ, List, [], ◌∷◌}
+use Rattle.ei_spec.specs.Value.{Value, Word, Long, Letters}
+use Rattle.ei_spec.specs.Interface.{bytes_of}
+use Rattle.ei_types.specs.Enums.{device_type_number}
+use Rattle.ei_client.specs.declared.device.Event.{Event}
+use Rattle.ei_client.specs.declared.device.Event.TheVariants.{Destroyed, Name, DeviceType, Dimensions, Region, Interface, Done, Resumed, Paused, StartEmulating, StopEmulating, Frame, RegionMappingId}
+
+-- the opcode
+abbrev pub code_of : Event → ℕ
+code_of (Destroyed serial) = 0
+code_of (Name name) = 1
+code_of (DeviceType device_type) = 2
+code_of (Dimensions width height) = 3
+code_of (Region offset_x offset_y width hight scale) = 4
+code_of (Interface object) = 5
+code_of Done = 6
+code_of (Resumed serial) = 7
+code_of (Paused serial) = 8
+code_of (StartEmulating serial sequence) = 9
+code_of (StopEmulating serial) = 10
+code_of (Frame serial timestamp) = 11
+code_of (RegionMappingId mapping_id) = 12
+
+-- the arguments: of an interface's object its id, its name and its version
+abbrev pub values_of : Event → List Value
+values_of (Destroyed serial) = Word serial ∷ []
+values_of (Name name) = Letters name ∷ []
+values_of (DeviceType device_type) = Word (device_type_number device_type) ∷ []
+values_of (Dimensions width height) = Word width ∷ Word height ∷ []
+values_of (Region offset_x offset_y width hight scale) = Word offset_x ∷ Word offset_y ∷ Word width ∷ Word hight ∷ Word scale.0 ∷ []
+values_of (Interface object) = Long object.id ∷ Letters (bytes_of object.interface) ∷ Word object.version ∷ []
+values_of Done = []
+values_of (Resumed serial) = Word serial ∷ []
+values_of (Paused serial) = Word serial ∷ []
+values_of (StartEmulating serial sequence) = Word serial ∷ Word sequence ∷ []
+values_of (StopEmulating serial) = Word serial ∷ []
+values_of (Frame serial timestamp) = Word serial ∷ Long timestamp ∷ []
+values_of (RegionMappingId mapping_id) = Letters mapping_id ∷ []

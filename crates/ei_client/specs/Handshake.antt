@@ -1,0 +1,17 @@
+-- The events of `ei_handshake`, by the table of messages.
+use Rattle.std.specs.Prelude.{ℕ, List, [], ◌∷◌}
+use Rattle.ei_spec.specs.Value.{Value, Word, Long, Letters}
+use Rattle.ei_client.specs.declared.handshake.Event.{Event}
+use Rattle.ei_client.specs.declared.handshake.Event.TheVariants.{HandshakeVersion, InterfaceVersion, Connection}
+
+-- the opcode
+abbrev pub code_of : Event → ℕ
+code_of (HandshakeVersion version) = 0
+code_of (InterfaceVersion name version) = 1
+code_of (Connection serial connection) = 2
+
+-- the arguments: of the connection its id and its version
+abbrev pub values_of : Event → List Value
+values_of (HandshakeVersion version) = Word version ∷ []
+values_of (InterfaceVersion name version) = Letters name ∷ Word version ∷ []
+values_of (Connection serial connection) = Word serial ∷ Long connection.id ∷ Word connection.version ∷ []

@@ -1,0 +1,14 @@
+pub mod Handshake
+pub mod Connection
+pub mod Callback
+pub mod Seat
+pub mod Device
+pub mod Pointer
+pub mod PointerAbsolute
+pub mod Scroll
+pub mod Button
+pub mod Keyboard
+pub mod Touchscreen
+pub mod Text
+pub mod Event
+pub mod Agree

@@ -1,0 +1,19 @@
+-- The events of `ei_scroll`, by the table of messages.
+use Rattle.std.specs.Prelude.{ℕ, List, [], ◌∷◌}
+use Rattle.ei_spec.specs.Value.{Value, Word, Signed}
+use Rattle.ei_client.specs.declared.scroll.Event.{Event}
+use Rattle.ei_client.specs.declared.scroll.Event.TheVariants.{Destroyed, Scroll, ScrollDiscrete, ScrollStop}
+
+-- the opcode
+abbrev pub code_of : Event → ℕ
+code_of (Destroyed serial) = 0
+code_of (Scroll x y) = 1
+code_of (ScrollDiscrete x y) = 2
+code_of (ScrollStop x y is_cancel) = 3
+
+-- the arguments
+abbrev pub values_of : Event → List Value
+values_of (Destroyed serial) = Word serial ∷ []
+values_of (Scroll x y) = Word x.0 ∷ Word y.0 ∷ []
+values_of (ScrollDiscrete x y) = Signed x ∷ Signed y ∷ []
+values_of (ScrollStop x y is_cancel) = Word x ∷ Word y ∷ Word is_cancel ∷ []

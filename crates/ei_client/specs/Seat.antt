@@ -1,0 +1,21 @@
+-- The events of `ei_seat`, by the table of messages.
+use Rattle.std.specs.Prelude.{ℕ, List, [], ◌∷◌}
+use Rattle.ei_spec.specs.Value.{Value, Word, Long, Letters}
+use Rattle.ei_client.specs.declared.seat.Event.{Event}
+use Rattle.ei_client.specs.declared.seat.Event.TheVariants.{Destroyed, Name, Capability, Done, Device}
+
+-- the opcode
+abbrev pub code_of : Event → ℕ
+code_of (Destroyed serial) = 0
+code_of (Name name) = 1
+code_of (Capability mask interface) = 2
+code_of Done = 3
+code_of (Device device) = 4
+
+-- the arguments: of the device its id and its version
+abbrev pub values_of : Event → List Value
+values_of (Destroyed serial) = Word serial ∷ []
+values_of (Name name) = Letters name ∷ []
+values_of (Capability mask interface) = Long mask ∷ Letters interface ∷ []
+values_of Done = []
+values_of (Device device) = Long device.id ∷ Word device.version ∷ []

@@ -1,0 +1,18 @@
+-- The events of `ei_text`, by the table of messages.
+use Rattle.std.specs.Prelude.{ℕ, List, [], ◌∷◌}
+use Rattle.ei_spec.specs.Value.{Value, Word, Letters}
+use Rattle.ei_types.specs.Enums.{key_state_number}
+use Rattle.ei_client.specs.declared.text.Event.{Event}
+use Rattle.ei_client.specs.declared.text.Event.TheVariants.{Destroyed, Keysym, Utf8}
+
+-- the opcode
+abbrev pub code_of : Event → ℕ
+code_of (Destroyed serial) = 0
+code_of (Keysym keysym state) = 1
+code_of (Utf8 text) = 2
+
+-- the arguments
+abbrev pub values_of : Event → List Value
+values_of (Destroyed serial) = Word serial ∷ []
+values_of (Keysym keysym state) = Word keysym ∷ Word (key_state_number state) ∷ []
+values_of (Utf8 text) = Letters text ∷ []

@@ -1,0 +1,21 @@
+-- The events of `ei_touchscreen`, by the table of messages.
+use Rattle.std.specs.Prelude.{ℕ, List, [], ◌∷◌}
+use Rattle.ei_spec.specs.Value.{Value, Word}
+use Rattle.ei_client.specs.declared.touchscreen.Event.{Event}
+use Rattle.ei_client.specs.declared.touchscreen.Event.TheVariants.{Destroyed, Down, Motion, Up, Cancel}
+
+-- the opcode
+abbrev pub code_of : Event → ℕ
+code_of (Destroyed serial) = 0
+code_of (Down touchid x y) = 1
+code_of (Motion touchid x y) = 2
+code_of (Up touchid) = 3
+code_of (Cancel touchid) = 4
+
+-- the arguments
+abbrev pub values_of : Event → List Value
+values_of (Destroyed serial) = Word serial ∷ []
+values_of (Down touchid x y) = Word touchid ∷ Word x.0 ∷ Word y.0 ∷ []
+values_of (Motion touchid x y) = Word touchid ∷ Word x.0 ∷ Word y.0 ∷ []
+values_of (Up touchid) = Word touchid ∷ []
+values_of (Cancel touchid) = Word touchid ∷ []

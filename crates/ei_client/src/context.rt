@@ -1,0 +1,141 @@
+//! The client's endpoint.
+
+ghost use Rattle.std.specs.Prelude.{◌≡◌, ◌≤◌, ℕ, List, Some, IfOk, OnOk, OnErr, IsErrOf, true, false, length};
+ghost use Rattle.ei_wire.specs.declared.error.ReadError.TheVariants as read_error;
+ghost use Rattle.ei_wire.specs.declared.error.FlushError.TheVariants as flush_error;
+ghost use Rattle.ei_backend.specs.declared.outside.LastAnswer.TheVariants as answers;
+ghost use Rattle.ei_backend.specs.Outside.{Piece, Rose};
+ghost use Rattle.ei_backend.specs.Table.{found, new_table};
+ghost use Rattle.ei_backend.specs.Outgoing.{StopsAfter, Flushes};
+ghost use Rattle.ei_backend.specs.Backend.{new_backend, ReadsOn, ReadsPiece, Answers, Shortens, next, unsent_of, with_unsent};
+ghost use Rattle.ei_client.specs.Event.{target_of, code_of, values_of};
+
+use crate::event::Event;
+use crate::handshake::Handshake;
+use ei_backend::{Backend, HasBackend, Interface, PendingRequestResult, Sink, Source};
+use ei_wire::{FlushError, NoMemory, ReadError};
+use std::alloc::Global;
+use std::marker::Model;
+
+/// The client's endpoint: its objects, the bytes that are unread and those that are unsent.
+#[derive(Drop)]
+pub struct Context {
+    backend: Backend,
+}
+
+impl Model for Context {
+    ghost use Rattle.ei_backend.specs.Backend.{BackendView};
+    ghost use Rattle.ei_backend.specs.Codes.{backend_code};
+
+    ghost Value = { BackendView };
+
+    ghost coded = { backend_code };
+
+    ghost view = { λ c. c.backend };
+}
+
+impl HasBackend for Context {
+    ghost use Rattle.std.specs.Prelude.{refl};
+
+    ghost seen = { λ c. c };
+
+    ghost with_backend = { λ _ b. b };
+
+    ghost seen_with = { λ c b. refl };
+
+    ghost with_seen = { λ c. refl };
+
+    fn backend(&self) -> &Backend {
+        &self.backend
+    }
+
+    fn backend_mut(&mut self) -> &mut Backend {
+        &mut self.backend
+    }
+}
+
+impl Context {
+    /// A fresh endpoint: object 0, and nothing unread or unsent.
+    pub fn new(alloc: Global) -> Result<Context, NoMemory>
+        ensures { IfOk result (λ c. c ≡ new_backend (new_table true 1)) }
+    {
+        Ok(Context {
+            backend: Backend::new(alloc, true)?,
+        })
+    }
+
+    /// Takes one piece from the source, and puts it behind what is unread. It answers how many bytes came.
+    ///
+    /// `UnexpectedEof` on a closed endpoint, which doesn't ask the source, and at the source's end;
+    /// `NoMemory` before the source is asked; `ReadFault` where the source failed; `HandleLimit` exactly
+    /// where more than 4096 handles would be unread: the piece is dropped and the endpoint closed.
+    pub fn read<S: Source>(&mut self, source: &mut S) -> Result<usize, ReadError>
+        // on a closed endpoint
+        ensures closed { self.old.closed ≡ true → IsErrOf result read_error.UnexpectedEof }
+        ensures closed_kept { self.old.closed ≡ true → self.new ≡ self.old }
+        ensures closed_source { self.old.closed ≡ true → source.new ≡ source.old }
+        // on an open one
+        ensures reads { self.old.closed ≡ false → ReadsOn result self.old self.new }
+        ensures told { self.old.closed ≡ false → (pieces : List Piece) → S.left source.old ≡ Some pieces → ReadsPiece pieces (S.left source.new) result self.old self.new }
+        // what the source says
+        ensures memory { IsErrOf result read_error.NoMemory → source.new ≡ source.old }
+        ensures fault { IsErrOf result read_error.ReadFault → Rose (S.faults source.old) (S.faults source.new) }
+        ensures last_piece { OnOk result (S.last source.new ≡ answers.Piece) }
+        ensures last_limit { IsErrOf result read_error.HandleLimit → S.last source.new ≡ answers.Piece }
+        ensures last_end { self.old.closed ≡ false → IsErrOf result read_error.UnexpectedEof → S.last source.new ≡ answers.End }
+        ensures last_fault { IsErrOf result read_error.ReadFault → S.last source.new ≡ answers.Fault }
+        ensures count { S.faults source.old ≤ S.faults source.new }
+        ensures later { S.later source.old source.new }
+    {
+        self.backend.read(source)
+    }
+
+    /// Puts all that waits to be sent into the sink, all handles with the first bytes. After a refusal the
+    /// rest waits.
+    ///
+    /// `WriteFault` where the sink failed, `NoMemory` where it wants memory.
+    pub fn flush<K: Sink>(&mut self, sink: &mut K) -> Result<(), FlushError>
+        ensures stops { StopsAfter (unsent_of self.old) result (unsent_of self.new) }
+        ensures took { (held : Piece) → K.taken sink.old ≡ Some held → Flushes held (unsent_of self.old) result (unsent_of self.new) (K.taken sink.new) }
+        ensures kept { self.new ≡ with_unsent (unsent_of self.new) self.old }
+        ensures fault { IsErrOf result flush_error.WriteFault → Rose (K.faults sink.old) (K.faults sink.new) }
+        ensures count { K.faults sink.old ≤ K.faults sink.new }
+        ensures later { K.later sink.old sink.new }
+    {
+        self.backend.flush(sink)
+    }
+
+    /// How many bytes came and are not read yet.
+    pub fn unread_len(&self) -> usize
+        ensures { result ≡ length self.now.unread }
+    {
+        self.backend.unread_len()
+    }
+
+    /// How many bytes may be unread before the ring that holds them grows.
+    pub fn ring_capacity(&self) -> usize
+        ensures { result ≡ self.now.capacity }
+    {
+        self.backend.ring_capacity()
+    }
+
+    /// The handshake; `None` exactly where object 0 isn't there, after the connection came.
+    pub fn handshake(&self) -> Option<Handshake>
+        ensures { result ≡ found self.now.table 0 }
+    {
+        let object = self.backend.object_for_id(0)?;
+        Some(Handshake::new_unchecked(object.copy()))
+    }
+
+    /// The next event that is whole, taken out, if there is one.
+    ///
+    /// A message to no object and one that is refused are taken out too. An unlawful length takes nothing
+    /// out. Where memory runs out, nothing changes.
+    pub fn pending_event(&mut self) -> Result<Option<PendingRequestResult<Event>>, NoMemory>
+        ensures ok { IfOk result (λ answer. Answers target_of code_of values_of answer self.new (next true self.old)) }
+        ensures shorter { IfOk result (λ answer. Shortens self.old.unread self.new.unread answer) }
+        ensures err { OnErr result (self.new ≡ self.old) }
+    {
+        self.backend.pending()
+    }
+}

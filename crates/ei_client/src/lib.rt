@@ -1,0 +1,44 @@
+//! The client's end of the protocol: a context, the proxies of its objects with the requests that they
+//! send, and the events that they get.
+//!
+//! There is no handshake here. Begin with `Context` and `Event`.
+#![tactic(auto)]
+
+pub mod button;
+pub mod callback;
+pub mod connection;
+mod context;
+pub mod device;
+mod event;
+pub mod handshake;
+mod interface;
+pub mod keyboard;
+mod laws;
+pub mod pingpong;
+pub mod pointer;
+pub mod pointer_absolute;
+pub mod scroll;
+pub mod seat;
+pub mod text;
+pub mod touchscreen;
+
+pub use button::Button;
+pub use callback::Callback;
+pub use connection::Connection;
+pub use context::Context;
+pub use device::Device;
+pub use event::Event;
+pub use handshake::Handshake;
+pub use interface::Interface;
+pub use keyboard::Keyboard;
+pub use laws::ends_agree;
+pub use pingpong::Pingpong;
+pub use pointer::Pointer;
+pub use pointer_absolute::PointerAbsolute;
+pub use scroll::Scroll;
+pub use seat::Seat;
+pub use text::Text;
+pub use touchscreen::Touchscreen;
+
+#[cfg(test)]
+mod tests;
