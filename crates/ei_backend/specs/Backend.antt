@@ -16,7 +16,7 @@ use Rattle.ei_wire.specs.Gives.{fault_of}
 use Rattle.ei_backend.specs.Table.{TableView, found, without, with_own}
 use Rattle.ei_backend.specs.Table as table
 use Rattle.ei_backend.specs.Ring.{first_capacity, grown}
-use Rattle.ei_backend.specs.Outgoing.{Room, no_room, more_room}
+use Rattle.ei_backend.specs.Outgoing.{Room, no_room, more_room, HasRoomFor}
 use Rattle.ei_backend.specs.Incoming.{IsFirst, Fits, Overflows}
 use Rattle.ei_backend.specs.Message.{Parsed, message_read}
 use Rattle.ei_backend.specs.declared.message.PendingRequestResult.{PendingRequestResult}
@@ -178,3 +178,8 @@ with_unsent waiting b = record b { unsent = waiting.bytes; unsent_handles = wait
 -- the endpoint in which so many more bytes, handles and own objects take no memory
 abbrev pub with_room : ℕ → ℕ → ℕ → BackendView → BackendView
 with_room bytes handles objects b = record b { table = table.with_room objects b.table; room = more_room bytes handles (unsent_of b) b.room }
+
+-- there is room for a message of that row to that target
+abbrev pub FitsRow : Option (ℕ × Row) → ObjectView → List Value → BackendView → Type 0
+FitsRow None target values b = ⊥
+FitsRow (Some r) target values b = HasRoomFor target.id r.0 values (unsent_of b) b.room

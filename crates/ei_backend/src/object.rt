@@ -11,7 +11,8 @@ ghost use Rattle.ei_wire.specs.Gives.{value_of_arg};
 ghost use Rattle.ei_wire.specs.declared.error.SendError.TheVariants as send_error;
 ghost use Rattle.ei_backend.specs.Object.{interface_view, HasFixedName, object_text, same_object, same_object_equiv};
 ghost use Rattle.ei_backend.specs.Table.{found};
-ghost use Rattle.ei_backend.specs.Backend.{sent};
+ghost use Rattle.ei_backend.specs.Backend.{sent, unsent_of};
+ghost use Rattle.ei_backend.specs.Outgoing.{HasRoomFor};
 
 use crate::has_backend::HasBackend;
 use crate::interface::InterfaceName;
@@ -131,7 +132,8 @@ impl Object {
     /// Writes a message to the object behind what waits to be sent, or nothing. The object need not be in
     /// the table.
     ///
-    /// `MessageTooLong` exactly where the message would have more than 1048576 bytes, `NoMemory`.
+    /// `MessageTooLong` exactly where the message would have more than 1048576 bytes; `NoMemory`, and never within
+    /// the room that was made.
     pub fn request<C: HasBackend>(
         &self,
         ctx: &mut C,
@@ -142,6 +144,7 @@ impl Object {
         ensures long { IsErrOf result send_error.MessageTooLong ↔ (1048576 < size (message self.now.id opcode (map value_of_arg args.now))) }
         ensures not_exhausted { IsErrOf result send_error.IdsExhausted → ⊥ }
         ensures err { OnErr result (ctx.new ≡ ctx.old) }
+        ensures room { HasRoomFor self.now.id opcode (map value_of_arg args.now) (unsent_of (C.seen ctx.old)) (C.seen ctx.old).room → IsErrOf result send_error.NoMemory → ⊥ }
     {
         ctx.backend_mut().request(self.id, opcode, args)
     }

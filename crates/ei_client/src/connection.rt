@@ -1,6 +1,6 @@
 //! `ei_connection`: the connection, which stands until one end ends it.
 
-ghost use Rattle.std.specs.Prelude.{◌≡◌, ◌≤◌, ◌↔◌, IfOk, OnOk, OnErr, IsErrOf, IfErr, true, false, codes, [], ◌∷◌, map};
+ghost use Rattle.std.specs.Prelude.{◌≡◌, ◌≤◌, ◌↔◌, IfOk, OnOk, OnErr, IsErrOf, IfErr, true, false, codes, [], ◌∷◌, map, ◌<◌};
 ghost use Rattle.ei_spec.specs.Value.{Word, Long};
 ghost use Rattle.ei_spec.specs.Interface.{Known};
 ghost use Rattle.ei_spec.specs.declared.interface.KnownInterface.TheVariants as known;
@@ -10,7 +10,7 @@ ghost use Rattle.ei_wire.specs.declared.error.SendError.TheVariants as send_erro
 ghost use Rattle.ei_backend.specs.Message.{Reads, Parsed, some_row};
 ghost use Rattle.ei_backend.specs.Shown.{shown_row, shown_of_arg};
 ghost use Rattle.ei_backend.specs.Table.{own, own_end};
-ghost use Rattle.ei_backend.specs.Backend.{after_row, after_new};
+ghost use Rattle.ei_backend.specs.Backend.{after_row, after_new, FitsRow};
 ghost use Rattle.ei_client.specs.Connection.{values_of, code_of};
 
 use crate::callback::Callback;
@@ -124,6 +124,7 @@ impl Connection {
         ensures err { OnErr result (ctx.new ≡ ctx.old) }
         ensures exhausted { IsErrOf result send_error.IdsExhausted ↔ (own_end ctx.old.table ≤ ctx.old.table.next_own) }
         ensures not_long { IsErrOf result send_error.MessageTooLong → ⊥ }
+        ensures room { FitsRow (row_named (codes "sync") (table false known.Connection)) self.now (Long ctx.old.table.next_own ∷ Word version ∷ []) ctx.old → ctx.old.table.next_own < ctx.old.table.room → IsErrOf result send_error.NoMemory → ⊥ }
     {
         let id = self.object.id();
         let args = [Arg::NewId(ctx.backend().next_id()), Arg::Uint32(version)];
@@ -140,6 +141,7 @@ impl Connection {
         ensures ok { OnOk result (ctx.new ≡ after_row (row_named (codes "disconnect") (table false known.Connection)) self.now [] ctx.old) }
         ensures err { OnErr result (ctx.new ≡ ctx.old) }
         ensures only { IfErr result (λ e. e ≡ send_error.NoMemory) }
+        ensures room { FitsRow (row_named (codes "disconnect") (table false known.Connection)) self.now [] ctx.old → IsErrOf result send_error.NoMemory → ⊥ }
     {
         self.object.request(ctx, 1, &[])?;
         ctx.backend_mut().remove_id(self.object.id());

@@ -1,6 +1,6 @@
 //! `ei_device`: a device, which has interfaces for input.
 
-ghost use Rattle.std.specs.Prelude.{◌≡◌, IfOk, OnOk, OnErr, IfErr, true, false, codes, [], ◌∷◌, map};
+ghost use Rattle.std.specs.Prelude.{◌≡◌, IfOk, OnOk, OnErr, IfErr, true, false, codes, [], ◌∷◌, map, IsErrOf};
 ghost use Rattle.ei_spec.specs.Value.{Word, Long};
 ghost use Rattle.ei_spec.specs.Interface.{Known, bytes_of, named};
 ghost use Rattle.ei_spec.specs.declared.interface.KnownInterface.TheVariants as known;
@@ -11,7 +11,7 @@ ghost use Rattle.ei_wire.specs.Gives.{Gives};
 ghost use Rattle.ei_backend.specs.Message.{Reads, Parsed, some_row};
 ghost use Rattle.ei_backend.specs.Shown.{shown_row, shown_of_arg};
 ghost use Rattle.ei_backend.specs.Table.{accept};
-ghost use Rattle.ei_backend.specs.Backend.{after_row};
+ghost use Rattle.ei_backend.specs.Backend.{after_row, FitsRow};
 ghost use Rattle.ei_client.specs.Device.{values_of, code_of};
 
 use crate::context::Context;
@@ -119,6 +119,7 @@ impl Device {
         ensures ok { OnOk result (ctx.new ≡ after_row (row_named (codes "release") (table false known.Device)) self.now [] ctx.old) }
         ensures err { OnErr result (ctx.new ≡ ctx.old) }
         ensures only { IfErr result (λ e. e ≡ send_error.NoMemory) }
+        ensures room { FitsRow (row_named (codes "release") (table false known.Device)) self.now [] ctx.old → IsErrOf result send_error.NoMemory → ⊥ }
     {
         self.object.request(ctx, 0, &[])
     }
@@ -136,6 +137,7 @@ impl Device {
         ensures ok { OnOk result (ctx.new ≡ after_row (row_named (codes "start_emulating") (table false known.Device)) self.now (Word last_serial ∷ Word sequence ∷ []) ctx.old) }
         ensures err { OnErr result (ctx.new ≡ ctx.old) }
         ensures only { IfErr result (λ e. e ≡ send_error.NoMemory) }
+        ensures room { FitsRow (row_named (codes "start_emulating") (table false known.Device)) self.now (Word last_serial ∷ Word sequence ∷ []) ctx.old → IsErrOf result send_error.NoMemory → ⊥ }
     {
         let args = [Arg::Uint32(last_serial), Arg::Uint32(sequence)];
         self.object.request(ctx, 1, &args)
@@ -148,6 +150,7 @@ impl Device {
         ensures ok { OnOk result (ctx.new ≡ after_row (row_named (codes "stop_emulating") (table false known.Device)) self.now (Word last_serial ∷ []) ctx.old) }
         ensures err { OnErr result (ctx.new ≡ ctx.old) }
         ensures only { IfErr result (λ e. e ≡ send_error.NoMemory) }
+        ensures room { FitsRow (row_named (codes "stop_emulating") (table false known.Device)) self.now (Word last_serial ∷ []) ctx.old → IsErrOf result send_error.NoMemory → ⊥ }
     {
         self.object.request(ctx, 2, &[Arg::Uint32(last_serial)])
     }
@@ -165,6 +168,7 @@ impl Device {
         ensures ok { OnOk result (ctx.new ≡ after_row (row_named (codes "frame") (table false known.Device)) self.now (Word last_serial ∷ Long timestamp ∷ []) ctx.old) }
         ensures err { OnErr result (ctx.new ≡ ctx.old) }
         ensures only { IfErr result (λ e. e ≡ send_error.NoMemory) }
+        ensures room { FitsRow (row_named (codes "frame") (table false known.Device)) self.now (Word last_serial ∷ Long timestamp ∷ []) ctx.old → IsErrOf result send_error.NoMemory → ⊥ }
     {
         let args = [Arg::Uint32(last_serial), Arg::Uint64(timestamp)];
         self.object.request(ctx, 3, &args)
@@ -177,6 +181,7 @@ impl Device {
         ensures ok { OnOk result (ctx.new ≡ after_row (row_named (codes "ready") (table false known.Device)) self.now [] ctx.old) }
         ensures err { OnErr result (ctx.new ≡ ctx.old) }
         ensures only { IfErr result (λ e. e ≡ send_error.NoMemory) }
+        ensures room { FitsRow (row_named (codes "ready") (table false known.Device)) self.now [] ctx.old → IsErrOf result send_error.NoMemory → ⊥ }
     {
         self.object.request(ctx, 4, &[])
     }

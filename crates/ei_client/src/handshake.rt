@@ -11,7 +11,7 @@ ghost use Rattle.ei_wire.specs.declared.error.SendError.TheVariants as send_erro
 ghost use Rattle.ei_types.specs.Enums.{context_type_number};
 ghost use Rattle.ei_backend.specs.Message.{Reads, Parsed, some_row};
 ghost use Rattle.ei_backend.specs.Shown.{shown_row, shown_of_arg};
-ghost use Rattle.ei_backend.specs.Backend.{after_row};
+ghost use Rattle.ei_backend.specs.Backend.{after_row, FitsRow};
 ghost use Rattle.ei_client.specs.Handshake.{values_of, code_of};
 
 use crate::connection::Connection;
@@ -120,6 +120,7 @@ impl Handshake {
         ensures ok { OnOk result (ctx.new ≡ after_row (row_named (codes "handshake_version") (table false known.Handshake)) self.now (Word version ∷ []) ctx.old) }
         ensures err { OnErr result (ctx.new ≡ ctx.old) }
         ensures only { IfErr result (λ e. e ≡ send_error.NoMemory) }
+        ensures room { FitsRow (row_named (codes "handshake_version") (table false known.Handshake)) self.now (Word version ∷ []) ctx.old → IsErrOf result send_error.NoMemory → ⊥ }
     {
         self.object.request(ctx, 0, &[Arg::Uint32(version)])
     }
@@ -131,6 +132,7 @@ impl Handshake {
         ensures ok { OnOk result (ctx.new ≡ after_row (row_named (codes "finish") (table false known.Handshake)) self.now [] ctx.old) }
         ensures err { OnErr result (ctx.new ≡ ctx.old) }
         ensures only { IfErr result (λ e. e ≡ send_error.NoMemory) }
+        ensures room { FitsRow (row_named (codes "finish") (table false known.Handshake)) self.now [] ctx.old → IsErrOf result send_error.NoMemory → ⊥ }
     {
         self.object.request(ctx, 1, &[])
     }
@@ -146,6 +148,7 @@ impl Handshake {
         ensures ok { OnOk result (ctx.new ≡ after_row (row_named (codes "context_type") (table false known.Handshake)) self.now (Word (context_type_number context_type) ∷ []) ctx.old) }
         ensures err { OnErr result (ctx.new ≡ ctx.old) }
         ensures only { IfErr result (λ e. e ≡ send_error.NoMemory) }
+        ensures room { FitsRow (row_named (codes "context_type") (table false known.Handshake)) self.now (Word (context_type_number context_type) ∷ []) ctx.old → IsErrOf result send_error.NoMemory → ⊥ }
     {
         self.object
             .request(ctx, 2, &[Arg::Uint32(u32::from(context_type))])
@@ -160,6 +163,7 @@ impl Handshake {
         ensures err { OnErr result (ctx.new ≡ ctx.old) }
         ensures long { IsErrOf result send_error.MessageTooLong ↔ (1048576 < size (message self.now.id 3 (Letters name.now ∷ []))) }
         ensures not_exhausted { IsErrOf result send_error.IdsExhausted → ⊥ }
+        ensures room { FitsRow (row_named (codes "name") (table false known.Handshake)) self.now (Letters name.now ∷ []) ctx.old → IsErrOf result send_error.NoMemory → ⊥ }
     {
         self.object.request(ctx, 3, &[Arg::String(Some(name))])
     }
@@ -178,6 +182,7 @@ impl Handshake {
         ensures err { OnErr result (ctx.new ≡ ctx.old) }
         ensures long { IsErrOf result send_error.MessageTooLong ↔ (1048576 < size (message self.now.id 4 (Letters name.now ∷ Word version ∷ []))) }
         ensures not_exhausted { IsErrOf result send_error.IdsExhausted → ⊥ }
+        ensures room { FitsRow (row_named (codes "interface_version") (table false known.Handshake)) self.now (Letters name.now ∷ Word version ∷ []) ctx.old → IsErrOf result send_error.NoMemory → ⊥ }
     {
         let args = [Arg::String(Some(name)), Arg::Uint32(version)];
         self.object.request(ctx, 4, &args)

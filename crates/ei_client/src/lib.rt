@@ -2,6 +2,8 @@
 //! send, and the events that they get.
 //!
 //! There is no handshake here. Begin with `Context` and `Event`.
+//!
+//! No call that sends wants memory within the room that `Backend::reserve` made: its clause is `room`.
 #![tactic(auto)]
 
 pub mod button;

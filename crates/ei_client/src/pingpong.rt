@@ -1,13 +1,13 @@
 //! `ei_pingpong`: a ping of the server, which the client answers. No event is sent to it.
 
-ghost use Rattle.std.specs.Prelude.{◌≡◌, OnOk, OnErr, IfErr, false, codes, [], ◌∷◌};
+ghost use Rattle.std.specs.Prelude.{◌≡◌, OnOk, OnErr, IfErr, false, codes, [], ◌∷◌, IsErrOf};
 ghost use Rattle.ei_spec.specs.Value.{Long};
 ghost use Rattle.ei_spec.specs.Interface.{Known};
 ghost use Rattle.ei_spec.specs.declared.interface.KnownInterface.TheVariants as known;
 ghost use Rattle.ei_spec.specs.Table.{table};
 ghost use Rattle.ei_spec.specs.Rows.{row_named};
 ghost use Rattle.ei_wire.specs.declared.error.SendError.TheVariants as send_error;
-ghost use Rattle.ei_backend.specs.Backend.{after_row};
+ghost use Rattle.ei_backend.specs.Backend.{after_row, FitsRow};
 
 use crate::context::Context;
 use ei_backend::{Described, HasBackend, Interface, Object};
@@ -112,6 +112,7 @@ impl Pingpong {
         ensures ok { OnOk result (ctx.new ≡ after_row (row_named (codes "done") (table false known.Pingpong)) self.now (Long callback_data ∷ []) ctx.old) }
         ensures err { OnErr result (ctx.new ≡ ctx.old) }
         ensures only { IfErr result (λ e. e ≡ send_error.NoMemory) }
+        ensures room { FitsRow (row_named (codes "done") (table false known.Pingpong)) self.now (Long callback_data ∷ []) ctx.old → IsErrOf result send_error.NoMemory → ⊥ }
     {
         self.object.request(ctx, 0, &[Arg::Uint64(callback_data)])?;
         ctx.backend_mut().remove_id(self.object.id());

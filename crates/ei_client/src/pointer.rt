@@ -1,6 +1,6 @@
 //! `ei_pointer`: the relative motion of a device.
 
-ghost use Rattle.std.specs.Prelude.{◌≡◌, IfOk, OnOk, OnErr, IfErr, true, false, codes, [], ◌∷◌, map};
+ghost use Rattle.std.specs.Prelude.{◌≡◌, IfOk, OnOk, OnErr, IfErr, true, false, codes, [], ◌∷◌, map, IsErrOf};
 ghost use Rattle.ei_spec.specs.Value.{Word};
 ghost use Rattle.ei_spec.specs.Interface.{Known};
 ghost use Rattle.ei_spec.specs.declared.interface.KnownInterface.TheVariants as known;
@@ -9,7 +9,7 @@ ghost use Rattle.ei_spec.specs.Rows.{row_at, row_named};
 ghost use Rattle.ei_wire.specs.declared.error.SendError.TheVariants as send_error;
 ghost use Rattle.ei_backend.specs.Message.{Reads, Parsed, some_row};
 ghost use Rattle.ei_backend.specs.Shown.{shown_row, shown_of_arg};
-ghost use Rattle.ei_backend.specs.Backend.{after_row};
+ghost use Rattle.ei_backend.specs.Backend.{after_row, FitsRow};
 ghost use Rattle.ei_client.specs.Pointer.{values_of, code_of};
 
 use crate::context::Context;
@@ -113,6 +113,7 @@ impl Pointer {
         ensures ok { OnOk result (ctx.new ≡ after_row (row_named (codes "release") (table false known.Pointer)) self.now [] ctx.old) }
         ensures err { OnErr result (ctx.new ≡ ctx.old) }
         ensures only { IfErr result (λ e. e ≡ send_error.NoMemory) }
+        ensures room { FitsRow (row_named (codes "release") (table false known.Pointer)) self.now [] ctx.old → IsErrOf result send_error.NoMemory → ⊥ }
     {
         self.object.request(ctx, 0, &[])
     }
@@ -129,6 +130,7 @@ impl Pointer {
         ensures ok { OnOk result (ctx.new ≡ after_row (row_named (codes "motion_relative") (table false known.Pointer)) self.now (Word x.0 ∷ Word y.0 ∷ []) ctx.old) }
         ensures err { OnErr result (ctx.new ≡ ctx.old) }
         ensures only { IfErr result (λ e. e ≡ send_error.NoMemory) }
+        ensures room { FitsRow (row_named (codes "motion_relative") (table false known.Pointer)) self.now (Word x.0 ∷ Word y.0 ∷ []) ctx.old → IsErrOf result send_error.NoMemory → ⊥ }
     {
         let args = [Arg::Float(x.0), Arg::Float(y.0)];
         self.object.request(ctx, 1, &args)

@@ -1,6 +1,6 @@
 //! `ei_seat`: a seat, which offers capabilities.
 
-ghost use Rattle.std.specs.Prelude.{◌≡◌, IfOk, OnOk, OnErr, IfErr, true, false, codes, [], ◌∷◌, map};
+ghost use Rattle.std.specs.Prelude.{◌≡◌, IfOk, OnOk, OnErr, IfErr, true, false, codes, [], ◌∷◌, map, IsErrOf};
 ghost use Rattle.ei_spec.specs.Value.{Long};
 ghost use Rattle.ei_spec.specs.Interface.{Known};
 ghost use Rattle.ei_spec.specs.declared.interface.KnownInterface.TheVariants as known;
@@ -9,7 +9,7 @@ ghost use Rattle.ei_spec.specs.Rows.{row_at, row_named};
 ghost use Rattle.ei_wire.specs.declared.error.SendError.TheVariants as send_error;
 ghost use Rattle.ei_backend.specs.Message.{Reads, Parsed, some_row};
 ghost use Rattle.ei_backend.specs.Shown.{shown_row, shown_of_arg};
-ghost use Rattle.ei_backend.specs.Backend.{after_row};
+ghost use Rattle.ei_backend.specs.Backend.{after_row, FitsRow};
 ghost use Rattle.ei_client.specs.Seat.{values_of, code_of};
 
 use crate::context::Context;
@@ -117,6 +117,7 @@ impl Seat {
         ensures ok { OnOk result (ctx.new ≡ after_row (row_named (codes "release") (table false known.Seat)) self.now [] ctx.old) }
         ensures err { OnErr result (ctx.new ≡ ctx.old) }
         ensures only { IfErr result (λ e. e ≡ send_error.NoMemory) }
+        ensures room { FitsRow (row_named (codes "release") (table false known.Seat)) self.now [] ctx.old → IsErrOf result send_error.NoMemory → ⊥ }
     {
         self.object.request(ctx, 0, &[])
     }
@@ -128,6 +129,7 @@ impl Seat {
         ensures ok { OnOk result (ctx.new ≡ after_row (row_named (codes "bind") (table false known.Seat)) self.now (Long capabilities ∷ []) ctx.old) }
         ensures err { OnErr result (ctx.new ≡ ctx.old) }
         ensures only { IfErr result (λ e. e ≡ send_error.NoMemory) }
+        ensures room { FitsRow (row_named (codes "bind") (table false known.Seat)) self.now (Long capabilities ∷ []) ctx.old → IsErrOf result send_error.NoMemory → ⊥ }
     {
         self.object.request(ctx, 1, &[Arg::Uint64(capabilities)])
     }
@@ -139,6 +141,7 @@ impl Seat {
         ensures ok { OnOk result (ctx.new ≡ after_row (row_named (codes "request_device") (table false known.Seat)) self.now (Long capabilities ∷ []) ctx.old) }
         ensures err { OnErr result (ctx.new ≡ ctx.old) }
         ensures only { IfErr result (λ e. e ≡ send_error.NoMemory) }
+        ensures room { FitsRow (row_named (codes "request_device") (table false known.Seat)) self.now (Long capabilities ∷ []) ctx.old → IsErrOf result send_error.NoMemory → ⊥ }
     {
         self.object.request(ctx, 2, &[Arg::Uint64(capabilities)])
     }

@@ -11,7 +11,7 @@ ghost use Rattle.ei_wire.specs.declared.error.SendError.TheVariants as send_erro
 ghost use Rattle.ei_types.specs.Enums.{key_state_number};
 ghost use Rattle.ei_backend.specs.Message.{Reads, Parsed, some_row};
 ghost use Rattle.ei_backend.specs.Shown.{shown_row, shown_of_arg};
-ghost use Rattle.ei_backend.specs.Backend.{after_row};
+ghost use Rattle.ei_backend.specs.Backend.{after_row, FitsRow};
 ghost use Rattle.ei_client.specs.Text.{values_of, code_of};
 
 use crate::context::Context;
@@ -116,6 +116,7 @@ impl Text {
         ensures ok { OnOk result (ctx.new ≡ after_row (row_named (codes "release") (table false known.Text)) self.now [] ctx.old) }
         ensures err { OnErr result (ctx.new ≡ ctx.old) }
         ensures only { IfErr result (λ e. e ≡ send_error.NoMemory) }
+        ensures room { FitsRow (row_named (codes "release") (table false known.Text)) self.now [] ctx.old → IsErrOf result send_error.NoMemory → ⊥ }
     {
         self.object.request(ctx, 0, &[])
     }
@@ -127,6 +128,7 @@ impl Text {
         ensures ok { OnOk result (ctx.new ≡ after_row (row_named (codes "keysym") (table false known.Text)) self.now (Word keysym ∷ Word (key_state_number state) ∷ []) ctx.old) }
         ensures err { OnErr result (ctx.new ≡ ctx.old) }
         ensures only { IfErr result (λ e. e ≡ send_error.NoMemory) }
+        ensures room { FitsRow (row_named (codes "keysym") (table false known.Text)) self.now (Word keysym ∷ Word (key_state_number state) ∷ []) ctx.old → IsErrOf result send_error.NoMemory → ⊥ }
     {
         let args = [Arg::Uint32(keysym), Arg::Uint32(u32::from(state))];
         self.object.request(ctx, 1, &args)
@@ -141,6 +143,7 @@ impl Text {
         ensures err { OnErr result (ctx.new ≡ ctx.old) }
         ensures long { IsErrOf result send_error.MessageTooLong ↔ (1048576 < size (message self.now.id 2 (Letters text.now ∷ []))) }
         ensures not_exhausted { IsErrOf result send_error.IdsExhausted → ⊥ }
+        ensures room { FitsRow (row_named (codes "utf8") (table false known.Text)) self.now (Letters text.now ∷ []) ctx.old → IsErrOf result send_error.NoMemory → ⊥ }
     {
         self.object.request(ctx, 2, &[Arg::String(Some(text))])
     }

@@ -1,6 +1,6 @@
 //! `ei_button`: the buttons of a device.
 
-ghost use Rattle.std.specs.Prelude.{◌≡◌, IfOk, OnOk, OnErr, IfErr, true, false, codes, [], ◌∷◌, map};
+ghost use Rattle.std.specs.Prelude.{◌≡◌, IfOk, OnOk, OnErr, IfErr, true, false, codes, [], ◌∷◌, map, IsErrOf};
 ghost use Rattle.ei_spec.specs.Value.{Word};
 ghost use Rattle.ei_spec.specs.Interface.{Known};
 ghost use Rattle.ei_spec.specs.declared.interface.KnownInterface.TheVariants as known;
@@ -10,7 +10,7 @@ ghost use Rattle.ei_wire.specs.declared.error.SendError.TheVariants as send_erro
 ghost use Rattle.ei_types.specs.Enums.{button_state_number};
 ghost use Rattle.ei_backend.specs.Message.{Reads, Parsed, some_row};
 ghost use Rattle.ei_backend.specs.Shown.{shown_row, shown_of_arg};
-ghost use Rattle.ei_backend.specs.Backend.{after_row};
+ghost use Rattle.ei_backend.specs.Backend.{after_row, FitsRow};
 ghost use Rattle.ei_server.specs.Button.{values_of, code_of};
 
 use crate::context::Context;
@@ -115,6 +115,7 @@ impl Button {
         ensures ok { OnOk result (ctx.new ≡ after_row (row_named (codes "destroyed") (table true known.Button)) self.now (Word serial ∷ []) ctx.old) }
         ensures err { OnErr result (ctx.new ≡ ctx.old) }
         ensures only { IfErr result (λ e. e ≡ send_error.NoMemory) }
+        ensures room { FitsRow (row_named (codes "destroyed") (table true known.Button)) self.now (Word serial ∷ []) ctx.old → IsErrOf result send_error.NoMemory → ⊥ }
     {
         self.object.request(ctx, 0, &[Arg::Uint32(serial)])?;
         ctx.backend_mut().remove_id(self.object.id());
@@ -133,6 +134,7 @@ impl Button {
         ensures ok { OnOk result (ctx.new ≡ after_row (row_named (codes "button") (table true known.Button)) self.now (Word button ∷ Word (button_state_number state) ∷ []) ctx.old) }
         ensures err { OnErr result (ctx.new ≡ ctx.old) }
         ensures only { IfErr result (λ e. e ≡ send_error.NoMemory) }
+        ensures room { FitsRow (row_named (codes "button") (table true known.Button)) self.now (Word button ∷ Word (button_state_number state) ∷ []) ctx.old → IsErrOf result send_error.NoMemory → ⊥ }
     {
         let args = [Arg::Uint32(button), Arg::Uint32(u32::from(state))];
         self.object.request(ctx, 1, &args)

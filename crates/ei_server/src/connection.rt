@@ -14,7 +14,7 @@ ghost use Rattle.ei_types.specs.Enums.{disconnect_reason_number};
 ghost use Rattle.ei_backend.specs.Message.{Reads, Parsed, some_row};
 ghost use Rattle.ei_backend.specs.Shown.{shown_row, shown_of_arg};
 ghost use Rattle.ei_backend.specs.Table.{own, own_end};
-ghost use Rattle.ei_backend.specs.Backend.{after_row, after_new};
+ghost use Rattle.ei_backend.specs.Backend.{after_row, after_new, FitsRow};
 ghost use Rattle.ei_server.specs.Connection.{values_of, code_of};
 
 use crate::callback::Callback;
@@ -134,6 +134,7 @@ impl Connection {
         ensures err { OnErr result (ctx.new ≡ ctx.old) }
         ensures long { IsErrOf result send_error.MessageTooLong ↔ (1048576 < size (message self.now.id 0 (Word last_serial ∷ Word (disconnect_reason_number reason) ∷ or_null (option_copied explanation.entry) ∷ []))) }
         ensures not_exhausted { IsErrOf result send_error.IdsExhausted → ⊥ }
+        ensures room { FitsRow (row_named (codes "disconnected") (table true known.Connection)) self.now (Word last_serial ∷ Word (disconnect_reason_number reason) ∷ or_null (option_copied explanation.entry) ∷ []) ctx.old → IsErrOf result send_error.NoMemory → ⊥ }
     {
         let args = [
             Arg::Uint32(last_serial),
@@ -154,6 +155,7 @@ impl Connection {
         ensures err { OnErr result (ctx.new ≡ ctx.old) }
         ensures exhausted { IsErrOf result send_error.IdsExhausted ↔ (own_end ctx.old.table ≤ ctx.old.table.next_own) }
         ensures not_long { IsErrOf result send_error.MessageTooLong → ⊥ }
+        ensures room { FitsRow (row_named (codes "seat") (table true known.Connection)) self.now (Long ctx.old.table.next_own ∷ Word version ∷ []) ctx.old → ctx.old.table.next_own < ctx.old.table.room → IsErrOf result send_error.NoMemory → ⊥ }
     {
         let id = self.object.id();
         let args = [Arg::NewId(ctx.backend().next_id()), Arg::Uint32(version)];
@@ -176,6 +178,7 @@ impl Connection {
         ensures ok { OnOk result (ctx.new ≡ after_row (row_named (codes "invalid_object") (table true known.Connection)) self.now (Word last_serial ∷ Long invalid_id ∷ []) ctx.old) }
         ensures err { OnErr result (ctx.new ≡ ctx.old) }
         ensures only { IfErr result (λ e. e ≡ send_error.NoMemory) }
+        ensures room { FitsRow (row_named (codes "invalid_object") (table true known.Connection)) self.now (Word last_serial ∷ Long invalid_id ∷ []) ctx.old → IsErrOf result send_error.NoMemory → ⊥ }
     {
         let args = [Arg::Uint32(last_serial), Arg::Uint64(invalid_id)];
         self.object.request(ctx, 2, &args)
@@ -190,6 +193,7 @@ impl Connection {
         ensures err { OnErr result (ctx.new ≡ ctx.old) }
         ensures exhausted { IsErrOf result send_error.IdsExhausted ↔ (own_end ctx.old.table ≤ ctx.old.table.next_own) }
         ensures not_long { IsErrOf result send_error.MessageTooLong → ⊥ }
+        ensures room { FitsRow (row_named (codes "ping") (table true known.Connection)) self.now (Long ctx.old.table.next_own ∷ Word version ∷ []) ctx.old → ctx.old.table.next_own < ctx.old.table.room → IsErrOf result send_error.NoMemory → ⊥ }
     {
         let id = self.object.id();
         let args = [Arg::NewId(ctx.backend().next_id()), Arg::Uint32(version)];

@@ -12,7 +12,7 @@ ghost use Rattle.ei_types.specs.Enums.{device_type_number};
 ghost use Rattle.ei_backend.specs.Message.{Reads, Parsed, some_row};
 ghost use Rattle.ei_backend.specs.Shown.{shown_row, shown_of_arg};
 ghost use Rattle.ei_backend.specs.Table.{own, own_end};
-ghost use Rattle.ei_backend.specs.Backend.{after_row, after_new};
+ghost use Rattle.ei_backend.specs.Backend.{after_row, after_new, FitsRow};
 ghost use Rattle.ei_server.specs.Device.{values_of, code_of};
 
 use crate::context::Context;
@@ -124,6 +124,7 @@ impl Device {
         ensures ok { OnOk result (ctx.new ≡ after_row (row_named (codes "destroyed") (table true known.Device)) self.now (Word serial ∷ []) ctx.old) }
         ensures err { OnErr result (ctx.new ≡ ctx.old) }
         ensures only { IfErr result (λ e. e ≡ send_error.NoMemory) }
+        ensures room { FitsRow (row_named (codes "destroyed") (table true known.Device)) self.now (Word serial ∷ []) ctx.old → IsErrOf result send_error.NoMemory → ⊥ }
     {
         self.object.request(ctx, 0, &[Arg::Uint32(serial)])?;
         ctx.backend_mut().remove_id(self.object.id());
@@ -139,6 +140,7 @@ impl Device {
         ensures err { OnErr result (ctx.new ≡ ctx.old) }
         ensures long { IsErrOf result send_error.MessageTooLong ↔ (1048576 < size (message self.now.id 1 (Letters name.now ∷ []))) }
         ensures not_exhausted { IsErrOf result send_error.IdsExhausted → ⊥ }
+        ensures room { FitsRow (row_named (codes "name") (table true known.Device)) self.now (Letters name.now ∷ []) ctx.old → IsErrOf result send_error.NoMemory → ⊥ }
     {
         self.object.request(ctx, 1, &[Arg::String(Some(name))])
     }
@@ -150,6 +152,7 @@ impl Device {
         ensures ok { OnOk result (ctx.new ≡ after_row (row_named (codes "device_type") (table true known.Device)) self.now (Word (device_type_number device_type) ∷ []) ctx.old) }
         ensures err { OnErr result (ctx.new ≡ ctx.old) }
         ensures only { IfErr result (λ e. e ≡ send_error.NoMemory) }
+        ensures room { FitsRow (row_named (codes "device_type") (table true known.Device)) self.now (Word (device_type_number device_type) ∷ []) ctx.old → IsErrOf result send_error.NoMemory → ⊥ }
     {
         self.object
             .request(ctx, 2, &[Arg::Uint32(u32::from(device_type))])
@@ -162,6 +165,7 @@ impl Device {
         ensures ok { OnOk result (ctx.new ≡ after_row (row_named (codes "dimensions") (table true known.Device)) self.now (Word width ∷ Word height ∷ []) ctx.old) }
         ensures err { OnErr result (ctx.new ≡ ctx.old) }
         ensures only { IfErr result (λ e. e ≡ send_error.NoMemory) }
+        ensures room { FitsRow (row_named (codes "dimensions") (table true known.Device)) self.now (Word width ∷ Word height ∷ []) ctx.old → IsErrOf result send_error.NoMemory → ⊥ }
     {
         let args = [Arg::Uint32(width), Arg::Uint32(height)];
         self.object.request(ctx, 3, &args)
@@ -183,6 +187,7 @@ impl Device {
         ensures ok { OnOk result (ctx.new ≡ after_row (row_named (codes "region") (table true known.Device)) self.now (Word offset_x ∷ Word offset_y ∷ Word width ∷ Word hight ∷ Word scale.0 ∷ []) ctx.old) }
         ensures err { OnErr result (ctx.new ≡ ctx.old) }
         ensures only { IfErr result (λ e. e ≡ send_error.NoMemory) }
+        ensures room { FitsRow (row_named (codes "region") (table true known.Device)) self.now (Word offset_x ∷ Word offset_y ∷ Word width ∷ Word hight ∷ Word scale.0 ∷ []) ctx.old → IsErrOf result send_error.NoMemory → ⊥ }
     {
         let args = [
             Arg::Uint32(offset_x),
@@ -207,6 +212,7 @@ impl Device {
         ensures err { OnErr result (ctx.new ≡ ctx.old) }
         ensures exhausted { IsErrOf result send_error.IdsExhausted ↔ (own_end ctx.old.table ≤ ctx.old.table.next_own) }
         ensures not_long { IsErrOf result send_error.MessageTooLong → ⊥ }
+        ensures room { FitsRow (row_named (codes "interface") (table true known.Device)) self.now (Long ctx.old.table.next_own ∷ Letters (name_of T.interface) ∷ Word version ∷ []) ctx.old → ctx.old.table.next_own < ctx.old.table.room → IsErrOf result send_error.NoMemory → ⊥ }
     {
         let id = self.object.id();
         let name = T::wire_name();
@@ -228,6 +234,7 @@ impl Device {
         ensures ok { OnOk result (ctx.new ≡ after_row (row_named (codes "done") (table true known.Device)) self.now [] ctx.old) }
         ensures err { OnErr result (ctx.new ≡ ctx.old) }
         ensures only { IfErr result (λ e. e ≡ send_error.NoMemory) }
+        ensures room { FitsRow (row_named (codes "done") (table true known.Device)) self.now [] ctx.old → IsErrOf result send_error.NoMemory → ⊥ }
     {
         self.object.request(ctx, 6, &[])
     }
@@ -239,6 +246,7 @@ impl Device {
         ensures ok { OnOk result (ctx.new ≡ after_row (row_named (codes "resumed") (table true known.Device)) self.now (Word serial ∷ []) ctx.old) }
         ensures err { OnErr result (ctx.new ≡ ctx.old) }
         ensures only { IfErr result (λ e. e ≡ send_error.NoMemory) }
+        ensures room { FitsRow (row_named (codes "resumed") (table true known.Device)) self.now (Word serial ∷ []) ctx.old → IsErrOf result send_error.NoMemory → ⊥ }
     {
         self.object.request(ctx, 7, &[Arg::Uint32(serial)])
     }
@@ -250,6 +258,7 @@ impl Device {
         ensures ok { OnOk result (ctx.new ≡ after_row (row_named (codes "paused") (table true known.Device)) self.now (Word serial ∷ []) ctx.old) }
         ensures err { OnErr result (ctx.new ≡ ctx.old) }
         ensures only { IfErr result (λ e. e ≡ send_error.NoMemory) }
+        ensures room { FitsRow (row_named (codes "paused") (table true known.Device)) self.now (Word serial ∷ []) ctx.old → IsErrOf result send_error.NoMemory → ⊥ }
     {
         self.object.request(ctx, 8, &[Arg::Uint32(serial)])
     }
@@ -267,6 +276,7 @@ impl Device {
         ensures ok { OnOk result (ctx.new ≡ after_row (row_named (codes "start_emulating") (table true known.Device)) self.now (Word serial ∷ Word sequence ∷ []) ctx.old) }
         ensures err { OnErr result (ctx.new ≡ ctx.old) }
         ensures only { IfErr result (λ e. e ≡ send_error.NoMemory) }
+        ensures room { FitsRow (row_named (codes "start_emulating") (table true known.Device)) self.now (Word serial ∷ Word sequence ∷ []) ctx.old → IsErrOf result send_error.NoMemory → ⊥ }
     {
         let args = [Arg::Uint32(serial), Arg::Uint32(sequence)];
         self.object.request(ctx, 9, &args)
@@ -279,6 +289,7 @@ impl Device {
         ensures ok { OnOk result (ctx.new ≡ after_row (row_named (codes "stop_emulating") (table true known.Device)) self.now (Word serial ∷ []) ctx.old) }
         ensures err { OnErr result (ctx.new ≡ ctx.old) }
         ensures only { IfErr result (λ e. e ≡ send_error.NoMemory) }
+        ensures room { FitsRow (row_named (codes "stop_emulating") (table true known.Device)) self.now (Word serial ∷ []) ctx.old → IsErrOf result send_error.NoMemory → ⊥ }
     {
         self.object.request(ctx, 10, &[Arg::Uint32(serial)])
     }
@@ -291,6 +302,7 @@ impl Device {
         ensures ok { OnOk result (ctx.new ≡ after_row (row_named (codes "frame") (table true known.Device)) self.now (Word serial ∷ Long timestamp ∷ []) ctx.old) }
         ensures err { OnErr result (ctx.new ≡ ctx.old) }
         ensures only { IfErr result (λ e. e ≡ send_error.NoMemory) }
+        ensures room { FitsRow (row_named (codes "frame") (table true known.Device)) self.now (Word serial ∷ Long timestamp ∷ []) ctx.old → IsErrOf result send_error.NoMemory → ⊥ }
     {
         let args = [Arg::Uint32(serial), Arg::Uint64(timestamp)];
         self.object.request(ctx, 11, &args)
@@ -305,6 +317,7 @@ impl Device {
         ensures err { OnErr result (ctx.new ≡ ctx.old) }
         ensures long { IsErrOf result send_error.MessageTooLong ↔ (1048576 < size (message self.now.id 12 (Letters mapping_id.now ∷ []))) }
         ensures not_exhausted { IsErrOf result send_error.IdsExhausted → ⊥ }
+        ensures room { FitsRow (row_named (codes "region_mapping_id") (table true known.Device)) self.now (Letters mapping_id.now ∷ []) ctx.old → IsErrOf result send_error.NoMemory → ⊥ }
     {
         self.object
             .request(ctx, 12, &[Arg::String(Some(mapping_id))])

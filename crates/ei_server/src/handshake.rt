@@ -11,7 +11,7 @@ ghost use Rattle.ei_wire.specs.declared.error.SendError.TheVariants as send_erro
 ghost use Rattle.ei_backend.specs.Message.{Reads, Parsed, some_row};
 ghost use Rattle.ei_backend.specs.Shown.{shown_row, shown_of_arg};
 ghost use Rattle.ei_backend.specs.Table.{own, own_end};
-ghost use Rattle.ei_backend.specs.Backend.{after_row, after_new};
+ghost use Rattle.ei_backend.specs.Backend.{after_row, after_new, FitsRow};
 ghost use Rattle.ei_server.specs.Handshake.{values_of, code_of};
 
 use crate::connection::Connection;
@@ -120,6 +120,7 @@ impl Handshake {
         ensures ok { OnOk result (ctx.new ≡ after_row (row_named (codes "handshake_version") (table true known.Handshake)) self.now (Word version ∷ []) ctx.old) }
         ensures err { OnErr result (ctx.new ≡ ctx.old) }
         ensures only { IfErr result (λ e. e ≡ send_error.NoMemory) }
+        ensures room { FitsRow (row_named (codes "handshake_version") (table true known.Handshake)) self.now (Word version ∷ []) ctx.old → IsErrOf result send_error.NoMemory → ⊥ }
     {
         self.object.request(ctx, 0, &[Arg::Uint32(version)])
     }
@@ -138,6 +139,7 @@ impl Handshake {
         ensures err { OnErr result (ctx.new ≡ ctx.old) }
         ensures long { IsErrOf result send_error.MessageTooLong ↔ (1048576 < size (message self.now.id 1 (Letters name.now ∷ Word version ∷ []))) }
         ensures not_exhausted { IsErrOf result send_error.IdsExhausted → ⊥ }
+        ensures room { FitsRow (row_named (codes "interface_version") (table true known.Handshake)) self.now (Letters name.now ∷ Word version ∷ []) ctx.old → IsErrOf result send_error.NoMemory → ⊥ }
     {
         let args = [Arg::String(Some(name)), Arg::Uint32(version)];
         self.object.request(ctx, 1, &args)
@@ -158,6 +160,7 @@ impl Handshake {
         ensures err { OnErr result (ctx.new ≡ ctx.old) }
         ensures exhausted { IsErrOf result send_error.IdsExhausted ↔ (own_end ctx.old.table ≤ ctx.old.table.next_own) }
         ensures not_long { IsErrOf result send_error.MessageTooLong → ⊥ }
+        ensures room { FitsRow (row_named (codes "connection") (table true known.Handshake)) self.now (Word serial ∷ Long ctx.old.table.next_own ∷ Word version ∷ []) ctx.old → ctx.old.table.next_own < ctx.old.table.room → IsErrOf result send_error.NoMemory → ⊥ }
     {
         let id = self.object.id();
         let args = [

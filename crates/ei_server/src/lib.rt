@@ -2,6 +2,8 @@
 //! send, and the requests that they get.
 //!
 //! There is no handshake here and no policy. Begin with `Context` and `Request`.
+//!
+//! No call that sends wants memory within the room that `Backend::reserve` made: its clause is `room`.
 #![tactic(auto)]
 
 pub mod button;

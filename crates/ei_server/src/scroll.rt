@@ -1,6 +1,6 @@
 //! `ei_scroll`: the scrolling of a device.
 
-ghost use Rattle.std.specs.Prelude.{◌≡◌, IfOk, OnOk, OnErr, IfErr, true, false, codes, [], ◌∷◌, map};
+ghost use Rattle.std.specs.Prelude.{◌≡◌, IfOk, OnOk, OnErr, IfErr, true, false, codes, [], ◌∷◌, map, IsErrOf};
 ghost use Rattle.ei_spec.specs.Value.{Word, Signed};
 ghost use Rattle.ei_spec.specs.Interface.{Known};
 ghost use Rattle.ei_spec.specs.declared.interface.KnownInterface.TheVariants as known;
@@ -9,7 +9,7 @@ ghost use Rattle.ei_spec.specs.Rows.{row_at, row_named};
 ghost use Rattle.ei_wire.specs.declared.error.SendError.TheVariants as send_error;
 ghost use Rattle.ei_backend.specs.Message.{Reads, Parsed, some_row};
 ghost use Rattle.ei_backend.specs.Shown.{shown_row, shown_of_arg};
-ghost use Rattle.ei_backend.specs.Backend.{after_row};
+ghost use Rattle.ei_backend.specs.Backend.{after_row, FitsRow};
 ghost use Rattle.ei_server.specs.Scroll.{values_of, code_of};
 
 use crate::context::Context;
@@ -113,6 +113,7 @@ impl Scroll {
         ensures ok { OnOk result (ctx.new ≡ after_row (row_named (codes "destroyed") (table true known.Scroll)) self.now (Word serial ∷ []) ctx.old) }
         ensures err { OnErr result (ctx.new ≡ ctx.old) }
         ensures only { IfErr result (λ e. e ≡ send_error.NoMemory) }
+        ensures room { FitsRow (row_named (codes "destroyed") (table true known.Scroll)) self.now (Word serial ∷ []) ctx.old → IsErrOf result send_error.NoMemory → ⊥ }
     {
         self.object.request(ctx, 0, &[Arg::Uint32(serial)])?;
         ctx.backend_mut().remove_id(self.object.id());
@@ -126,6 +127,7 @@ impl Scroll {
         ensures ok { OnOk result (ctx.new ≡ after_row (row_named (codes "scroll") (table true known.Scroll)) self.now (Word x.0 ∷ Word y.0 ∷ []) ctx.old) }
         ensures err { OnErr result (ctx.new ≡ ctx.old) }
         ensures only { IfErr result (λ e. e ≡ send_error.NoMemory) }
+        ensures room { FitsRow (row_named (codes "scroll") (table true known.Scroll)) self.now (Word x.0 ∷ Word y.0 ∷ []) ctx.old → IsErrOf result send_error.NoMemory → ⊥ }
     {
         let args = [Arg::Float(x.0), Arg::Float(y.0)];
         self.object.request(ctx, 1, &args)
@@ -138,6 +140,7 @@ impl Scroll {
         ensures ok { OnOk result (ctx.new ≡ after_row (row_named (codes "scroll_discrete") (table true known.Scroll)) self.now (Signed x ∷ Signed y ∷ []) ctx.old) }
         ensures err { OnErr result (ctx.new ≡ ctx.old) }
         ensures only { IfErr result (λ e. e ≡ send_error.NoMemory) }
+        ensures room { FitsRow (row_named (codes "scroll_discrete") (table true known.Scroll)) self.now (Signed x ∷ Signed y ∷ []) ctx.old → IsErrOf result send_error.NoMemory → ⊥ }
     {
         let args = [Arg::Int32(x), Arg::Int32(y)];
         self.object.request(ctx, 2, &args)
@@ -157,6 +160,7 @@ impl Scroll {
         ensures ok { OnOk result (ctx.new ≡ after_row (row_named (codes "scroll_stop") (table true known.Scroll)) self.now (Word x ∷ Word y ∷ Word is_cancel ∷ []) ctx.old) }
         ensures err { OnErr result (ctx.new ≡ ctx.old) }
         ensures only { IfErr result (λ e. e ≡ send_error.NoMemory) }
+        ensures room { FitsRow (row_named (codes "scroll_stop") (table true known.Scroll)) self.now (Word x ∷ Word y ∷ Word is_cancel ∷ []) ctx.old → IsErrOf result send_error.NoMemory → ⊥ }
     {
         let args = [Arg::Uint32(x), Arg::Uint32(y), Arg::Uint32(is_cancel)];
         self.object.request(ctx, 3, &args)

@@ -11,7 +11,7 @@ ghost use Rattle.ei_wire.specs.declared.error.SendError.TheVariants as send_erro
 ghost use Rattle.ei_backend.specs.Message.{Reads, Parsed, some_row};
 ghost use Rattle.ei_backend.specs.Shown.{shown_row, shown_of_arg};
 ghost use Rattle.ei_backend.specs.Table.{own, own_end};
-ghost use Rattle.ei_backend.specs.Backend.{after_row, after_new};
+ghost use Rattle.ei_backend.specs.Backend.{after_row, after_new, FitsRow};
 ghost use Rattle.ei_server.specs.Seat.{values_of, code_of};
 
 use crate::context::Context;
@@ -119,6 +119,7 @@ impl Seat {
         ensures ok { OnOk result (ctx.new ≡ after_row (row_named (codes "destroyed") (table true known.Seat)) self.now (Word serial ∷ []) ctx.old) }
         ensures err { OnErr result (ctx.new ≡ ctx.old) }
         ensures only { IfErr result (λ e. e ≡ send_error.NoMemory) }
+        ensures room { FitsRow (row_named (codes "destroyed") (table true known.Seat)) self.now (Word serial ∷ []) ctx.old → IsErrOf result send_error.NoMemory → ⊥ }
     {
         self.object.request(ctx, 0, &[Arg::Uint32(serial)])?;
         ctx.backend_mut().remove_id(self.object.id());
@@ -134,6 +135,7 @@ impl Seat {
         ensures err { OnErr result (ctx.new ≡ ctx.old) }
         ensures long { IsErrOf result send_error.MessageTooLong ↔ (1048576 < size (message self.now.id 1 (Letters name.now ∷ []))) }
         ensures not_exhausted { IsErrOf result send_error.IdsExhausted → ⊥ }
+        ensures room { FitsRow (row_named (codes "name") (table true known.Seat)) self.now (Letters name.now ∷ []) ctx.old → IsErrOf result send_error.NoMemory → ⊥ }
     {
         self.object.request(ctx, 1, &[Arg::String(Some(name))])
     }
@@ -147,6 +149,7 @@ impl Seat {
         ensures err { OnErr result (ctx.new ≡ ctx.old) }
         ensures long { IsErrOf result send_error.MessageTooLong ↔ (1048576 < size (message self.now.id 2 (Long mask ∷ Letters interface.now ∷ []))) }
         ensures not_exhausted { IsErrOf result send_error.IdsExhausted → ⊥ }
+        ensures room { FitsRow (row_named (codes "capability") (table true known.Seat)) self.now (Long mask ∷ Letters interface.now ∷ []) ctx.old → IsErrOf result send_error.NoMemory → ⊥ }
     {
         let args = [Arg::Uint64(mask), Arg::String(Some(interface))];
         self.object.request(ctx, 2, &args)
@@ -159,6 +162,7 @@ impl Seat {
         ensures ok { OnOk result (ctx.new ≡ after_row (row_named (codes "done") (table true known.Seat)) self.now [] ctx.old) }
         ensures err { OnErr result (ctx.new ≡ ctx.old) }
         ensures only { IfErr result (λ e. e ≡ send_error.NoMemory) }
+        ensures room { FitsRow (row_named (codes "done") (table true known.Seat)) self.now [] ctx.old → IsErrOf result send_error.NoMemory → ⊥ }
     {
         self.object.request(ctx, 3, &[])
     }
@@ -172,6 +176,7 @@ impl Seat {
         ensures err { OnErr result (ctx.new ≡ ctx.old) }
         ensures exhausted { IsErrOf result send_error.IdsExhausted ↔ (own_end ctx.old.table ≤ ctx.old.table.next_own) }
         ensures not_long { IsErrOf result send_error.MessageTooLong → ⊥ }
+        ensures room { FitsRow (row_named (codes "device") (table true known.Seat)) self.now (Long ctx.old.table.next_own ∷ Word version ∷ []) ctx.old → ctx.old.table.next_own < ctx.old.table.room → IsErrOf result send_error.NoMemory → ⊥ }
     {
         let id = self.object.id();
         let args = [Arg::NewId(ctx.backend().next_id()), Arg::Uint32(version)];
