@@ -4,7 +4,8 @@ use Rattle.std.specs.List.{IsDistinct, AllByRecursion, list_any, range_with_len,
 use Rattle.std.specs.Str.{bytes_eq}
 use Rattle.ei_spec.specs.declared.interface.KnownInterface.{KnownInterface}
 use Rattle.ei_spec.specs.declared.interface.KnownInterface.TheVariants as known
-use Rattle.ei_spec.specs.Table.{table, opcodes, names, the_thirteen}
+use Rattle.ei_spec.specs.Interface.{the_thirteen}
+use Rattle.ei_spec.specs.Table.{table, opcodes, names}
 
 pub interfaces : (interface : KnownInterface) → Contains the_thirteen interface
 interfaces known.Handshake = (0, omega arith, refl)

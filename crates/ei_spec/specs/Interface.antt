@@ -1,6 +1,7 @@
 -- The interfaces: their names, their versions, and objects of them.
-use Rattle.std.specs.Prelude.{ℕ, Bool, List, [], ◌∷◌, Option, Some, None, codes, if◌then◌else◌}
+use Rattle.std.specs.Prelude.{ℕ, Bool, List, [], ◌∷◌, Option, Some, None, codes}
 use Rattle.std.specs.Str.{bytes_eq}
+use Rattle.std.specs.List.{find}
 use Rattle.ei_spec.specs.declared.interface.KnownInterface.{KnownInterface}
 use Rattle.ei_spec.specs.declared.interface.KnownInterface.TheVariants.{Handshake, Connection, Callback, Pingpong, Seat, Device, Pointer, PointerAbsolute, Scroll, Button, Keyboard, Touchscreen, Text}
 
@@ -16,54 +17,63 @@ pub record ObjectView : Type 0 where
   pub version : ℕ
   pub client_side : Bool
 
+-- what an interface is: its name on the wire, the same without `ei_`, the version that both ends speak, and, where a
+-- device can have it, the bit that stands for it in a mask of capabilities
+pub record InterfaceRow : Type 0 where
+  pub name : List ℕ
+  pub short : List ℕ
+  pub version : ℕ
+  pub bit : Option ℕ
+
+abbrev pub plain : List ℕ → List ℕ → ℕ → InterfaceRow
+plain name short version = record { name = name; short = short; version = version; bit = None }
+
+abbrev pub capability : List ℕ → List ℕ → ℕ → ℕ → InterfaceRow
+capability name short version bit = record { name = name; short = short; version = version; bit = Some bit }
+
+-- the interfaces, a row each
+abbrev pub about : KnownInterface → InterfaceRow
+about Handshake = plain (codes "ei_handshake") (codes "handshake") 1
+about Connection = plain (codes "ei_connection") (codes "connection") 1
+about Callback = plain (codes "ei_callback") (codes "callback") 1
+about Pingpong = plain (codes "ei_pingpong") (codes "pingpong") 1
+about Seat = plain (codes "ei_seat") (codes "seat") 2
+about Device = plain (codes "ei_device") (codes "device") 3
+about Pointer = capability (codes "ei_pointer") (codes "pointer") 1 1
+about PointerAbsolute = capability (codes "ei_pointer_absolute") (codes "pointer_absolute") 1 2
+about Scroll = capability (codes "ei_scroll") (codes "scroll") 1 16
+about Button = capability (codes "ei_button") (codes "button") 1 32
+about Keyboard = capability (codes "ei_keyboard") (codes "keyboard") 1 4
+about Touchscreen = capability (codes "ei_touchscreen") (codes "touchscreen") 2 8
+about Text = capability (codes "ei_text") (codes "text") 1 64
+
+-- the twelve interfaces that a handshake settles, in the order in which they are announced
+abbrev pub the_twelve : List KnownInterface
+the_twelve = Connection ∷ Callback ∷ Pingpong ∷ Seat ∷ Device ∷ Pointer ∷ PointerAbsolute ∷ Scroll ∷ Button ∷ Keyboard ∷ Touchscreen ∷ Text ∷ []
+
+-- all thirteen: that of the handshake, and the twelve that it settles
+abbrev pub the_thirteen : List KnownInterface
+the_thirteen = Handshake ∷ the_twelve
+
 -- the name on the wire
 abbrev pub name_of : KnownInterface → List ℕ
-name_of Handshake = codes "ei_handshake"
-name_of Connection = codes "ei_connection"
-name_of Callback = codes "ei_callback"
-name_of Pingpong = codes "ei_pingpong"
-name_of Seat = codes "ei_seat"
-name_of Device = codes "ei_device"
-name_of Pointer = codes "ei_pointer"
-name_of PointerAbsolute = codes "ei_pointer_absolute"
-name_of Scroll = codes "ei_scroll"
-name_of Button = codes "ei_button"
-name_of Keyboard = codes "ei_keyboard"
-name_of Touchscreen = codes "ei_touchscreen"
-name_of Text = codes "ei_text"
+name_of interface = (about interface).name
 
 -- the name without `ei_`
 abbrev pub short_of : KnownInterface → List ℕ
-short_of Handshake = codes "handshake"
-short_of Connection = codes "connection"
-short_of Callback = codes "callback"
-short_of Pingpong = codes "pingpong"
-short_of Seat = codes "seat"
-short_of Device = codes "device"
-short_of Pointer = codes "pointer"
-short_of PointerAbsolute = codes "pointer_absolute"
-short_of Scroll = codes "scroll"
-short_of Button = codes "button"
-short_of Keyboard = codes "keyboard"
-short_of Touchscreen = codes "touchscreen"
-short_of Text = codes "text"
+short_of interface = (about interface).short
+
+-- the version that the server has
+abbrev pub server_version : KnownInterface → ℕ
+server_version interface = (about interface).version
+
+-- whether an interface has that name
+abbrev pub is_called : List ℕ → KnownInterface → Bool
+is_called name interface = bytes_eq name (name_of interface)
 
 -- the interface of a name
 unfoldable pub known_of : List ℕ → Option KnownInterface
-known_of n =
-    if bytes_eq n (name_of Handshake) then Some Handshake else
-    (if bytes_eq n (name_of Connection) then Some Connection else
-    (if bytes_eq n (name_of Callback) then Some Callback else
-    (if bytes_eq n (name_of Pingpong) then Some Pingpong else
-    (if bytes_eq n (name_of Seat) then Some Seat else
-    (if bytes_eq n (name_of Device) then Some Device else
-    (if bytes_eq n (name_of Pointer) then Some Pointer else
-    (if bytes_eq n (name_of PointerAbsolute) then Some PointerAbsolute else
-    (if bytes_eq n (name_of Scroll) then Some Scroll else
-    (if bytes_eq n (name_of Button) then Some Button else
-    (if bytes_eq n (name_of Keyboard) then Some Keyboard else
-    (if bytes_eq n (name_of Touchscreen) then Some Touchscreen else
-    (if bytes_eq n (name_of Text) then Some Text else None))))))))))))
+known_of name = find (is_called name) the_thirteen
 
 abbrev pub named_as : List ℕ → Option KnownInterface → Interface
 named_as n (Some k) = Known k
@@ -72,17 +82,6 @@ named_as n None = Other n
 -- the interface that a name stands for
 abbrev pub named : List ℕ → Interface
 named n = named_as n (known_of n)
-
--- the twelve interfaces that a handshake settles, in the order of the list
-abbrev pub the_twelve : List KnownInterface
-the_twelve = Connection ∷ Callback ∷ Pingpong ∷ Seat ∷ Device ∷ Pointer ∷ PointerAbsolute ∷ Scroll ∷ Button ∷ Keyboard ∷ Touchscreen ∷ Text ∷ []
-
--- the version that the server has
-abbrev pub server_version : KnownInterface → ℕ
-server_version Seat = 2
-server_version Device = 3
-server_version Touchscreen = 2
-server_version _ = 1
 
 -- the name of an interface
 abbrev pub bytes_of : Interface → List ℕ

@@ -3,6 +3,7 @@ use Rattle.std.specs.Prelude.{ℕ, ◌+◌, ◌-◌, ◌<◌, ◌≤◌, ◌^◌
 use Rattle.std.specs.Int.{w32, w64, to_le_bytes, from_le_bytes}
 use Rattle.std.specs.List.{flat_map}
 use Rattle.ei_spec.specs.Value.{Value, written}
+use Rattle.ei_spec.specs.declared.limits.TheConstants.{MOST_MESSAGE_BYTES}
 
 -- ---- numbers, the least byte first
 
@@ -32,7 +33,7 @@ size m = 16 + length m.body
 pub record IsLawful (m : Raw) : Type 0 where
   pub id : m.id < 2 ^ 64
   pub opcode : m.opcode < 2 ^ 32
-  pub size : size m ≤ 1048576
+  pub size : size m ≤ MOST_MESSAGE_BYTES
 
 -- the header: the target, the length and the opcode
 unfoldable pub header : ℕ → ℕ → ℕ → List ℕ
@@ -72,7 +73,7 @@ message_at n bytes = record { id = of_le8 (take 8 bytes); opcode = of_le4 (take 
 abbrev pub front_of : ℕ → List ℕ → Front
 front_of n bytes =
     if nat_lt n 16 then Unlawful n else
-    (if nat_lt 1048576 n then Unlawful n else
+    (if nat_lt MOST_MESSAGE_BYTES n then Unlawful n else
     (if nat_lt (length bytes) n then Short else Whole (message_at n bytes) (drop n bytes)))
 
 unfoldable pub front : List ℕ → Front

@@ -3,7 +3,7 @@ use Rattle.std.specs.Prelude.{ℕ, Bool, true, false, List, [], ◌∷◌, map, 
 use Rattle.std.specs.List.{sum_by}
 use Rattle.ei_spec.specs.Value.{Kind, U32, I32, U64, Float, Text, Nullable, Handle, New, Choice}
 use Rattle.ei_spec.specs.Rows.{Row, row, destructor, announcing, handing_over, Fixed, Named}
-use Rattle.ei_spec.specs.Interface.{the_twelve}
+use Rattle.ei_spec.specs.Interface.{the_thirteen}
 use Rattle.ei_spec.specs.declared.interface.KnownInterface.{KnownInterface}
 use Rattle.ei_spec.specs.declared.interface.KnownInterface.TheVariants as known
 
@@ -255,10 +255,6 @@ table true known.Text =
     ∷ []
 
 -- ---- how many there are
-
--- the thirteen interfaces: that of the handshake, and the twelve that it settles
-abbrev pub the_thirteen : List KnownInterface
-the_thirteen = known.Handshake ∷ the_twelve
 
 -- how many messages the table has of one end
 abbrev pub count : Bool → ℕ

@@ -1,7 +1,9 @@
 //! The interfaces of the protocol.
 
 ghost use Rattle.std.specs.Prelude.{◌≡◌};
-ghost use Rattle.ei_spec.specs.Interface.{name_of, known_of};
+ghost use Rattle.std.specs.Option.{option_copied};
+ghost use Rattle.std.specs.List.{find};
+ghost use Rattle.ei_spec.specs.Interface.{name_of, known_of, is_called};
 
 /// An interface of the protocol.
 #[derive(Clone, Copy, Debug, PartialEq, Eq, Hash)]
@@ -22,6 +24,23 @@ pub enum KnownInterface {
 }
 
 impl KnownInterface {
+    /// All of them: that of the handshake, and the twelve that it settles, in the order in which they are announced.
+    pub const ALL: [KnownInterface; 13] = [
+        KnownInterface::Handshake,
+        KnownInterface::Connection,
+        KnownInterface::Callback,
+        KnownInterface::Pingpong,
+        KnownInterface::Seat,
+        KnownInterface::Device,
+        KnownInterface::Pointer,
+        KnownInterface::PointerAbsolute,
+        KnownInterface::Scroll,
+        KnownInterface::Button,
+        KnownInterface::Keyboard,
+        KnownInterface::Touchscreen,
+        KnownInterface::Text,
+    ];
+
     /// The name on the wire, as `ei_seat`.
     pub fn name(self) -> &'static str
         ensures { result.now ≡ name_of self }
@@ -48,34 +67,13 @@ impl KnownInterface {
     pub fn from_name(name: &str) -> Option<KnownInterface>
         ensures { result ≡ known_of name.now }
     {
-        if name == "ei_handshake" {
-            Some(KnownInterface::Handshake)
-        } else if name == "ei_connection" {
-            Some(KnownInterface::Connection)
-        } else if name == "ei_callback" {
-            Some(KnownInterface::Callback)
-        } else if name == "ei_pingpong" {
-            Some(KnownInterface::Pingpong)
-        } else if name == "ei_seat" {
-            Some(KnownInterface::Seat)
-        } else if name == "ei_device" {
-            Some(KnownInterface::Device)
-        } else if name == "ei_pointer" {
-            Some(KnownInterface::Pointer)
-        } else if name == "ei_pointer_absolute" {
-            Some(KnownInterface::PointerAbsolute)
-        } else if name == "ei_scroll" {
-            Some(KnownInterface::Scroll)
-        } else if name == "ei_button" {
-            Some(KnownInterface::Button)
-        } else if name == "ei_keyboard" {
-            Some(KnownInterface::Keyboard)
-        } else if name == "ei_touchscreen" {
-            Some(KnownInterface::Touchscreen)
-        } else if name == "ei_text" {
-            Some(KnownInterface::Text)
-        } else {
-            None
-        }
+        first_named(&KnownInterface::ALL, name).copied()
     }
+}
+
+/// The first interface of that name.
+fn first_named<'a>(interfaces: &'a [KnownInterface], name: &str) -> Option<&'a KnownInterface>
+    ensures { option_copied result ≡ find (is_called name.now) interfaces.now }
+{
+    interfaces.iter().find(|interface| name == interface.name())
 }

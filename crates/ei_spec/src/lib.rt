@@ -8,6 +8,7 @@
 mod handle;
 mod interface;
 mod laws;
+pub mod limits;
 
 pub use handle::Handle;
 pub use interface::KnownInterface;

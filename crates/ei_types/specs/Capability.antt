@@ -1,8 +1,8 @@
 -- Capabilities: their bits, their interfaces, and sets of them as numbers.
-use Rattle.std.specs.Prelude.{ℕ, ◌/◌, ◌%◌, ◌==◌, Bool, List, [], ◌∷◌, Option, Some, None, option_and_then, IsTrue}
+use Rattle.std.specs.Prelude.{ℕ, ◌/◌, ◌%◌, ◌==◌, Bool, List, [], ◌∷◌, Option, Some, None, option_and_then, unwrap_or, map, IsTrue}
 use Rattle.ei_spec.specs.declared.interface.KnownInterface.{KnownInterface}
 use Rattle.ei_spec.specs.declared.interface.KnownInterface.TheVariants as known
-use Rattle.ei_spec.specs.Interface.{name_of, known_of}
+use Rattle.ei_spec.specs.Interface.{about, name_of, known_of}
 use Rattle.ei_types.specs.declared.capability.DeviceCapability.{DeviceCapability}
 use Rattle.ei_types.specs.declared.capability.DeviceCapability.TheVariants.{Pointer, PointerAbsolute, Keyboard, Touch, Scroll, Button, Text}
 use Rattle.ei_types.specs.declared.capability.DeviceCapabilities.{DeviceCapabilities}
@@ -11,11 +11,7 @@ use Rattle.ei_types.specs.declared.capability.DeviceCapabilities.{DeviceCapabili
 abbrev pub capability_list : List DeviceCapability
 capability_list = Pointer ∷ PointerAbsolute ∷ Keyboard ∷ Touch ∷ Scroll ∷ Button ∷ Text ∷ []
 
--- the bit and the interface of each capability, by rising bit
-abbrev pub capabilities : List (ℕ × KnownInterface)
-capabilities = (1, known.Pointer) ∷ (2, known.PointerAbsolute) ∷ (4, known.Keyboard) ∷ (8, known.Touchscreen) ∷ (16, known.Scroll) ∷ (32, known.Button) ∷ (64, known.Text) ∷ []
-
--- the place of a capability in these lists
+-- the place of a capability in this list
 abbrev pub index_of : DeviceCapability → ℕ
 index_of Pointer = 0
 index_of PointerAbsolute = 1
@@ -24,16 +20,6 @@ index_of Touch = 3
 index_of Scroll = 4
 index_of Button = 5
 index_of Text = 6
-
--- the bit of a capability
-abbrev pub bit_of : DeviceCapability → ℕ
-bit_of Pointer = 1
-bit_of PointerAbsolute = 2
-bit_of Keyboard = 4
-bit_of Touch = 8
-bit_of Scroll = 16
-bit_of Button = 32
-bit_of Text = 64
 
 -- the interface that a capability names
 abbrev pub interface_of : DeviceCapability → KnownInterface
@@ -44,6 +30,14 @@ interface_of Touch = known.Touchscreen
 interface_of Scroll = known.Scroll
 interface_of Button = known.Button
 interface_of Text = known.Text
+
+-- its bit: that of its interface
+abbrev pub bit_of : DeviceCapability → ℕ
+bit_of one = unwrap_or (about (interface_of one)).bit 0
+
+-- the bit and the interface of each capability, by rising bit
+abbrev pub capabilities : List (ℕ × KnownInterface)
+capabilities = map (λ one. (bit_of one, interface_of one)) capability_list
 
 -- the name of that interface
 abbrev pub interface_name_of : DeviceCapability → List ℕ
