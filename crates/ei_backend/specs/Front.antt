@@ -3,6 +3,7 @@ use Rattle.std.specs.Prelude.{◌≡◌, ◌+◌, ◌<◌, ◌≤◌, ℕ, List,
 use Rattle.ei_spec.specs.Message.{Front, Short, Unlawful, Whole, front}
 use Rattle.ei_backend.specs.declared.front.FrontMessage.{FrontMessage}
 use Rattle.ei_backend.specs.declared.front.FrontMessage.TheVariants as code
+use Rattle.ei_spec.specs.declared.limits.TheConstants.{MOST_MESSAGE_BYTES}
 
 -- the front of these bytes
 abbrev pub front_view : List ℕ → FrontMessage → Front
@@ -19,7 +20,7 @@ pub record IsNeeded (bytes : List ℕ) (needed : ℕ) : Type 0 where
 abbrev pub IsLawful : List ℕ → FrontMessage → Type 0
 IsLawful bytes (code.Short needed) = IsNeeded bytes needed
 IsLawful bytes (code.Unlawful len) = Unit {0}
-IsLawful bytes (code.Whole id opcode body len) = (16 ≤ len) × (len ≤ length bytes) × (length body.now + 16 ≡ len) × (len ≤ 1048576)
+IsLawful bytes (code.Whole id opcode body len) = (16 ≤ len) × (len ≤ length bytes) × (length body.now + 16 ≡ len) × (len ≤ MOST_MESSAGE_BYTES)
 
 -- the front of more bytes, where the first of them have it already
 abbrev pub behind : List ℕ → Front → Front

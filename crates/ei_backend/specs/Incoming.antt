@@ -5,26 +5,27 @@ use Rattle.ei_spec.specs.Piece.{Piece}
 use Rattle.ei_wire.specs.declared.error.ReadError.{ReadError}
 use Rattle.ei_wire.specs.declared.error.ReadError.TheVariants as read_error
 use Rattle.ei_backend.specs.Ring.{first_capacity, grown}
+use Rattle.ei_spec.specs.declared.limits.TheConstants.{MOST_PIECE_BYTES, MOST_PIECE_HANDLES, MOST_UNREAD_HANDLES}
 
 -- the piece is the first of these, and the source has the others left
 pub record IsFirst (pieces : List Piece) (left : Option (List Piece)) (piece : Piece) : Type 0 where
   pub first : slice_get pieces 0 ≡ Some piece
   pub left_is : left ≡ Some (drop 1 pieces)
 
--- a piece of n bytes, whose handles and those unread are at most 4096
+-- a piece of n bytes, with whose handles no more are unread than may be
 pub record Fits (n : ℕ) (unread : List Handle) (piece : Piece) : Type 0 where
   pub bytes : n ≡ length piece.bytes
   pub some : 0 < n
-  pub most : n ≤ 65536
-  pub most_handles : length piece.handles ≤ 64
-  pub limit : length unread + length piece.handles ≤ 4096
+  pub most : n ≤ MOST_PIECE_BYTES
+  pub most_handles : length piece.handles ≤ MOST_PIECE_HANDLES
+  pub limit : length unread + length piece.handles ≤ MOST_UNREAD_HANDLES
 
--- a piece whose handles and those unread are more than 4096
+-- a piece with whose handles more are unread than may be
 pub record Overflows (unread : List Handle) (piece : Piece) : Type 0 where
   pub some : 0 < length piece.bytes
-  pub most : length piece.bytes ≤ 65536
-  pub most_handles : length piece.handles ≤ 64
-  pub limit : 4096 < length unread + length piece.handles
+  pub most : length piece.bytes ≤ MOST_PIECE_BYTES
+  pub most_handles : length piece.handles ≤ MOST_PIECE_HANDLES
+  pub limit : MOST_UNREAD_HANDLES < length unread + length piece.handles
 
 -- what is unread, and the bytes that its ring holds
 pub record IncomingView : Type 0 where

@@ -6,6 +6,7 @@ use Rattle.ei_backend.specs.declared.outside.PutError.{PutError}
 use Rattle.ei_backend.specs.declared.outside.PutError.TheVariants as put_errors
 use Rattle.ei_backend.specs.declared.outside.Taken.{Taken}
 use Rattle.ei_backend.specs.declared.outside.LastAnswer.{LastAnswer}
+use Rattle.ei_spec.specs.declared.limits.TheConstants.{MOST_PIECE_BYTES, MOST_PIECE_HANDLES}
 
 -- a source: the pieces left, the calls that fail, the calls and faults so far, the last answer
 pub record PiecesView : Type 0 where
@@ -33,11 +34,11 @@ pub record TextView : Type 0 where
 pub record ReadingsView : Type 0 where
   pub left : List ℕ
 
--- 1 to 65536 bytes, and at most 64 handles
+-- at least one byte, and at most the bytes and handles of a piece
 pub record IsPiece (piece : Piece) : Type 0 where
   pub some : 0 < length piece.bytes
-  pub bytes : length piece.bytes ≤ 65536
-  pub handles : length piece.handles ≤ 64
+  pub bytes : length piece.bytes ≤ MOST_PIECE_BYTES
+  pub handles : length piece.handles ≤ MOST_PIECE_HANDLES
 
 -- one more, up to the last value of a count
 abbrev pub counted : ℕ → ℕ

@@ -8,6 +8,7 @@ use Rattle.ei_backend.specs.declared.outside.PutError.TheVariants as put_errors
 use Rattle.ei_backend.specs.declared.outside.Taken.{Taken}
 use Rattle.ei_backend.specs.declared.outside.LastAnswer.{LastAnswer}
 use Rattle.ei_backend.specs.declared.outside.LastAnswer.TheVariants as answers
+use Rattle.ei_spec.specs.declared.limits.TheConstants.{MOST_PIECE_BYTES, MOST_PIECE_HANDLES}
 
 -- a count went up, or stands at its last value
 abbrev pub Rose : ℕ → ℕ → Type 0
@@ -23,10 +24,10 @@ pub record HasPutCause {T : Type 0} (before now : ℕ) (result : Result T PutErr
   pub later : before ≤ now
   pub failed : IsErrOf result put_errors.Fault → Rose before now
 
--- at most 65536 bytes and 64 handles, and no handle without a byte
+-- at most the bytes and handles of a piece, and no handle without a byte
 pub record IsPieceSize (taken : Taken) : Type 0 where
-  pub bytes : taken.bytes ≤ 65536
-  pub handles : taken.handles ≤ 64
+  pub bytes : taken.bytes ≤ MOST_PIECE_BYTES
+  pub handles : taken.handles ≤ MOST_PIECE_HANDLES
   pub none : taken.bytes ≡ 0 → taken.handles ≡ 0
 
 -- the first of these pieces was handed out, or there was none

@@ -6,6 +6,7 @@ use Rattle.std.specs.FinMap as map
 use Rattle.ei_spec.specs.Reading.{Fault, InvalidId}
 use Rattle.ei_spec.specs.Interface.{Interface, ObjectView, Known}
 use Rattle.ei_spec.specs.declared.interface.KnownInterface.TheVariants as known
+use Rattle.ei_spec.specs.declared.limits.TheConstants.{FIRST_SERVER_ID}
 
 -- the objects by id, the next own id, the next id that the peer may give, whether this is a client, and the
 -- id below which own objects are made without want of memory
@@ -30,7 +31,7 @@ without t id = record t { objects = map.remove t.objects id }
 
 -- the first id of the server
 abbrev pub first_server_id : ℕ
-first_server_id = 0xff00000000000000
+first_server_id = FIRST_SERVER_ID
 
 -- object 0, which is there from the first
 abbrev pub first_object : Bool → ObjectView
@@ -62,7 +63,7 @@ new_table client next_own = record {
 
 -- the ids of the peer end here
 abbrev pub peer_end : TableView → ℕ
-peer_end t = if t.client then 18446744073709551615 else 0xff00000000000000
+peer_end t = if t.client then 18446744073709551615 else first_server_id
 
 -- the object that the peer announces, and the table with it
 abbrev pub accept : TableView → ℕ → Interface → ℕ → Result (ObjectView × TableView) Fault
@@ -73,7 +74,7 @@ accept t id interface version =
 
 -- the own ids end here
 abbrev pub own_end : TableView → ℕ
-own_end t = if t.client then 0xff00000000000000 else 18446744073709551615
+own_end t = if t.client then first_server_id else 18446744073709551615
 
 -- the next object of this end
 abbrev pub own : TableView → Interface → ℕ → ObjectView

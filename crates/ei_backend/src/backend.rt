@@ -14,6 +14,7 @@ ghost use Rattle.ei_backend.specs.Table.{new_table, first_object, first_server_i
 ghost use Rattle.ei_backend.specs.Outside.{Piece, Rose};
 ghost use Rattle.ei_backend.specs.Outgoing.{StopsAfter, Flushes, HasRoomFor, with_message};
 ghost use Rattle.ei_backend.specs.Backend.{new_backend, ReadsOn, ReadsPiece, body_read, Says, next, Answers, Shortens, sent, sent_new, with_object, with_room, removed, closed_of, unsent_of, with_unsent};
+ghost use Rattle.ei_spec.specs.declared.limits.TheConstants.{MOST_MESSAGE_BYTES};
 
 use crate::incoming::Incoming;
 use crate::interface::InterfaceName;
@@ -21,8 +22,9 @@ use crate::message::{MessageEnum, PendingRequestResult};
 use crate::object::Object;
 use crate::outgoing::Outgoing;
 use crate::outside::{Sink, Source};
-use crate::table::{FIRST_SERVER_ID, Table};
+use crate::table::Table;
 use ei_spec::Handle;
+use ei_spec::limits::FIRST_SERVER_ID;
 use ei_wire::{Arg, ByteStream, FlushError, NoMemory, ParseError, ReadError, SendError};
 use std::alloc::Global;
 use std::marker::Model;
@@ -164,7 +166,7 @@ impl Backend {
         args: &[Arg<'_>],
     ) -> Result<(), SendError>
         ensures ok { OnOk result (self.new ≡ sent self.old object_id opcode (map value_of_arg args.now)) }
-        ensures long { IsErrOf result send_error.MessageTooLong ↔ (1048576 < size (message object_id opcode (map value_of_arg args.now))) }
+        ensures long { IsErrOf result send_error.MessageTooLong ↔ (MOST_MESSAGE_BYTES < size (message object_id opcode (map value_of_arg args.now))) }
         ensures not_exhausted { IsErrOf result send_error.IdsExhausted → ⊥ }
         ensures err { OnErr result (self.new ≡ self.old) }
         ensures room { HasRoomFor object_id opcode (map value_of_arg args.now) (unsent_of self.old) self.old.room → IsErrOf result send_error.NoMemory → ⊥ }
@@ -187,7 +189,7 @@ impl Backend {
     ) -> Result<Object, SendError>
         ensures ok { IfOk result (λ o. (o ≡ own self.old.table (interface_view interface) version) × (self.new ≡ sent_new self.old object_id opcode (map value_of_arg args.now) (interface_view interface) version)) }
         ensures exhausted { IsErrOf result send_error.IdsExhausted ↔ (own_end self.old.table ≤ self.old.table.next_own) }
-        ensures long { IsErrOf result send_error.MessageTooLong ↔ ((self.old.table.next_own < own_end self.old.table) × (1048576 < size (message object_id opcode (map value_of_arg args.now)))) }
+        ensures long { IsErrOf result send_error.MessageTooLong ↔ ((self.old.table.next_own < own_end self.old.table) × (MOST_MESSAGE_BYTES < size (message object_id opcode (map value_of_arg args.now)))) }
         ensures err { OnErr result (self.new ≡ self.old) }
         ensures room { HasRoomFor object_id opcode (map value_of_arg args.now) (unsent_of self.old) self.old.room → self.old.table.next_own < self.old.table.room → HasFixedName (interface_view interface) → IsErrOf result send_error.NoMemory → ⊥ }
     {
@@ -341,7 +343,7 @@ fn announce(
     ensures object { IfOk result (λ o. (o ≡ own table.old (interface_view interface) version) × (table.new ≡ with_own table.old (interface_view interface) version)) }
     ensures ok { OnOk result (outgoing.new ≡ record outgoing.old { waiting = with_message object_id opcode (map value_of_arg args.now) outgoing.old.waiting }) }
     ensures exhausted { IsErrOf result send_error.IdsExhausted ↔ (own_end table.old ≤ table.old.next_own) }
-    ensures long { IsErrOf result send_error.MessageTooLong ↔ ((table.old.next_own < own_end table.old) × (1048576 < size (message object_id opcode (map value_of_arg args.now)))) }
+    ensures long { IsErrOf result send_error.MessageTooLong ↔ ((table.old.next_own < own_end table.old) × (MOST_MESSAGE_BYTES < size (message object_id opcode (map value_of_arg args.now)))) }
     ensures err_table { OnErr result (table.new ≡ table.old) }
     ensures err { OnErr result (outgoing.new ≡ outgoing.old) }
     ensures room { HasRoomFor object_id opcode (map value_of_arg args.now) outgoing.old.waiting outgoing.old.room → table.old.next_own < table.old.room → HasFixedName (interface_view interface) → IsErrOf result send_error.NoMemory → ⊥ }

@@ -4,11 +4,10 @@ ghost use Rattle.std.specs.Prelude.{◌≡◌, ◌+◌, ◌^◌, ◌<◌, ◌++�
 ghost use Rattle.ei_spec.specs.Message.{Short, front};
 ghost use Rattle.ei_backend.specs.Front.{front_view, IsLawful, behind};
 
+use ei_spec::limits::MOST_MESSAGE_BYTES;
+
 /// The bytes of a header.
 const HEADER_BYTES: usize = 16;
-
-/// The most bytes of a message, its header included.
-const MOST_BYTES: u32 = 1048576;
 
 /// What stands at the front.
 #[derive(Clone, Copy)]
@@ -35,7 +34,7 @@ pub(crate) fn front_of(bytes: &[u8]) -> FrontMessage<'_>
     ]);
     let len = u32::from_le_bytes([bytes[8], bytes[9], bytes[10], bytes[11]]);
     let opcode = u32::from_le_bytes([bytes[12], bytes[13], bytes[14], bytes[15]]);
-    if len < 16 || len > MOST_BYTES {
+    if len < 16 || len > MOST_MESSAGE_BYTES {
         return FrontMessage::Unlawful(len);
     }
     let end = len as usize;

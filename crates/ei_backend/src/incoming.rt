@@ -11,21 +11,16 @@ ghost use Rattle.ei_backend.specs.Step.{holding};
 use crate::message::{MessageEnum, PendingRequestResult};
 use crate::outside::Source;
 use crate::reading::next_message;
-use crate::ring::{FIRST_CAPACITY, MOST_BYTES, make_room};
+use crate::ring::{FIRST_CAPACITY, make_room};
 use crate::table::Table;
 use circular_buffer::HeapCircularBuffer;
 use ei_spec::Handle;
+use ei_spec::limits::{MOST_PIECE_BYTES, MOST_PIECE_HANDLES, MOST_UNREAD_HANDLES};
 use ei_wire::{NoMemory, ReadError};
 use std::alloc::Global;
 use std::marker::Model;
 
-/// The most handles of a piece.
-const MOST_PIECE_HANDLES: usize = 64;
-
-/// The most handles that may be unread. Their ring never grows.
-const MOST_HANDLES: usize = 4096;
-
-/// Bytes and handles that are not read yet, and room for the next piece.
+/// Bytes and handles that are not read yet, and room for the next piece. The ring of the handles never grows.
 #[derive(Drop)]
 pub(crate) struct Incoming {
     bytes: HeapCircularBuffer<u8>,
@@ -37,6 +32,7 @@ pub(crate) struct Incoming {
 impl Model for Incoming {
     ghost use Rattle.std.specs.Prelude.{◌≡◌, vec_len};
     ghost use Rattle.ei_backend.specs.Codes.{incoming_code};
+    ghost use Rattle.ei_spec.specs.declared.limits.TheConstants.{MOST_PIECE_BYTES, MOST_PIECE_HANDLES, MOST_UNREAD_HANDLES};
     ghost use Rattle.ei_backend.specs.Incoming.{IncomingView};
 
     ghost Value = { IncomingView };
@@ -45,7 +41,7 @@ impl Model for Incoming {
 
     ghost view = { λ i. record { bytes = i.bytes.items; handles = i.handles.items; capacity = i.bytes.capacity } };
 
-    ghost invariant = { λ i. (vec_len i.room ≡ 65536) × (vec_len i.handle_room ≡ 64) × (i.handles.capacity ≡ 4096) };
+    ghost invariant = { λ i. (vec_len i.room ≡ MOST_PIECE_BYTES) × (vec_len i.handle_room ≡ MOST_PIECE_HANDLES) × (i.handles.capacity ≡ MOST_UNREAD_HANDLES) };
 }
 
 fn zeroed(alloc: Global, count: usize) -> Result<Vec<u8>, NoMemory>
@@ -65,8 +61,8 @@ impl Incoming {
         ensures { IfOk result (λ i. i ≡ none_unread) }
     {
         let bytes = HeapCircularBuffer::with_capacity(alloc, FIRST_CAPACITY)?;
-        let handles = HeapCircularBuffer::with_capacity(alloc, MOST_HANDLES)?;
-        let room = zeroed(alloc, MOST_BYTES)?;
+        let handles = HeapCircularBuffer::with_capacity(alloc, MOST_UNREAD_HANDLES)?;
+        let room = zeroed(alloc, MOST_PIECE_BYTES)?;
         let handle_room = no_handles(alloc, MOST_PIECE_HANDLES)?;
         Ok(Incoming {
             bytes,
@@ -141,7 +137,7 @@ impl Incoming {
         if taken.bytes == 0 {
             return Err(ReadError::UnexpectedEof);
         }
-        if self.handles.len() + taken.handles > MOST_HANDLES {
+        if self.handles.len() + taken.handles > MOST_UNREAD_HANDLES {
             return Err(ReadError::HandleLimit);
         }
         self.bytes.fill_from_slice(&self.room[..taken.bytes]);

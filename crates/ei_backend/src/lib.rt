@@ -22,6 +22,7 @@ mod table;
 mod tray;
 
 pub use backend::Backend;
+pub use ei_spec::limits::FIRST_SERVER_ID;
 pub use has_backend::HasBackend;
 pub use interface::InterfaceName;
 pub use laws::{bursts, tables};
@@ -33,7 +34,7 @@ pub use pieces::Pieces;
 pub use proxy::{Described, Interface};
 pub use readings::Readings;
 pub use ring::ring_laws;
-pub use table::{FIRST_SERVER_ID, Table};
+pub use table::Table;
 pub use tray::Tray;
 
 #[cfg(test)]

@@ -13,6 +13,7 @@ ghost use Rattle.ei_backend.specs.Object.{interface_view, HasFixedName, object_t
 ghost use Rattle.ei_backend.specs.Table.{found};
 ghost use Rattle.ei_backend.specs.Backend.{sent, unsent_of};
 ghost use Rattle.ei_backend.specs.Outgoing.{HasRoomFor};
+ghost use Rattle.ei_spec.specs.declared.limits.TheConstants.{MOST_MESSAGE_BYTES};
 
 use crate::has_backend::HasBackend;
 use crate::interface::InterfaceName;
@@ -141,7 +142,7 @@ impl Object {
         args: &[Arg<'_>],
     ) -> Result<(), SendError>
         ensures ok { OnOk result (ctx.new ≡ C.with_backend ctx.old (sent (C.seen ctx.old) self.now.id opcode (map value_of_arg args.now))) }
-        ensures long { IsErrOf result send_error.MessageTooLong ↔ (1048576 < size (message self.now.id opcode (map value_of_arg args.now))) }
+        ensures long { IsErrOf result send_error.MessageTooLong ↔ (MOST_MESSAGE_BYTES < size (message self.now.id opcode (map value_of_arg args.now))) }
         ensures not_exhausted { IsErrOf result send_error.IdsExhausted → ⊥ }
         ensures err { OnErr result (ctx.new ≡ ctx.old) }
         ensures room { HasRoomFor self.now.id opcode (map value_of_arg args.now) (unsent_of (C.seen ctx.old)) (C.seen ctx.old).room → IsErrOf result send_error.NoMemory → ⊥ }

@@ -11,12 +11,13 @@ ghost use Rattle.ei_backend.specs.Outgoing.{nothing, no_room, more_room, HasRoom
 
 use crate::outside::{PutError, Sink};
 use ei_spec::Handle;
+use ei_spec::limits::MOST_MESSAGE_BYTES;
 use ei_wire::{Arg, FlushError, NoMemory, SendError};
 use std::alloc::Global;
 use std::marker::Model;
 
 /// The most bytes that the arguments of a message may have.
-const MOST_BODY_BYTES: u64 = 1048560;
+const MOST_BODY_BYTES: u64 = MOST_MESSAGE_BYTES as u64 - 16;
 
 /// Bytes and handles that wait for a sink, and how many of each may wait without want of memory.
 #[derive(Drop)]
@@ -105,7 +106,7 @@ impl Outgoing {
         args: &[Arg<'_>],
     ) -> Result<(), SendError>
         ensures ok { OnOk result (self.new ≡ record self.old { waiting = with_message object_id opcode (map value_of_arg args.now) self.old.waiting }) }
-        ensures long { (result ≡ Err send_error.MessageTooLong) ↔ (1048576 < size (message object_id opcode (map value_of_arg args.now))) }
+        ensures long { (result ≡ Err send_error.MessageTooLong) ↔ (MOST_MESSAGE_BYTES < size (message object_id opcode (map value_of_arg args.now))) }
         ensures not_exhausted { IsErrOf result send_error.IdsExhausted → ⊥ }
         ensures err { OnErr result (self.new ≡ self.old) }
         ensures room { HasRoomFor object_id opcode (map value_of_arg args.now) self.old.waiting self.old.room → IsErrOf result send_error.NoMemory → ⊥ }

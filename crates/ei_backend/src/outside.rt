@@ -7,6 +7,7 @@
 ghost use Rattle.std.specs.Prelude.{◌≡◌, ◌<◌, ◌≤◌, List, ℕ, Option, Some, length, IfOk};
 ghost use Rattle.ei_backend.specs.declared.outside.LastAnswer.{LastAnswer};
 ghost use Rattle.ei_backend.specs.Outside.{Piece, HasCause, HasPutCause, IsPieceSize, Takes, last_of, Puts, IsPutSize, Fetches, Reads};
+ghost use Rattle.ei_spec.specs.declared.limits.TheConstants.{MOST_PIECE_BYTES, MOST_PIECE_HANDLES};
 
 use ei_spec::Handle;
 
@@ -59,8 +60,8 @@ pub trait Source {
     ///
     /// `Fault` where the source failed; then it moved nothing.
     fn take(&mut self, bytes: &mut [u8], handles: &mut [Handle]) -> Result<Taken, Fault>
-        requires room { 65536 ≤ length bytes.old }
-        requires handle_room { 64 ≤ length handles.old }
+        requires room { MOST_PIECE_BYTES ≤ length bytes.old }
+        requires handle_room { MOST_PIECE_HANDLES ≤ length handles.old }
         ensures size { IfOk result IsPieceSize }
         ensures pieces { Takes (left self.old) (left self.new) result bytes.new handles.new }
         ensures cause { HasCause (faults self.old) (faults self.new) result }

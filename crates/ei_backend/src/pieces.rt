@@ -3,6 +3,7 @@
 ghost use Rattle.std.specs.Prelude.{◌≡◌, ◌<◌, ◌≤◌, ◌↔◌, [], ◌∷◌, ◌++◌, Some, drop, length, OnOk, OnErr, IfOk, IsErr, Contains};
 ghost use Rattle.ei_backend.specs.Outside.{IsPieceSize, Takes, HasCause, last_of};
 ghost use Rattle.ei_backend.specs.Memory.{PiecesView, counted, first_sizes, faults_after};
+ghost use Rattle.ei_spec.specs.declared.limits.TheConstants.{MOST_PIECE_BYTES, MOST_PIECE_HANDLES};
 
 use crate::outside::{Fault, LastAnswer, Source, Taken};
 use ei_spec::Handle;
@@ -77,8 +78,8 @@ impl Pieces {
     /// Adds a piece behind the others: 1 to 65536 bytes, and at most 64 handles.
     pub fn push(&mut self, bytes: &[u8], handles: &[Handle]) -> Result<(), NoMemory>
         requires some { 0 < length bytes.now }
-        requires bytes { length bytes.now ≤ 65536 }
-        requires handles { length handles.now ≤ 64 }
+        requires bytes { length bytes.now ≤ MOST_PIECE_BYTES }
+        requires handles { length handles.now ≤ MOST_PIECE_HANDLES }
         ensures ok { OnOk result (self.new ≡ record self.old {
           left = self.old.left ++ record { bytes = bytes.now; handles = handles.now } ∷ [];
         }) }
@@ -116,8 +117,8 @@ impl Source for Pieces {
     ghost later_trans = { λ _ _ _ _ _. tt };
 
     fn take(&mut self, bytes: &mut [u8], handles: &mut [Handle]) -> Result<Taken, Fault>
-        requires room { 65536 ≤ length bytes.old }
-        requires handle_room { 64 ≤ length handles.old }
+        requires room { MOST_PIECE_BYTES ≤ length bytes.old }
+        requires handle_room { MOST_PIECE_HANDLES ≤ length handles.old }
         ensures size { IfOk result IsPieceSize }
         ensures pieces { Takes (Some self.old.left) (Some self.new.left) result bytes.new handles.new }
         ensures cause { HasCause self.old.faults self.new.faults result }

@@ -11,12 +11,10 @@ use crate::interface::InterfaceName;
 use crate::object::Object;
 use crate::rising::{look_up, take_out};
 use ei_spec::KnownInterface;
+use ei_spec::limits::FIRST_SERVER_ID;
 use ei_wire::{NoMemory, ParseError, SendError};
 use std::alloc::Global;
 use std::marker::Model;
-
-/// The first id of the server.
-pub const FIRST_SERVER_ID: u64 = 0xff00_0000_0000_0000;
 
 /// The objects of one endpoint, its next own id and its next peer id.
 ///

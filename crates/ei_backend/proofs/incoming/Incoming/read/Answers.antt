@@ -9,19 +9,19 @@ returns-then-taken-eq0-clause-told g c = λ pieces told.
     let e = at_end pieces _ _ _ _ (c.in-Ok.ensures.pieces pieces told) c.if-taken-eq0.true in
     (e.0, e.1, rw (← c.self.view_is, c.in_ok-make_room.ensures.ok) refl)
 
-pub returns-then-len-taken-gt-MOST_HANDLES-clause-reads :
-    goal.returns-then-len-taken-gt-MOST_HANDLES-clause-reads
-returns-then-len-taken-gt-MOST_HANDLES-clause-reads g c = (
+pub returns-then-len-taken-gt-MOST_UNREAD_HANDLES-clause-reads :
+    goal.returns-then-len-taken-gt-MOST_UNREAD_HANDLES-clause-reads
+returns-then-len-taken-gt-MOST_UNREAD_HANDLES-clause-reads g c = (
   piece_of c.in-Ok.taken c.take.new.bytes c.take.new.handles,
   rw (← c.self.view_is) (overflows c.self.inside.handles.items c.in-Ok.taken c.take.new.bytes c.take.new.handles c.in-Ok.ensures.size (omega (arith, c.if-taken-eq0.false)) (omega (arith, c.in-Ok.ensures.size.bytes)) (omega (arith, c.in-Ok.ensures.size.handles)) (omega arith)),
   rw (← c.self.view_is, c.in_ok-make_room.ensures.ok) refl,
 )
 
-pub returns-then-len-taken-gt-MOST_HANDLES-clause-told :
-    goal.returns-then-len-taken-gt-MOST_HANDLES-clause-told
-unfolding returns-then-len-taken-gt-MOST_HANDLES-clause-reads
-returns-then-len-taken-gt-MOST_HANDLES-clause-told g c = λ pieces told.
-    let reads = returns-then-len-taken-gt-MOST_HANDLES-clause-reads g c in
+pub returns-then-len-taken-gt-MOST_UNREAD_HANDLES-clause-told :
+    goal.returns-then-len-taken-gt-MOST_UNREAD_HANDLES-clause-told
+unfolding returns-then-len-taken-gt-MOST_UNREAD_HANDLES-clause-reads
+returns-then-len-taken-gt-MOST_UNREAD_HANDLES-clause-told g c = λ pieces told.
+    let reads = returns-then-len-taken-gt-MOST_UNREAD_HANDLES-clause-reads g c in
     (reads.0, is_first pieces _ _ _ _ (c.in-Ok.ensures.pieces pieces told) (omega (arith, c.if-taken-eq0.false)), reads.1, reads.2)
 
 pub returns-clause-reads : goal.returns-clause-reads
