@@ -14,6 +14,7 @@ use Rattle.ei_wire.specs.declared.error.ReadError.TheVariants as read_error
 use Rattle.ei_serve.specs.declared.phase.Phase.{Phase}
 use Rattle.ei_serve.specs.declared.session.Session.{Session}
 use Rattle.ei_serve.specs.Standing.{Stands, StandsAt, setup_of}
+use Rattle.ei_spec.specs.declared.limits.TheConstants.{MOST_UNREAD_HANDLES}
 
 -- a source that told its pieces handed out the first
 abbrev pub Hands : Option (List Piece) → Piece → Option (List Piece) → Type 0
@@ -46,7 +47,7 @@ pub record Holds (setup : Setup) (pieces : List Piece) (piece : Piece) (s : Sess
   pub unread : List Handle
   pub phase : StandsAt setup (accepted (stream pieces)) ((reading_of (stream pieces)).rest ++ piece.bytes) unread s.phase
   pub handles : length unread ≡ handle_count (with_next pieces piece)
-  pub few : handle_count (with_next pieces piece) ≤ 4096
+  pub few : handle_count (with_next pieces piece) ≤ MOST_UNREAD_HANDLES
   pub taken : s.taken ≡ length pieces + 1
 
 -- whether a piece came, where no more may be taken or where one may
@@ -62,7 +63,7 @@ abbrev pub TakesPiece : Setup → List Piece → Session → Result Bool Error �
 TakesPiece setup pieces s (Ok true) t old new = (piece : Piece) × Hands old piece new × Holds setup pieces piece t
 TakesPiece setup pieces s (Ok false) t old new = HasNone old new × Stands setup pieces t
 TakesPiece setup pieces s (Err error.PieceLimit) t old new = (piece : Piece) × Hands old piece new × (setup.pieces ≤ length pieces)
-TakesPiece setup pieces s (Err error.HandleLimit) t old new = (piece : Piece) × Hands old piece new × (length pieces < setup.pieces) × (4096 < handle_count (with_next pieces piece))
+TakesPiece setup pieces s (Err error.HandleLimit) t old new = (piece : Piece) × Hands old piece new × (length pieces < setup.pieces) × (MOST_UNREAD_HANDLES < handle_count (with_next pieces piece))
 TakesPiece setup pieces s (Err error.ReadFault) t old new = Keeps old new
 TakesPiece setup pieces s (Err error.NoMemory) t old new = Keeps old new
 TakesPiece setup pieces s (Err e) t old new = ⊥

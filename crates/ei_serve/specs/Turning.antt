@@ -19,6 +19,7 @@ use Rattle.ei_serve.specs.declared.session.Turn.TheVariants as turn
 use Rattle.ei_serve.specs.Standing.{Stands, StandsAt}
 use Rattle.ei_serve.specs.Steps.{Goes, GoesInPart, Breaks}
 use Rattle.ei_serve.specs.Taking.{Hands, HasNone, Keeps, with_next}
+use Rattle.ei_spec.specs.declared.limits.TheConstants.{MOST_UNREAD_HANDLES}
 
 -- ---- the messages that are whole
 
@@ -78,7 +79,7 @@ pub record BreaksOff (setup : Setup) (pieces : List Piece) (left_old left_new : 
   pub piece : Piece
   pub hands : Hands left_old piece left_new
   pub room : length pieces < setup.pieces
-  pub few : handle_count (with_next pieces piece) ≤ 4096
+  pub few : handle_count (with_next pieces piece) ≤ MOST_UNREAD_HANDLES
   pub goes : GoesInPart setup (accepted (stream pieces)) (accepted (stream (with_next pieces piece))) out_old out_new took_old took_new
 
 -- what a turn answers, over a session that stands for these pieces

@@ -1,12 +1,13 @@
 -- The bytes of a text that were read and not yet handed out.
 use Rattle.std.specs.Prelude.{◌≡◌, ◌<◌, ◌≤◌, ◌+◌, ◌-◌, ℕ, List, [], ◌∷◌, ◌++◌, length, take, drop, false, Option, Some, None}
 use Rattle.reis_prog.specs.Text.{has_newline}
+use Rattle.reis_prog.specs.declared.held.TheConstants.{ROOM}
 
 -- the bytes held lie from the start to the end in the room, and no newline stands in those scanned
 pub record IsBuffer (bytes : List ℕ) (start end scanned : ℕ) : Type 0 where
-  pub room : length bytes ≡ 262146
+  pub room : length bytes ≡ ROOM
   pub order : start ≤ end
-  pub within : end ≤ 262146
+  pub within : end ≤ ROOM
   pub looked_at : scanned ≤ end - start
   pub quiet : has_newline (take scanned (drop start (take end bytes))) ≡ false
 

@@ -4,6 +4,7 @@ use Rattle.std.specs.Option.{option_map}
 use Rattle.hex.specs.Hex.{decode_of}
 use Rattle.hex.specs.declared.error.FromHexError.{FromHexError}
 use Rattle.ei_spec.specs.Piece.{Piece}
+use Rattle.reis_prog.specs.declared.held.TheConstants.{LONGEST_LINE}
 
 -- whether a newline stands in these bytes
 abbrev pub has_newline : List ℕ → Bool
@@ -25,10 +26,10 @@ abbrev pub decoded : Result (List ℕ) FromHexError → Option (List ℕ)
 decoded (Ok bytes) = Some bytes
 decoded (Err e) = None
 
--- the bytes that a line spells: it has 2 to 131072 hexadecimal digits, an even number
+-- the bytes that a line spells: it has hexadecimal digits, an even number, and no more than the longest line
 abbrev pub line_bytes : List ℕ → Option (List ℕ)
 line_bytes [] = None
-line_bytes (b ∷ bs) = if nat_lt 131072 (length (b ∷ bs)) then None else decoded (decode_of (b ∷ bs))
+line_bytes (b ∷ bs) = if nat_lt LONGEST_LINE (length (b ∷ bs)) then None else decoded (decode_of (b ∷ bs))
 
 -- the piece of these bytes, if there are any, in front of the others; else none at all
 abbrev pub piece_before : Option (List ℕ) → List Piece → List Piece

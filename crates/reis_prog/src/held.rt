@@ -6,6 +6,7 @@ ghost use Rattle.reis_prog.specs.Text.{has_newline};
 ghost use Rattle.reis_prog.specs.Held.{Moves, ReadsBehind, FindsNewline, line_len, line_skip};
 
 use ei_backend::{Fault, Input};
+use ei_spec::limits::MOST_PIECE_BYTES;
 use ei_wire::NoMemory;
 use std::alloc::Global;
 use std::marker::Model;
@@ -13,11 +14,14 @@ use std::marker::Model;
 /// The byte that ends a line.
 const NEWLINE: u8 = 10;
 
-/// One byte more than the longest line has: so many without a newline are no line.
-const TOO_LONG: usize = 131073;
+/// The longest line, without its newline: two digits for each byte of a piece.
+pub(crate) const LONGEST_LINE: usize = 2 * MOST_PIECE_BYTES;
+
+/// So many bytes without a newline are no line.
+const TOO_LONG: usize = LONGEST_LINE + 1;
 
 /// Room for twice as much, so that bytes move to the front only once as many went from there.
-const ROOM: usize = 262146;
+const ROOM: usize = 2 * TOO_LONG;
 
 /// A buffer for lines. Each byte is looked at once for a newline, and moves at most once for each
 /// byte that was handed out. Contracts see the bytes that it holds.

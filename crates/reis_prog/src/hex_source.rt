@@ -2,15 +2,13 @@
 
 ghost use Rattle.std.specs.Prelude.{◌≡◌, ◌<◌, ◌≤◌, ◌+◌, ◌⊎◌, ℕ, List, [], None, Some, Ok, true, false, length, take, IfOk, IfSome, IsErr, IsSome, MatchOption, OnErr};
 ghost use Rattle.reis_prog.specs.Text.{line_bytes, has_newline};
+ghost use Rattle.ei_spec.specs.declared.limits.TheConstants.{MOST_PIECE_BYTES};
 
-use crate::held::{Held, line_extent};
+use crate::held::{Held, LONGEST_LINE, line_extent};
 use ei_backend::{Fault, Input, LastAnswer, Source, Taken};
 use ei_spec::Handle;
 use ei_wire::NoMemory;
 use std::alloc::Global;
-
-/// The longest line, without its newline.
-const LONGEST_LINE: usize = 131072;
 
 /// The pieces that the lines of an input spell.
 ///
@@ -31,9 +29,9 @@ pub struct HexSource<'a, I: Input> {
 /// The bytes that a line spells, at the front of the slice.
 fn decode_line(line: &[u8], bytes: &mut [u8]) -> Option<usize>
     requires some { 0 < length line.now }
-    requires room { 65536 ≤ length bytes.old }
+    requires room { MOST_PIECE_BYTES ≤ length bytes.old }
     ensures spells { MatchOption result (line_bytes line.now ≡ None) (λ n. line_bytes line.now ≡ Some (take n bytes.new)) }
-    ensures size { IfSome result (λ n. (0 < n) × (n ≤ 65536)) }
+    ensures size { IfSome result (λ n. (0 < n) × (n ≤ MOST_PIECE_BYTES)) }
 {
     if line.len() > LONGEST_LINE {
         return None;
@@ -94,8 +92,8 @@ impl<'a, I: Input> HexSource<'a, I> {
 
     /// The next line's bytes. No byte is the end.
     fn next_piece(&mut self, bytes: &mut [u8]) -> Result<usize, Fault>
-        requires { 65536 ≤ length bytes.old }
-        ensures size { IfOk result (λ n. n ≤ 65536) }
+        requires { MOST_PIECE_BYTES ≤ length bytes.old }
+        ensures size { IfOk result (λ n. n ≤ MOST_PIECE_BYTES) }
         ensures pieces { (text : List ℕ) → I.text (reading_of self.old).input ≡ Some text →
             NextPiece (reading_of self.old).held text result (reading_of self.new).held (I.text (reading_of self.new).input) bytes.new }
         ensures end { result ≡ Ok 0 → IsAtEnd (reading_of self.new).held }
@@ -151,7 +149,7 @@ impl<'a, I: Input> Source for HexSource<'a, I> {
     ghost later_trans = { λ x y z a b. LaterSource-trans I.text I.later I.later_trans x y z a b };
 
     fn take(&mut self, bytes: &mut [u8], _handles: &mut [Handle]) -> Result<Taken, Fault>
-        requires room { 65536 ≤ length bytes.old }
+        requires room { MOST_PIECE_BYTES ≤ length bytes.old }
         requires handle_room { 64 ≤ length _handles.old }
         ensures size { IfOk result IsPieceSize }
         ensures pieces { Takes (left_of I.text (reading_of self.old)) (left_of I.text (reading_of self.new)) result bytes.new _handles.new }
