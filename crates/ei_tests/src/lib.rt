@@ -1,17 +1,15 @@
-//! Tests that cross crates, and nothing else: the server that runs is compared with the slow reference
-//! program, which shares no code with it; and the two ends of a connection are joined in memory.
+//! Tests that cross crates, and nothing else: sessions of the whole server over streams of a client, with answers
+//! typed by hand; and the two ends of a connection, joined in memory.
 //!
-//! Begin with `compare`, what is compared, and `streams`, over what; then `ends`.
+//! Begin with `streams`, what a client sends and what it gets for it; then `tests`; then `ends`.
 #![tactic(auto)]
 
 #[cfg(test)]
 mod client_sends;
 #[cfg(test)]
-mod compare;
-#[cfg(test)]
 mod ends;
 #[cfg(test)]
-mod limits;
+mod served;
 #[cfg(test)]
 mod server_sends;
 #[cfg(test)]

@@ -1,310 +1,420 @@
-//! Streams of a client, each with the answer that it must get where no limit is met.
+//! Streams of a client, each with what its session must tell where no limit is met.
+//!
+//! All is typed by hand from the tables of the protocol, in hexadecimal digits: a message is the id of its
+//! object in eight bytes, its length and its opcode in four each, the low byte first, and its arguments. A text is
+//! its length with the closing zero byte, its bytes, and zeros up to a multiple of four.
 
-use ei_reference::{Answer, Piece, StopReason};
-use ei_wire::{Handle, KnownInterface, NoMemory};
-use std::alloc::Global;
+use ei_request::EisRequest;
+use ei_serve::Ended;
+use ei_types::Error;
+use ei_wire::ParseError;
 
-/// The object of the handshake.
-const HANDSHAKE_ID: u64 = 0;
+/// `interface_version("ei_connection", 1)`: 40 bytes.
+const CONNECTION: &str =
+    "000000000000000028000000040000000e00000065695f636f6e6e656374696f6e00000001000000";
 
-/// The object of the connection.
-const CONNECTION_ID: u64 = 0xff00_0000_0000_0000;
+/// `interface_version("ei_connection", 0)`: 40 bytes.
+const CONNECTION_0: &str =
+    "000000000000000028000000040000000e00000065695f636f6e6e656374696f6e00000000000000";
 
-/// The most handles that come with a piece.
-const MOST_HANDLES: usize = 64;
+/// `interface_version("ei_callback", 1)`: 36 bytes.
+const CALLBACK: &str = "000000000000000024000000040000000c00000065695f63616c6c6261636b0001000000";
 
-/// What a client sends at once.
-#[derive(Clone, Copy)]
-enum Sent {
-    /// An announcement: the interface, and the version that the client has of it.
-    Version(KnownInterface, u32),
-    /// A message of the opcode of an announcement, with this body.
-    Announcing(&'static [u8]),
-    /// A header, and nothing behind it: object, length and opcode.
-    Header(u64, u32, u32),
-    /// Bytes that are no whole message.
-    Part(&'static [u8]),
+/// `interface_version("ei_callback", 7)`: 36 bytes.
+const CALLBACK_7: &str = "000000000000000024000000040000000c00000065695f63616c6c6261636b0007000000";
+
+/// `interface_version("ei_pingpong", 1)`: 36 bytes.
+const PINGPONG: &str = "000000000000000024000000040000000c00000065695f70696e67706f6e670001000000";
+
+/// `interface_version("ei_seat", 2)`: 32 bytes.
+const SEAT: &str = "000000000000000020000000040000000800000065695f736561740002000000";
+
+/// `finish()`: 16 bytes.
+const FINISH: &str = "00000000000000001000000001000000";
+
+/// `disconnect()`: 16 bytes.
+const DISCONNECT: &str = "00000000000000ff1000000001000000";
+
+/// Fifteen bytes, one fewer than a header has.
+const CUT_HEADER: &str = "000000000000000000000000000000";
+
+/// What is sent before a finish is taken: the event `handshake_version(1)`.
+pub(crate) const GREETING: &str = "0000000000000000140000000000000001000000";
+
+/// The greeting and the events that answer the finish: the three interfaces, the connection with serial 5, and a
+/// seat of version 1 that has no capability, since the client has no interface of one.
+const GREETING_AND_EVENTS: &str = concat!(
+    "0000000000000000140000000000000001000000",
+    "000000000000000028000000010000000e00000065695f636f6e6e656374696f6e00000001000000",
+    "000000000000000024000000010000000c00000065695f63616c6c6261636b0001000000",
+    "000000000000000024000000010000000c00000065695f70696e67706f6e670001000000",
+    "000000000000000020000000020000000500000000000000000000ff01000000",
+    "00000000000000ff1c0000000100000001000000000000ff01000000",
+    "01000000000000ff1000000003000000",
+);
+
+/// The same where the client has version 0 of the connection.
+const GREETING_AND_EVENTS_OF_VERSION_0: &str = concat!(
+    "0000000000000000140000000000000001000000",
+    "000000000000000028000000010000000e00000065695f636f6e6e656374696f6e00000000000000",
+    "000000000000000024000000010000000c00000065695f63616c6c6261636b0001000000",
+    "000000000000000024000000010000000c00000065695f70696e67706f6e670001000000",
+    "000000000000000020000000020000000500000000000000000000ff01000000",
+    "00000000000000ff1c0000000100000001000000000000ff01000000",
+    "01000000000000ff1000000003000000",
+);
+
+/// More bytes than any stream has.
+const NEVER: usize = usize::MAX;
+
+/// A stream of a client, and what is told of a session over it.
+#[derive(Drop)]
+pub(crate) struct Stream {
+    pub(crate) name: &'static str,
+    /// What the client sends, in hexadecimal digits.
+    pub(crate) sent: &'static [&'static str],
+    /// With how many of its bytes the finish is taken.
+    pub(crate) shaken_at: usize,
+    /// With how many of its bytes the session is over, before the source's end.
+    pub(crate) over_at: usize,
+    /// How the session ends.
+    pub(crate) answer: Result<Ended, Error>,
+    /// What the client asks for.
+    pub(crate) requests: &'static [EisRequest],
+    /// All that is sent to the client, in hexadecimal digits.
+    pub(crate) reply: &'static str,
 }
 
-const CONNECTION: Sent = Sent::Version(KnownInterface::Connection, 1);
+/// A client that shakes hands and ends the connection.
+pub(crate) const DISCONNECTED: Stream = Stream {
+    name: "disconnected",
+    sent: &[CONNECTION, CALLBACK, PINGPONG, FINISH, DISCONNECT],
+    shaken_at: 128,
+    over_at: 144,
+    answer: Ok(Ended::Disconnect),
+    requests: &[EisRequest::Disconnect],
+    reply: GREETING_AND_EVENTS,
+};
 
-const CALLBACK: Sent = Sent::Version(KnownInterface::Callback, 1);
+/// A client that shakes hands and sends nothing more.
+pub(crate) const SHAKEN: Stream = Stream {
+    name: "shaken",
+    sent: &[CONNECTION, CALLBACK, PINGPONG, FINISH],
+    shaken_at: 128,
+    over_at: NEVER,
+    answer: Ok(Ended::End),
+    requests: &[],
+    reply: GREETING_AND_EVENTS,
+};
 
-const PINGPONG: Sent = Sent::Version(KnownInterface::Pingpong, 1);
+/// Streams that end, or are left by a disconnect, with nothing refused.
+pub(crate) const TAKEN: [Stream; 11] = [
+    DISCONNECTED,
+    SHAKEN,
+    Stream {
+        name: "nothing",
+        sent: &[],
+        shaken_at: NEVER,
+        over_at: NEVER,
+        answer: Err(Error::UnexpectedEof),
+        requests: &[],
+        reply: GREETING,
+    },
+    Stream {
+        name: "announced",
+        sent: &[CONNECTION, CALLBACK, PINGPONG],
+        shaken_at: NEVER,
+        over_at: NEVER,
+        answer: Err(Error::UnexpectedEof),
+        requests: &[],
+        reply: GREETING,
+    },
+    Stream {
+        name: "cut in the handshake",
+        sent: &[CONNECTION, CALLBACK, PINGPONG, CUT_HEADER],
+        shaken_at: NEVER,
+        over_at: NEVER,
+        answer: Err(Error::UnexpectedEof),
+        requests: &[],
+        reply: GREETING,
+    },
+    Stream {
+        name: "the longest message, cut behind its header",
+        // object 0, length 1048576, opcode 4
+        sent: &[CONNECTION, "00000000000000000000100004000000"],
+        shaken_at: NEVER,
+        over_at: NEVER,
+        answer: Err(Error::UnexpectedEof),
+        requests: &[],
+        reply: GREETING,
+    },
+    Stream {
+        name: "cut behind the handshake",
+        sent: &[CONNECTION, CALLBACK, PINGPONG, FINISH, CUT_HEADER],
+        shaken_at: 128,
+        over_at: NEVER,
+        answer: Ok(Ended::End),
+        requests: &[],
+        reply: GREETING_AND_EVENTS,
+    },
+    Stream {
+        name: "other versions, the last of which counts",
+        sent: &[PINGPONG, CONNECTION, CALLBACK_7, CONNECTION_0, FINISH],
+        shaken_at: 168,
+        over_at: NEVER,
+        answer: Ok(Ended::End),
+        requests: &[],
+        reply: GREETING_AND_EVENTS_OF_VERSION_0,
+    },
+    Stream {
+        name: "disconnected twice",
+        sent: &[
+            CONNECTION, CALLBACK, PINGPONG, FINISH, DISCONNECT, DISCONNECT,
+        ],
+        shaken_at: 128,
+        over_at: 144,
+        answer: Ok(Ended::Disconnect),
+        requests: &[EisRequest::Disconnect],
+        reply: GREETING_AND_EVENTS,
+    },
+    Stream {
+        name: "an unlawful header behind the disconnect",
+        // object 9, length 15, opcode 0
+        sent: &[
+            CONNECTION,
+            CALLBACK,
+            PINGPONG,
+            FINISH,
+            DISCONNECT,
+            "09000000000000000f00000000000000",
+            FINISH,
+        ],
+        shaken_at: 128,
+        over_at: 144,
+        answer: Ok(Ended::Disconnect),
+        requests: &[EisRequest::Disconnect],
+        reply: GREETING_AND_EVENTS,
+    },
+    Stream {
+        name: "part of a header behind the disconnect",
+        sent: &[CONNECTION, CALLBACK, PINGPONG, FINISH, DISCONNECT, "ffff"],
+        shaken_at: 128,
+        over_at: 144,
+        answer: Ok(Ended::Disconnect),
+        requests: &[EisRequest::Disconnect],
+        reply: GREETING_AND_EVENTS,
+    },
+];
 
-const SEAT: Sent = Sent::Version(KnownInterface::Seat, 2);
-
-const FINISH: Sent = Sent::Header(HANDSHAKE_ID, 16, 1);
-
-const DISCONNECT: Sent = Sent::Header(CONNECTION_ID, 16, 1);
-
-/// A stream of a client.
-#[derive(Clone, Copy, Debug)]
-pub(crate) enum Stream {
-    Nothing,
-    Announced,
-    CutInTheHandshake,
-    LongestMessageCut,
-    Shaken,
-    CutBehindTheHandshake,
-    OtherVersions,
-    Disconnected,
-    DisconnectedTwice,
-    MoreBehindTheDisconnect,
-    LengthFifteen,
-    LengthZeroBehindAnAnnouncement,
-    LengthTooLargeBehindTheHandshake,
-    UnknownObject,
-    UnknownObjectBehindTheHandshake,
-    UnknownOpcode,
-    FinishTooEarly,
-    FinishWithABody,
-    SecondFinish,
-    AnnouncedBehindTheHandshake,
-    DisconnectTooEarly,
-    DisconnectWithABody,
-    NameNotRequired,
-    NameUnknown,
-    NameNull,
-    NameNotUtf8,
-    VersionLacking,
-    MoreBehindTheVersion,
-}
-
-impl Stream {
-    /// The streams.
-    pub(crate) const ALL: [Stream; 28] = [
-        Stream::Nothing,
-        Stream::Announced,
-        Stream::CutInTheHandshake,
-        Stream::LongestMessageCut,
-        Stream::Shaken,
-        Stream::CutBehindTheHandshake,
-        Stream::OtherVersions,
-        Stream::Disconnected,
-        Stream::DisconnectedTwice,
-        Stream::MoreBehindTheDisconnect,
-        Stream::LengthFifteen,
-        Stream::LengthZeroBehindAnAnnouncement,
-        Stream::LengthTooLargeBehindTheHandshake,
-        Stream::UnknownObject,
-        Stream::UnknownObjectBehindTheHandshake,
-        Stream::UnknownOpcode,
-        Stream::FinishTooEarly,
-        Stream::FinishWithABody,
-        Stream::SecondFinish,
-        Stream::AnnouncedBehindTheHandshake,
-        Stream::DisconnectTooEarly,
-        Stream::DisconnectWithABody,
-        Stream::NameNotRequired,
-        Stream::NameUnknown,
-        Stream::NameNull,
-        Stream::NameNotUtf8,
-        Stream::VersionLacking,
-        Stream::MoreBehindTheVersion,
-    ];
-
-    /// The answer where no limit is met, in whatever pieces the stream comes.
-    pub(crate) fn answer(self) -> Answer {
-        match self {
-            Stream::Nothing
-            | Stream::Announced
-            | Stream::CutInTheHandshake
-            | Stream::LongestMessageCut => Answer::UnexpectedEof,
-            Stream::Shaken | Stream::CutBehindTheHandshake | Stream::OtherVersions => Answer::End,
-            Stream::Disconnected | Stream::DisconnectedTwice | Stream::MoreBehindTheDisconnect => {
-                Answer::Stopped(StopReason::Disconnect)
-            }
-            Stream::LengthFifteen => Answer::Stopped(StopReason::HeaderLength(15)),
-            Stream::LengthZeroBehindAnAnnouncement => Answer::Stopped(StopReason::HeaderLength(0)),
-            Stream::LengthTooLargeBehindTheHandshake => {
-                Answer::Stopped(StopReason::HeaderLength(1048577))
-            }
-            _ => Answer::Stopped(StopReason::NotBuilt),
-        }
-    }
-
-    /// What the client sends.
-    fn sent(self) -> &'static [Sent] {
-        match self {
-            Stream::Nothing => &[],
-            Stream::Announced => &[CONNECTION, CALLBACK, PINGPONG],
-            Stream::CutInTheHandshake => &[CONNECTION, CALLBACK, PINGPONG, Sent::Part(&[0; 15])],
-            Stream::LongestMessageCut => &[CONNECTION, Sent::Header(HANDSHAKE_ID, 1048576, 4)],
-            Stream::Shaken => &[CONNECTION, CALLBACK, PINGPONG, FINISH],
-            Stream::CutBehindTheHandshake => {
-                &[CONNECTION, CALLBACK, PINGPONG, FINISH, Sent::Part(&[0; 15])]
-            }
-            Stream::OtherVersions => &[
-                PINGPONG,
-                CONNECTION,
-                Sent::Version(KnownInterface::Callback, 7),
-                Sent::Version(KnownInterface::Connection, 0),
-                FINISH,
-            ],
-            Stream::Disconnected => &[CONNECTION, CALLBACK, PINGPONG, FINISH, DISCONNECT],
-            Stream::DisconnectedTwice => {
-                &[
-                    CONNECTION, CALLBACK, PINGPONG, FINISH, DISCONNECT, DISCONNECT,
-                ]
-            }
-            Stream::MoreBehindTheDisconnect => &[
-                CONNECTION,
-                CALLBACK,
-                PINGPONG,
-                FINISH,
-                DISCONNECT,
-                Sent::Header(9, 15, 0),
-                FINISH,
-            ],
-            _ => self.sent_badly(),
-        }
-    }
-
-    /// What the client sends where one message is refused, or its header.
-    fn sent_badly(self) -> &'static [Sent] {
-        match self {
-            Stream::LengthFifteen => &[Sent::Header(HANDSHAKE_ID, 15, 4)],
-            Stream::LengthZeroBehindAnAnnouncement => &[CONNECTION, Sent::Header(9, 0, 0), FINISH],
-            Stream::LengthTooLargeBehindTheHandshake => &[
-                CONNECTION,
-                CALLBACK,
-                PINGPONG,
-                FINISH,
-                Sent::Header(CONNECTION_ID, 1048577, 1),
-            ],
-            Stream::UnknownObject => &[Sent::Header(9, 16, 0), CONNECTION],
-            Stream::UnknownObjectBehindTheHandshake => {
-                &[
-                    CONNECTION,
-                    CALLBACK,
-                    PINGPONG,
-                    FINISH,
-                    Sent::Header(9, 16, 1),
-                    DISCONNECT,
-                ]
-            }
-            Stream::UnknownOpcode => &[CONNECTION, Sent::Header(HANDSHAKE_ID, 16, 5)],
-            Stream::FinishTooEarly => &[CONNECTION, CALLBACK, FINISH, PINGPONG, FINISH],
-            Stream::FinishWithABody => &[
-                CONNECTION,
-                CALLBACK,
-                PINGPONG,
-                Sent::Header(HANDSHAKE_ID, 20, 1),
-                Sent::Part(&[0; 4]),
-            ],
-            Stream::SecondFinish => &[CONNECTION, CALLBACK, PINGPONG, FINISH, FINISH],
-            Stream::AnnouncedBehindTheHandshake => {
-                &[CONNECTION, CALLBACK, PINGPONG, FINISH, CONNECTION]
-            }
-            Stream::DisconnectTooEarly => &[CONNECTION, DISCONNECT],
-            _ => self.sent_unreadably(),
-        }
-    }
-
-    /// What the client sends where the arguments of one message are refused.
-    fn sent_unreadably(self) -> &'static [Sent] {
-        match self {
-            Stream::DisconnectWithABody => &[
-                CONNECTION,
-                CALLBACK,
-                PINGPONG,
-                FINISH,
-                Sent::Header(CONNECTION_ID, 17, 1),
-                Sent::Part(&[0]),
-            ],
-            Stream::NameNotRequired => &[CONNECTION, CALLBACK, PINGPONG, SEAT, FINISH],
-            Stream::NameUnknown => &[CONNECTION, Sent::Announcing(b"\x03\0\0\0ei\0\0\x01\0\0\0")],
-            Stream::NameNull => &[CONNECTION, Sent::Announcing(b"\0\0\0\0\x01\0\0\0")],
-            Stream::NameNotUtf8 => &[Sent::Announcing(b"\x02\0\0\0\xff\0\0\0\x01\0\0\0")],
-            Stream::VersionLacking => &[Sent::Announcing(b"\x0c\0\0\0ei_callback\0")],
-            Stream::MoreBehindTheVersion => &[
-                CALLBACK,
-                Sent::Announcing(b"\x0c\0\0\0ei_callback\0\x01\0\0\0\0"),
-            ],
-            _ => &[],
-        }
-    }
-
-    /// The pieces in which the stream comes: each has so many bytes, but for the last one, which may
-    /// have fewer. So many handles come with the first pieces, 64 with each.
-    pub(crate) fn pieces(
-        self,
-        alloc: Global,
-        size: usize,
-        handles: usize,
-    ) -> Result<Vec<Piece>, NoMemory> {
-        let mut bytes = Vec::new(alloc);
-        for sent in self.sent() {
-            push_sent(alloc, &mut bytes, sent)?;
-        }
-        cut(alloc, &bytes, size, handles)
-    }
-}
-
-fn push_sent(alloc: Global, bytes: &mut Vec<u8>, sent: &Sent) -> Result<(), NoMemory> {
-    match sent {
-        Sent::Version(interface, version) => {
-            push_version(alloc, bytes, interface.name(), *version)
-        }
-        Sent::Announcing(body) => push_announcement(bytes, body),
-        Sent::Header(id, length, opcode) => push_header(bytes, *id, *length, *opcode),
-        Sent::Part(part) => {
-            bytes.extend_from_slice(part)?;
-            Ok(())
-        }
-    }
-}
-
-/// Appends an announcement of the version of an interface.
-fn push_version(
-    alloc: Global,
-    bytes: &mut Vec<u8>,
-    name: &str,
-    version: u32,
-) -> Result<(), NoMemory> {
-    let mut body = Vec::new(alloc);
-    let length = length_of(name.as_bytes(), 1);
-    body.extend_from_slice(&length.to_le_bytes())?;
-    body.extend_from_slice(name.as_bytes())?;
-    let zeros = 4 - name.len() % 4;
-    body.extend_from_slice(&[0; 4][..zeros])?;
-    body.extend_from_slice(&version.to_le_bytes())?;
-    push_announcement(bytes, &body)
-}
-
-/// Appends a message with the opcode of an announcement.
-fn push_announcement(bytes: &mut Vec<u8>, body: &[u8]) -> Result<(), NoMemory> {
-    push_header(bytes, HANDSHAKE_ID, length_of(body, 16), 4)?;
-    bytes.extend_from_slice(body)?;
-    Ok(())
-}
-
-fn push_header(bytes: &mut Vec<u8>, id: u64, length: u32, opcode: u32) -> Result<(), NoMemory> {
-    bytes.extend_from_slice(&id.to_le_bytes())?;
-    bytes.extend_from_slice(&length.to_le_bytes())?;
-    bytes.extend_from_slice(&opcode.to_le_bytes())?;
-    Ok(())
-}
-
-/// How many bytes these are with so many more.
-fn length_of(bytes: &[u8], more: u32) -> u32 {
-    u32::try_from(bytes.len())
-        .unwrap_or(u32::MAX)
-        .saturating_add(more)
-}
-
-/// The bytes in pieces, with handles at the first ones.
-fn cut(alloc: Global, bytes: &[u8], size: usize, handles: usize) -> Result<Vec<Piece>, NoMemory> {
-    let mut pieces = Vec::new(alloc);
-    let mut left = handles;
-    for chunk in bytes.chunks(size.max(1)) {
-        let count = left.min(MOST_HANDLES);
-        left -= count;
-        pieces.push(Piece {
-            bytes: chunk.to_vec(alloc)?,
-            handles: vec![in alloc; Handle(7); count]?,
-        })?;
-    }
-    Ok(pieces)
-}
+/// Streams in which a message, or its header, is refused.
+pub(crate) const REFUSED: [Stream; 18] = [
+    Stream {
+        name: "length 15",
+        // object 0, length 15, opcode 4
+        sent: &["00000000000000000f00000004000000"],
+        shaken_at: NEVER,
+        over_at: 16,
+        answer: Err(Error::Parse(ParseError::HeaderLength(15))),
+        requests: &[],
+        reply: GREETING,
+    },
+    Stream {
+        name: "length 0 behind an announcement",
+        // object 9, length 0, opcode 0
+        sent: &[CONNECTION, "09000000000000000000000000000000", FINISH],
+        shaken_at: NEVER,
+        over_at: 56,
+        answer: Err(Error::Parse(ParseError::HeaderLength(0))),
+        requests: &[],
+        reply: GREETING,
+    },
+    Stream {
+        name: "length 1048577 behind the handshake",
+        // the connection, length 1048577, opcode 1
+        sent: &[
+            CONNECTION,
+            CALLBACK,
+            PINGPONG,
+            FINISH,
+            "00000000000000ff0100100001000000",
+        ],
+        shaken_at: 128,
+        over_at: 144,
+        answer: Err(Error::Parse(ParseError::HeaderLength(1048577))),
+        requests: &[],
+        reply: GREETING_AND_EVENTS,
+    },
+    Stream {
+        name: "an unknown object",
+        // object 9, length 16, opcode 0
+        sent: &["09000000000000001000000000000000", CONNECTION],
+        shaken_at: NEVER,
+        over_at: 16,
+        answer: Err(Error::NotBuilt),
+        requests: &[],
+        reply: GREETING,
+    },
+    Stream {
+        name: "an unknown object behind the handshake",
+        // object 9, length 16, opcode 1
+        sent: &[
+            CONNECTION,
+            CALLBACK,
+            PINGPONG,
+            FINISH,
+            "09000000000000001000000001000000",
+            DISCONNECT,
+        ],
+        shaken_at: 128,
+        over_at: 144,
+        answer: Err(Error::NotBuilt),
+        requests: &[],
+        reply: GREETING_AND_EVENTS,
+    },
+    Stream {
+        name: "an unknown opcode",
+        // object 0, length 16, opcode 5
+        sent: &[CONNECTION, "00000000000000001000000005000000"],
+        shaken_at: NEVER,
+        over_at: 56,
+        answer: Err(Error::NotBuilt),
+        requests: &[],
+        reply: GREETING,
+    },
+    Stream {
+        name: "finish too early",
+        sent: &[CONNECTION, CALLBACK, FINISH, PINGPONG, FINISH],
+        shaken_at: NEVER,
+        over_at: 92,
+        answer: Err(Error::NotBuilt),
+        requests: &[],
+        reply: GREETING,
+    },
+    Stream {
+        name: "finish with a body",
+        // object 0, length 20, opcode 1, and four bytes
+        sent: &[
+            CONNECTION,
+            CALLBACK,
+            PINGPONG,
+            "0000000000000000140000000100000000000000",
+        ],
+        shaken_at: NEVER,
+        over_at: 132,
+        answer: Err(Error::NotBuilt),
+        requests: &[],
+        reply: GREETING,
+    },
+    Stream {
+        name: "a second finish",
+        sent: &[CONNECTION, CALLBACK, PINGPONG, FINISH, FINISH],
+        shaken_at: 128,
+        over_at: 144,
+        answer: Err(Error::NotBuilt),
+        requests: &[],
+        reply: GREETING_AND_EVENTS,
+    },
+    Stream {
+        name: "announced behind the handshake",
+        sent: &[CONNECTION, CALLBACK, PINGPONG, FINISH, CONNECTION],
+        shaken_at: 128,
+        over_at: 168,
+        answer: Err(Error::NotBuilt),
+        requests: &[],
+        reply: GREETING_AND_EVENTS,
+    },
+    Stream {
+        name: "disconnect too early",
+        sent: &[CONNECTION, DISCONNECT],
+        shaken_at: NEVER,
+        over_at: 56,
+        answer: Err(Error::NotBuilt),
+        requests: &[],
+        reply: GREETING,
+    },
+    Stream {
+        name: "disconnect with a body",
+        // the connection, length 17, opcode 1, and a byte
+        sent: &[
+            CONNECTION,
+            CALLBACK,
+            PINGPONG,
+            FINISH,
+            "00000000000000ff110000000100000000",
+        ],
+        shaken_at: 128,
+        over_at: 145,
+        answer: Err(Error::NotBuilt),
+        requests: &[],
+        reply: GREETING_AND_EVENTS,
+    },
+    Stream {
+        name: "an interface that is not required",
+        sent: &[CONNECTION, CALLBACK, PINGPONG, SEAT, FINISH],
+        shaken_at: NEVER,
+        over_at: 144,
+        answer: Err(Error::NotBuilt),
+        requests: &[],
+        reply: GREETING,
+    },
+    Stream {
+        name: "an unknown name",
+        // interface_version("ei", 1), of length 28
+        sent: &[
+            CONNECTION,
+            "00000000000000001c000000040000000300000065690000",
+            "01000000",
+        ],
+        shaken_at: NEVER,
+        over_at: 68,
+        answer: Err(Error::NotBuilt),
+        requests: &[],
+        reply: GREETING,
+    },
+    Stream {
+        name: "no name",
+        // a text of length 0, then version 1: length 24
+        sent: &[
+            CONNECTION,
+            "000000000000000018000000040000000000000001000000",
+        ],
+        shaken_at: NEVER,
+        over_at: 64,
+        answer: Err(Error::NotBuilt),
+        requests: &[],
+        reply: GREETING,
+    },
+    Stream {
+        name: "a name that is no UTF-8",
+        // a text of the byte ff, then version 1: length 28
+        sent: &["00000000000000001c0000000400000002000000ff00000001000000"],
+        shaken_at: NEVER,
+        over_at: 28,
+        answer: Err(Error::NotBuilt),
+        requests: &[],
+        reply: GREETING,
+    },
+    Stream {
+        name: "no version",
+        // "ei_callback" alone: length 32
+        sent: &["000000000000000020000000040000000c00000065695f63616c6c6261636b00"],
+        shaken_at: NEVER,
+        over_at: 32,
+        answer: Err(Error::NotBuilt),
+        requests: &[],
+        reply: GREETING,
+    },
+    Stream {
+        name: "more behind the version",
+        // interface_version("ei_callback", 1) and a byte: length 37
+        sent: &[
+            CALLBACK,
+            "000000000000000025000000040000000c00000065695f63616c6c6261636b000100000000",
+        ],
+        shaken_at: NEVER,
+        over_at: 73,
+        answer: Err(Error::NotBuilt),
+        requests: &[],
+        reply: GREETING,
+    },
+];

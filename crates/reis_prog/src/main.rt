@@ -4,8 +4,6 @@
 //! and `HexSource`, the pieces that a text spells.
 #![tactic(auto)]
 
-#[cfg(test)]
-mod cut_tests;
 mod held;
 mod hex_source;
 mod report;

@@ -1,30 +1,36 @@
 //! Whole runs in memory: words and a text, then the report and the status.
 
 use crate::run::run;
+use crate::std_io::StdInput;
+use crate::tests::{Cut, words_of};
+use crate::words::USAGE;
 use ei_backend::{Input, MemoryText, Readings, Tray};
-use ei_wire::{EiText, NoMemory};
+use ei_wire::NoMemory;
 use std::alloc::Global;
 use std::test::Fail;
 
-/// The first line of a client's handshake.
-const FIRST: &str =
+/// The messages of a client that announces an interface, each a line.
+const CONNECTION: &str =
     "000000000000000028000000040000000e00000065695f636f6e6e656374696f6e00000001000000\n";
 
-/// The lines of a client's handshake, each a message.
-const SHAKEN: &str = "\
-    000000000000000028000000040000000e00000065695f636f6e6e656374696f6e00000001000000\n\
-    000000000000000024000000040000000c00000065695f63616c6c6261636b0001000000\n\
-    000000000000000024000000040000000c00000065695f70696e67706f6e670001000000\n\
-    00000000000000001000000001000000\n";
+const CALLBACK: &str = "000000000000000024000000040000000c00000065695f63616c6c6261636b0001000000\n";
+
+const PINGPONG: &str = "000000000000000024000000040000000c00000065695f70696e67706f6e670001000000\n";
+
+/// The message of a client that finishes the handshake.
+const FINISH: &str = "00000000000000001000000001000000\n";
 
 /// The message of a client that disconnects.
-pub(crate) const DISCONNECT: &str = "00000000000000ff1000000001000000";
+const DISCONNECT: &str = "00000000000000ff1000000001000000\n";
+
+/// The lines of a client's handshake.
+const SHAKEN: [&str; 4] = [CONNECTION, CALLBACK, PINGPONG, FINISH];
 
 /// The greeting.
 const GREETING: &str = "0000000000000000140000000000000001000000";
 
 /// The greeting, and the reply to the handshake.
-pub(crate) const REPLY: &str = "\
+const REPLY: &str = "\
     0000000000000000140000000000000001000000\
     000000000000000028000000010000000e00000065695f636f6e6e656374696f6e00000001000000\
     000000000000000024000000010000000c00000065695f63616c6c6261636b0001000000\
@@ -33,22 +39,16 @@ pub(crate) const REPLY: &str = "\
     00000000000000ff1c0000000100000001000000000000ff01000000\
     01000000000000ff1000000003000000";
 
-fn words_of(alloc: Global, line: &str) -> Result<Vec<EiText>, NoMemory> {
-    let mut words = Vec::new(alloc);
-    for word in line.split(' ') {
-        words.push(EiText::new(alloc, word)?)?;
-    }
-    Ok(words)
-}
-
-/// What is written of an input, and the status behind it.
-pub(crate) fn report_over<I: Input>(
+/// What is written of an input, and the status behind it. Call `fails` of the output fails.
+fn report_over<I: Input>(
     alloc: Global,
     line: &str,
     input: &mut I,
+    fails: u32,
 ) -> Result<String, NoMemory> {
     let words = words_of(alloc, line)?;
     let mut output = Tray::new(alloc);
+    output.fail_at(fails)?;
     let mut clock = Readings::new(alloc, &[])?;
     let status = run(alloc, &words, input, &mut output, &mut clock);
     let mut report = String::from_utf8_lossy(alloc, output.bytes())?;
@@ -57,132 +57,149 @@ pub(crate) fn report_over<I: Input>(
     Ok(report)
 }
 
-/// The same of a text.
-fn report_of(alloc: Global, line: &str, text: &str) -> Result<String, NoMemory> {
-    let mut input = MemoryText::new(alloc, text.as_bytes())?;
-    report_over(alloc, line, &mut input)
-}
-
-/// Two texts, one behind the other.
-fn joined(alloc: Global, front: &str, rest: &str) -> Result<String, NoMemory> {
-    let mut text = String::from_str(alloc, front)?;
-    text.push_str(rest)?;
-    Ok(text)
-}
-
-/// The digits of the text, two a line.
-fn one_byte_a_line(alloc: Global, text: &str) -> Result<String, NoMemory> {
-    let mut lines = String::new(alloc);
-    let mut is_second = false;
-    for digit in text.chars() {
-        if digit != '\n' {
-            lines.push(digit)?;
-            if is_second {
-                lines.push('\n')?;
-            }
-            is_second = !is_second;
-        }
+/// The report of a text, given by its lines. Call `fails` of the input fails.
+fn report_of(alloc: Global, line: &str, text: &[&str], fails: u32) -> Result<String, NoMemory> {
+    let mut whole = String::new(alloc);
+    for part in text {
+        whole.push_str(part)?;
     }
-    Ok(lines)
+    let mut input = MemoryText::new(alloc, whole.as_str().as_bytes())?;
+    input.fail_at(fails)?;
+    report_over(alloc, line, &mut input, 9)
 }
 
-/// Whether the report of the two texts has this reply, and this behind it.
-fn tells(
-    alloc: Global,
-    line: &str,
-    (front, rest): (&str, &str),
-    (reply, said): (&str, &str),
-) -> Result<bool, NoMemory> {
-    let text = joined(alloc, front, rest)?;
-    let report = report_of(alloc, line, text.as_str())?;
-    let want = joined(alloc, reply, said)?;
-    Ok(report.as_str().strip_prefix("reply ") == Some(want.as_str()))
+/// A report that begins with this reply.
+fn report_with(alloc: Global, reply: &str, rest: &str) -> Result<String, NoMemory> {
+    let mut report = String::from_str(alloc, "reply ")?;
+    report.push_str(reply)?;
+    report.push_str(rest)?;
+    Ok(report)
 }
 
+/// Sessions in which no handshake is finished.
 #[test]
-fn reports_sessions(rt: HostRuntime) -> Result<(), Fail> {
+fn reports_sessions_before_the_finish(rt: HostRuntime) -> Result<(), Fail> {
     let alloc = rt.alloc();
-    for (line, text, report) in [
+    for (line, text, rest) in [
         (
             "serve 5 32 200",
-            ("", ""),
-            (
-                GREETING,
-                "\nerror IO error: unexpected EOF reading ei socket\n1",
-            ),
+            "",
+            "\nerror IO error: unexpected EOF reading ei socket\n1",
         ),
+        ("serve 5 32 0", CONNECTION, "\nerror piece limit reached\n1"),
         (
-            "serve 5 32 0",
-            ("", ""),
-            (
-                GREETING,
-                "\nerror IO error: unexpected EOF reading ei socket\n1",
-            ),
-        ),
-        (
-            "serve 5 32 0",
-            (FIRST, ""),
-            (GREETING, "\nerror piece limit reached\n1"),
+            "serve 5 32 200",
+            "00000000000000000f00000001000000",
+            "\nerror parse error: header length 15 < 16\n1",
         ),
         (
             "serve 5 32 200",
-            (FIRST, "0g"),
-            (GREETING, "\nerror IO error: read fault\n3"),
+            "09000000000000001000000000000000",
+            "\nerror message not built\n1",
         ),
-        (
-            "serve 5 32 200",
-            (SHAKEN, DISCONNECT),
-            (REPLY, "\ndisconnect\nend disconnect\n0"),
-        ),
-        (
-            "serve 5 32 200",
-            (SHAKEN, "00000000000000ff1000000001000000ffff\n"),
-            (REPLY, "\ndisconnect\nend disconnect\n0"),
-        ),
-        (
-            "serve 5 32 200",
-            (SHAKEN, "000000000000000000000000000000\n"),
-            (REPLY, "\nend eof\n0"),
-        ),
-        (
-            "serve 5 32 200",
-            ("", "00000000000000000f00000001000000"),
-            (GREETING, "\nerror parse error: header length 15 < 16\n1"),
-        ),
-        (
-            "serve 5 32 200",
-            ("", "09000000000000001000000000000000"),
-            (GREETING, "\nerror message not built\n1"),
-        ),
+        ("serve 5 32 200", "0g", "\nerror IO error: read fault\n3"),
     ] {
-        assert!(rt; tells(alloc, line, text, report)?, "{line} on {text:?}");
+        let report = report_of(alloc, line, &[text], 9)?;
+        let want = report_with(alloc, GREETING, rest)?;
+        assert_eq!(rt; report.as_str(), want.as_str(), "{line} on {text:?}");
     }
     Ok(())
 }
 
+/// A handshake, and one line behind it; or no line, where the second call of the input fails.
 #[test]
-fn reports_sessions_in_small_pieces(rt: HostRuntime) -> Result<(), Fail> {
+fn reports_sessions_behind_the_finish(rt: HostRuntime) -> Result<(), Fail> {
     let alloc = rt.alloc();
-    let whole = joined(alloc, SHAKEN, DISCONNECT)?;
-    let lines = one_byte_a_line(alloc, whole.as_str())?;
-    for (line, said) in [
-        ("serve 5 32 200", "\ndisconnect\nend disconnect\n0"),
-        ("serve 5 32 143", "\nerror piece limit reached\n1"),
+    let [connection, callback, pingpong, finish] = SHAKEN;
+    for (line, last, fails, rest) in [
+        (
+            "serve 5 32 5",
+            DISCONNECT,
+            9,
+            "\ndisconnect\nend disconnect\n0",
+        ),
+        (
+            "serve 5 32 4",
+            DISCONNECT,
+            9,
+            "\nerror piece limit reached\n1",
+        ),
+        ("serve 5 32 4", "", 9, "\nend eof\n0"),
+        ("serve 5 32 200", "", 2, "\nerror IO error: read fault\n3"),
     ] {
-        assert!(rt;
-            tells(alloc, line, (lines.as_str(), ""), (REPLY, said))?,
+        let text = [connection, callback, pingpong, finish, last];
+        let report = report_of(alloc, line, &text, fails)?;
+        let want = report_with(alloc, REPLY, rest)?;
+        assert_eq!(rt; report.as_str(), want.as_str(), "{line} and {last:?}");
+    }
+    Ok(())
+}
+
+/// Words that are no command, and an output that fails at once.
+#[test]
+fn refuses_words_and_tells_of_a_failed_output(rt: HostRuntime) -> Result<(), Fail> {
+    let alloc = rt.alloc();
+    for (line, fails, written, status) in [
+        ("serve 05 32 1", 9, USAGE, "2"),
+        ("serve 05 32 1", 1, "", "4"),
+        ("serve 5 32 1", 1, "", "4"),
+    ] {
+        let mut input = MemoryText::new(alloc, b"")?;
+        let report = report_over(alloc, line, &mut input, fails)?;
+        assert_eq!(rt;
+            report.as_str().strip_prefix(written),
+            Some(status),
             "{line}"
         );
     }
     Ok(())
 }
 
+/// The stream of a client that announces its interfaces again and again, finishes and disconnects, 132,000
+/// bytes, in lines of 1, 7, 40, 120 and 162 bytes, and again so.
+fn long_text(alloc: Global) -> Result<String, NoMemory> {
+    let mut lines = String::new(alloc);
+    let mut count: usize = 0;
+    for (message, times) in [
+        (CONNECTION, 3292),
+        (CALLBACK, 4),
+        (PINGPONG, 4),
+        (FINISH, 1),
+        (DISCONNECT, 1),
+    ] {
+        for _ in 0..times {
+            count = push_digits(&mut lines, message, count)?;
+        }
+    }
+    Ok(lines)
+}
+
+/// Adds the digits of a message, where so many digits stand, and a newline behind each that ends a line.
+fn push_digits(lines: &mut String, message: &str, before: usize) -> Result<usize, NoMemory> {
+    let mut count = before;
+    for digit in message.trim_end().chars() {
+        lines.push(digit)?;
+        if matches!(count % 660, 1 | 15 | 95 | 335 | 659) {
+            lines.push('\n')?;
+        }
+        count = count.saturating_add(1);
+    }
+    Ok(count)
+}
+
 #[test]
-fn refuses_words(rt: HostRuntime) -> Result<(), Fail> {
-    let written = report_of(rt.alloc(), "serve 05 32 1", "")?;
-    assert_eq!(rt;
-        written.as_str(),
-        "usage: reis serve <serial> <capabilities> <pieces> | trace <serial> <capabilities> <pieces> | demo <groups> <start>\n2"
-    );
+fn reports_one_text_alike_in_any_cut(rt: HostRuntime) -> Result<(), Fail> {
+    let alloc = rt.alloc();
+    let lines = long_text(alloc)?;
+    assert_eq!(rt; lines.as_str().lines().count(), 2000);
+    let whole = report_with(alloc, REPLY, "\ndisconnect\nend disconnect\n0")?;
+    let cut = report_with(alloc, GREETING, "\nerror piece limit reached\n1")?;
+    for most in [1, 7, 4096] {
+        for (line, want) in [("serve 5 32 2000", &whole), ("serve 5 32 1999", &cut)] {
+            let mut input = StdInput::new(Cut::new(lines.as_str().as_bytes(), most));
+            let report = report_over(alloc, line, &mut input, 9)?;
+            assert_eq!(rt; report.as_str(), want.as_str(), "{line} in cuts of {most}");
+        }
+    }
     Ok(())
 }

@@ -1,14 +1,12 @@
-//! Texts in cuts of several sizes, and each part of the program once, with ample memory.
+//! Each part of the program once, with ample memory.
 
 ghost use Rattle.std.specs.Prelude.{◌≡◌, IfOk, vec_len};
 
-use crate::cut_tests::CutText;
 use crate::held::zeroed;
 use crate::hex_source::HexSource;
-use crate::report::{push_line, push_reply_line, write_all};
 use crate::std_io::{StdClock, StdInput, StdOutput};
 use crate::words::Command;
-use ei_backend::{Clock, Fault, Input, MemoryText, PutError, Sink, Source, Tray};
+use ei_backend::{Clock, Fault, Input, MemoryText, PutError, Sink, Source};
 use ei_spec::Handle;
 use ei_wire::{EiText, NoMemory};
 use std::alloc::Global;
@@ -18,16 +16,36 @@ use std::io::{Read, Write};
 use std::test::Fail;
 use std::time::{self, Duration};
 
-fn handles_room(alloc: Global) -> Result<Vec<Handle>, NoMemory>
-    ensures { IfOk result (λ room. vec_len room ≡ 64) }
+/// A text that is read in cuts of at most so many bytes.
+#[derive(Drop)]
+pub(crate) struct Cut<'a> {
+    text: &'a [u8],
+    most: usize,
+}
+
+impl<'a> Cut<'a> {
+    pub(crate) fn new(text: &'a [u8], most: usize) -> Cut<'a> {
+        Cut { text, most }
+    }
+}
+
+impl Read for Cut<'_> {
+    fn read(&mut self, buf: &mut [u8]) -> io::Result<usize> {
+        let count = buf.len().min(self.most);
+        self.text.read(&mut buf[..count])
+    }
+}
+
+fn handles_room(alloc: Global, count: usize) -> Result<Vec<Handle>, NoMemory>
+    ensures { IfOk result (λ room. vec_len room ≡ count) }
 {
-    Ok(vec![in alloc; Handle(0); 64]?)
+    Ok(vec![in alloc; Handle(0); count]?)
 }
 
 /// One take: the piece in hexadecimal, `end` or `fault`.
 fn one_take<S: Source>(alloc: Global, source: &mut S, said: &mut String) -> Result<(), NoMemory> {
     let mut bytes = zeroed(alloc, 65536)?;
-    let mut handles = handles_room(alloc)?;
+    let mut handles = handles_room(alloc, 64)?;
     match source.take(&mut bytes, &mut handles) {
         Ok(taken) if taken.bytes == 0 => said.push_str("end ")?,
         Ok(taken) => {
@@ -69,8 +87,7 @@ fn gives_the_pieces_of_a_text_in_any_cut(rt: HostRuntime) -> Result<(), Fail> {
         ("01\n02\n0", "01 02 fault fault ", Some(3)),
     ] {
         for most in [1, 7, 65536] {
-            let whole = MemoryText::new(alloc, text.as_bytes())?;
-            let mut input = CutText::new(whole, most);
+            let mut input = StdInput::new(Cut::new(text.as_bytes(), most));
             let (given, met) = takes(alloc, &mut input, 4)?;
             assert_eq!(rt; given.as_str(), said, "{text:?} in cuts of {most}");
             assert_eq!(rt; met, bad, "{text:?} in cuts of {most}");
@@ -84,8 +101,7 @@ fn knows_the_longest_line(rt: HostRuntime) -> Result<(), Fail> {
     let alloc = rt.alloc();
     for (len, bad) in [(131072, None), (131074, Some(1))] {
         let text = vec![in alloc; b'1'; len]?;
-        let whole = MemoryText::new(alloc, &text)?;
-        let mut input = CutText::new(whole, 4096);
+        let mut input = StdInput::new(Cut::new(&text, 4096));
         let (_, met) = takes(alloc, &mut input, 1)?;
         assert_eq!(rt; met, bad, "{len} digits");
     }
@@ -103,9 +119,17 @@ fn keeps_part_of_a_line_at_a_fault(rt: HostRuntime) -> Result<(), Fail> {
     Ok(())
 }
 
+/// The words of a line.
+pub(crate) fn words_of(alloc: Global, line: &str) -> Result<Vec<EiText>, NoMemory> {
+    let mut words = Vec::new(alloc);
+    for word in line.split(' ') {
+        words.push(EiText::new(alloc, word)?)?;
+    }
+    Ok(words)
+}
+
 #[test]
 fn takes_the_words_of_serve_alone(rt: HostRuntime) -> Result<(), Fail> {
-    let alloc = rt.alloc();
     for (line, command) in [
         ("serve 5 32 200", Some(Command::Serve(5, 32, 200))),
         (
@@ -121,24 +145,9 @@ fn takes_the_words_of_serve_alone(rt: HostRuntime) -> Result<(), Fail> {
         ("trace 5 32 200", None),
         ("", None),
     ] {
-        let mut words = Vec::new(alloc);
-        for word in line.split(' ') {
-            words.push(EiText::new(alloc, word)?)?;
-        }
+        let words = words_of(rt.alloc(), line)?;
         assert_eq!(rt; Command::from_words(&words), command, "{line}");
     }
-    Ok(())
-}
-
-#[test]
-fn writes_a_report(rt: HostRuntime) -> Result<(), Fail> {
-    let alloc = rt.alloc();
-    let mut report = Vec::new(alloc);
-    push_reply_line(alloc, &mut report, &[0, 171, 255])?;
-    push_line(&mut report, "end eof")?;
-    let mut tray = Tray::new(alloc);
-    write_all(&mut tray, &report)?;
-    assert_eq!(rt; tray.bytes(), b"reply 00abff\nend eof\n".as_slice());
     Ok(())
 }
 
@@ -168,6 +177,36 @@ impl Write for Broken {
     }
 }
 
+#[test]
+fn reads_standard_input(rt: HostRuntime) -> Result<(), Fail> {
+    let mut room = [0; 8];
+    let mut input = StdInput::new(b"abc".as_slice());
+    for count in [3, 0] {
+        assert_eq!(rt; input.fetch(&mut room), Ok(count));
+        assert_eq!(rt; &room[..3], b"abc".as_slice());
+    }
+    let mut input = StdInput::new(Broken { failed: false });
+    for answer in [Err(Fault), Ok(0)] {
+        assert_eq!(rt; input.fetch(&mut room), answer);
+    }
+    Ok(())
+}
+
+#[test]
+fn writes_standard_output(rt: HostRuntime) -> Result<(), Fail> {
+    let mut output = StdOutput::new(Vec::new(rt.alloc()));
+    assert_eq!(rt; output.put(b"abc", &[]), Ok(3));
+    let mut output = StdOutput::new(Broken { failed: false });
+    for call in [1, 2] {
+        assert_eq!(rt;
+            output.put(b"abc", &[]),
+            Err(PutError::Fault),
+            "call {call}"
+        );
+    }
+    Ok(())
+}
+
 /// A clock that is read from here.
 #[derive(Drop)]
 struct Ticks {
@@ -185,25 +224,6 @@ impl time::Clock for Ticks {
     fn since_1970(&self) -> io::Result<Duration> {
         self.monotonic()
     }
-}
-
-#[test]
-fn passes_on_the_standard_streams(rt: HostRuntime) -> Result<(), Fail> {
-    let mut room = [0; 8];
-    let mut input = StdInput::new(b"abc".as_slice());
-    assert_eq!(rt; input.fetch(&mut room), Ok(3));
-    assert_eq!(rt; &room[..3], b"abc".as_slice());
-    assert_eq!(rt; input.fetch(&mut room), Ok(0));
-    let mut input = StdInput::new(Broken { failed: false });
-    assert_eq!(rt; input.fetch(&mut room), Err(Fault));
-    assert_eq!(rt; input.fetch(&mut room), Ok(0));
-
-    let mut output = StdOutput::new(Vec::new(rt.alloc()));
-    assert_eq!(rt; output.put(b"abc", &[]), Ok(3));
-    let mut output = StdOutput::new(Broken { failed: false });
-    assert_eq!(rt; output.put(b"abc", &[]), Err(PutError::Fault));
-    assert_eq!(rt; output.put(b"abc", &[]), Err(PutError::Fault));
-    Ok(())
 }
 
 #[test]

@@ -1,4 +1,0 @@
-pub mod Front
-pub mod Seen
-pub mod Ended
-pub mod Codes
