@@ -24,7 +24,7 @@ mod tray;
 pub use backend::Backend;
 pub use has_backend::HasBackend;
 pub use interface::InterfaceName;
-pub use laws::{bursts, tables};
+pub use laws::{bursts, next_messages, tables};
 pub use memory_text::MemoryText;
 pub use message::{MessageEnum, PendingRequestResult};
 pub use object::Object;
