@@ -130,7 +130,8 @@ same_values (Fd g ∷ vs) (w ∷ ws) e h =
     let tail : map bare vs ≡ map bare ws = cc in
     handle_head g w vs ws (sym head) h (same_values vs ws tail)
 
-same_message : (m r : Sent) → IsAlike m r → handles_in r ≡ handles_in m → r ≡ m
+-- a message that is read alike, with the same handles, is the message
+pub same_message : (m r : Sent) → IsAlike m r → handles_in r ≡ handles_in m → r ≡ m
 same_message m r a e =
     let values : r.values ≡ m.values = same_values r.values m.values a.values e in
     rw (sym a.target, sym a.interface, sym a.version, sym a.opcode) (ap (λ (v : List Value). let s : Sent = record { target = r.target; interface = r.interface; version = r.version; opcode = r.opcode; values = v } in s) values)

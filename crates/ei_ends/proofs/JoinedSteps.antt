@@ -123,11 +123,11 @@ never_refused events x y to_y to_x f b j e = elim (reads events x y to_y to_x j.
 ]
 
 -- the next message is taken, if there is one
-same_answer : (events : Bool) (y : End) (a : Answer) (b : BackendView) → next events y.backend ≡ (a, b) → after_read events y ≡ having_answered a b y
+pub same_answer : (events : Bool) (y : End) (a : Answer) (b : BackendView) → next events y.backend ≡ (a, b) → after_read events y ≡ having_answered a b y
 unfolding after_read
 same_answer events y a b e = rw e refl
 
-same_read : (target : ObjectView) (interface : Interface) (k : KnownInterface) (opcode : ℕ) (values : List Value) (b : BackendView) (y : End) → interface ≡ Known k → having_read target interface opcode values b y ≡ with_taken b (Took (stored target k opcode values) (length y.sent)) y
+pub same_read : (target : ObjectView) (interface : Interface) (k : KnownInterface) (opcode : ℕ) (values : List Value) (b : BackendView) (y : End) → interface ≡ Known k → having_read target interface opcode values b y ≡ with_taken b (Took (stored target k opcode values) (length y.sent)) y
 same_read target interface k opcode values b y e = rw e refl
 
 take_read : (events : Bool) (x y : End) (to_y to_x : Piece) (cx cy : Cut) → Takes events x y to_y to_x cx cy → Joined events x (after_read events y) to_y to_x
@@ -149,7 +149,7 @@ read_next events x y to_y to_x j = elim (reads events x y to_y to_x j.there j.ba
 -- ---- what follows
 
 -- what was taken is the oldest of what was sent
-past_is : (events : Bool) (x y : End) (to_y to_x : Piece) (j : Joined events x y to_y to_x) → oldest (length y.taken) x.sent ≡ j.there.past
+pub past_is : (events : Bool) (x y : End) (to_y to_x : Piece) (j : Joined events x y to_y to_x) → oldest (length y.taken) x.sent ≡ j.there.past
 past_is events x y to_y to_x j =
     let way = j.tied.there in
     ap (λ n. oldest n x.sent) (agree_length events y.sent j.there.past y.taken way.agree) ∙ ap (λ s. oldest (length j.there.past) s) way.sent_is ∙ oldest_onto j.there.flight j.there.past

@@ -36,7 +36,7 @@ heard_announced events own (m ∷ past) theirs (Took r after ∷ gots) id n all 
 ]
 
 -- an end knows the objects that it made and read
-pub knows : (events : Bool) (x y : End) (to_y to_x : Piece) (cx cy : Cut) (id : ℕ) (n : New) → Tied events x y to_y to_x cx cy → acquainted events x id ≡ Some n → known_by events x.sent cy.past id ≡ Some n
+pub knows : (events : Bool) (x y : End) (to_y to_x : Piece) (cx cy : Cut) (id : ℕ) (n : New) → Tied events x y to_y to_x cx cy → acquainted events x.sent x.taken id ≡ Some n → known_by events x.sent cy.past id ≡ Some n
 knows events x y to_y to_x cx cy id n h e = elim (or_else_some (first id) _ n e) [
   | inl p ↦ or_else_first _ _ n p
   | inr p ↦ elim (or_else_some (announced events x.sent id) _ n p.1) [

@@ -16,3 +16,4 @@ pub mod Knowing
 pub mod JoinedSteps
 pub mod Answered
 pub mod Same
+pub mod ReadingAll

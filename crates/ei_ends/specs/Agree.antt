@@ -1,5 +1,5 @@
 -- Which messages are dropped, and the agreement of what one end took with what the other sent. Lists have the newest first.
-use Rattle.std.specs.Prelude.{◌≡◌, ℕ, ◌-◌, ◌≤◌, Bool, true, false, ◌||◌, ◌&&◌, List, [], ◌∷◌, ◌++◌, length, drop, map}
+use Rattle.std.specs.Prelude.{◌≡◌, ℕ, ◌-◌, ◌≤◌, Bool, true, false, ◌||◌, ◌&&◌, List, [], ◌∷◌, ◌++◌, length, drop, map, if◌then◌else◌}
 use Rattle.ei_spec.specs.declared.handle.Handle.{Handle}
 use Rattle.ei_ends.specs.Sent.{other, Sent, Got, Took, Missed, new_of, handles_in, IsAlike}
 use Rattle.ei_ends.specs.Announced.{is_named, destroyed}
@@ -44,6 +44,23 @@ unfoldable pub Agree : Bool → List Sent → List Sent → List Got → Type 0
 Agree events own [] [] = Unit {0}
 Agree events own (m ∷ past) (g ∷ gots) = IsTaken events own past gots m g × Agree events own past gots
 Agree events own past gots = ⊥
+
+-- ---- what will be taken
+
+-- how the next message will be taken, where it has no handle: by the lists alone
+abbrev pub next_got : Bool → List Sent → List Sent → List Got → Sent → Got
+next_got events own past gots m =
+    if dropped events own past (afters gots) (length own) m.target then Missed m.target (length own) else Took m (length own)
+
+-- what an end that sent `own` has taken, once it took these messages too, the first first
+abbrev pub all_got : Bool → List Sent → List Sent → List Got → List Sent → List Got
+all_got events own past gots [] = gots
+all_got events own past gots (m ∷ ms) = all_got events own (m ∷ past) (next_got events own past gots m ∷ gots) ms
+
+-- each of these messages has no handle
+abbrev pub HaveNoHandles : List Sent → Type 0
+HaveNoHandles [] = Unit {0}
+HaveNoHandles (m ∷ ms) = (handles_in m ≡ []) × HaveNoHandles ms
 
 -- ---- handles
 

@@ -1,5 +1,5 @@
 -- What each step does to an end.
-use Rattle.std.specs.Prelude.{◌≡◌, ℕ, ◌<◌, ◌≤◌, Bool, true, false, List, [], ◌∷◌, ◌++◌, length, take, drop, ◌⊎◌, Option, Some, None}
+use Rattle.std.specs.Prelude.{◌≡◌, ℕ, zero, suc, ◌<◌, ◌≤◌, Bool, true, false, List, [], ◌∷◌, ◌++◌, length, take, drop, ◌⊎◌, Option, Some, None}
 use Rattle.ei_spec.specs.declared.interface.KnownInterface.{KnownInterface}
 use Rattle.ei_spec.specs.Value.{Value}
 use Rattle.ei_spec.specs.Interface.{Interface, ObjectView, Known, Other}
@@ -119,6 +119,11 @@ having_answered (Message target opcode values) b y = having_read target target.i
 -- the end once it took the next message, if there is one
 unfoldable pub after_read : Bool → End → End
 after_read events y = having_answered (next events y.backend).0 (next events y.backend).1 y
+
+-- the end once it asked so many times
+abbrev pub after_reads : ℕ → Bool → End → End
+after_reads zero events y = y
+after_reads (suc n) events y = after_reads n events (after_read events y)
 
 -- ---- what two ends don't depend on
 

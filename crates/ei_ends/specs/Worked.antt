@@ -1,12 +1,12 @@
 -- Two conversations of a server and a client, worked by hand.
-use Rattle.std.specs.Prelude.{ℕ, zero, suc, Bool, true, false, List, [], ◌∷◌, length, codes}
+use Rattle.std.specs.Prelude.{ℕ, Bool, true, false, List, [], ◌∷◌, length, codes}
 use Rattle.ei_spec.specs.declared.handle.Handle.{Handle}
 use Rattle.ei_spec.specs.declared.interface.KnownInterface.TheVariants as known
 use Rattle.ei_spec.specs.Value.{Word, Long, Letters, Fd}
 use Rattle.ei_backend.specs.Backend.{unsent_of}
-use Rattle.ei_ends.specs.Sent.{Sent, Got, Took, Missed}
+use Rattle.ei_ends.specs.Sent.{Sent}
 use Rattle.ei_ends.specs.Way.{End}
-use Rattle.ei_ends.specs.Steps.{after_calls, flushed, delivered, after_read}
+use Rattle.ei_ends.specs.Steps.{after_calls, flushed, delivered, after_reads}
 use Rattle.ei_ends.specs.Joined.{new_end}
 
 -- ---- how they speak
@@ -15,11 +15,6 @@ use Rattle.ei_ends.specs.Joined.{new_end}
 pub record Talk : Type 0 where
   pub server : End
   pub client : End
-
--- the end that took so many messages
-abbrev pub after_reads : ℕ → Bool → End → End
-after_reads zero events y = y
-after_reads (suc n) events y = after_reads n events (after_read events y)
 
 -- all that waits with the first end goes to the second in one piece, which then takes so many messages
 abbrev pub having_heard : ℕ → Bool → End → End → End
