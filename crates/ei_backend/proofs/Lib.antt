@@ -11,3 +11,5 @@ pub mod ReadingOn
 pub mod RingLaws
 pub mod FrontNeeds
 pub mod Behind
+pub mod FoundAfter
+pub mod NextIs

@@ -25,7 +25,7 @@ pub use backend::Backend;
 pub use ei_spec::limits::FIRST_SERVER_ID;
 pub use has_backend::HasBackend;
 pub use interface::InterfaceName;
-pub use laws::{bursts, tables};
+pub use laws::{bursts, next_messages, tables};
 pub use memory_text::MemoryText;
 pub use message::{MessageEnum, PendingRequestResult};
 pub use object::Object;

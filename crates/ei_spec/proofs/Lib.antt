@@ -12,3 +12,7 @@ pub mod GroupsLaws
 pub mod Faults
 pub mod Handleless
 pub mod TableLaws
+pub mod WrittenRows
+pub mod Cuts
+pub mod RowHandles
+pub mod RowNames

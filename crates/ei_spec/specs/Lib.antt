@@ -2,6 +2,7 @@ pub mod Interface
 pub mod Value
 pub mod Reading
 pub mod Spelling
+pub mod Arguments
 pub mod Rows
 pub mod Table
 pub mod Message

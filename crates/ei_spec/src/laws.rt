@@ -1,16 +1,19 @@
 //! The laws of the definitions. Each function does nothing: its clauses are the laws.
 
-ghost use Rattle.std.specs.Prelude.{◌≡◌, ℕ, ◌≤◌, ◌++◌, [], ◌∷◌, ◌==◌, if◌then◌else◌, List, Bool, true, false, Some, None, Ok, Err, length, nat_eq};
-ghost use Rattle.std.specs.List.{IsDistinct, range_with_len, Contains, list_any};
+ghost use Rattle.std.specs.Prelude.{◌≡◌, ℕ, ◌<◌, ◌≤◌, ◌⊎◌, ◌++◌, [], ◌∷◌, drop, ◌==◌, if◌then◌else◌, List, Bool, true, false, Some, None, Ok, Err, length, nat_eq};
+ghost use Rattle.std.specs.List.{IsDistinct, range_with_len, Contains, list_any, flat_map};
 ghost use Rattle.std.specs.Str.{bytes_eq};
+ghost use Rattle.ei_spec.specs.declared.handle.Handle.{Handle};
 ghost use Rattle.ei_spec.specs.declared.interface.KnownInterface.{KnownInterface};
-ghost use Rattle.ei_spec.specs.Value.{Kind, U32, Choice, Value, Word, IsOf};
+ghost use Rattle.ei_spec.specs.Value.{Kind, U32, Choice, Value, Word, IsOf, written, handles_of};
 ghost use Rattle.ei_spec.specs.Reading.{Unread, Fault, InvalidVariant, read, all_at};
 ghost use Rattle.ei_spec.specs.Spelling.{Begins, Follows, AllBegin};
 ghost use Rattle.ei_spec.specs.Interface.{the_thirteen};
+ghost use Rattle.ei_spec.specs.Arguments.{AreOf, HasFewHandles, before_values, behind_values};
+ghost use Rattle.ei_spec.specs.Rows.{Row, Nothing, row_at, row_named};
 ghost use Rattle.ei_spec.specs.Table.{table, opcodes, names, count};
 ghost use Rattle.ei_spec.specs.Groups.{Slot, Given, Input, Frame, Other, Free, group, gives, grouped, frames_made};
-ghost use Rattle.ei_spec.specs.Message.{Raw, IsLawful, IsBytes, bytes_of, front, Whole};
+ghost use Rattle.ei_spec.specs.Message.{Raw, IsLawful, IsBytes, size, bytes_of, front, Short, Whole};
 
 /// What is spelled is read, whatever follows it, and what is refused isn't spelled.
 pub fn spelling()
@@ -18,6 +21,9 @@ pub fn spelling()
     ensures written { (k : Kind) (v : Value) (s t : Unread) → IsOf k v → Follows v s t → read k s ≡ Ok (v, t) }
     ensures refused { (k : Kind) (v : Value) (s t : Unread) (f : Fault) → read k s ≡ Err f → Begins k v s t → ⊥ }
     ensures all { (ks : List Kind) (vs : List Value) (s t : Unread) → AllBegin ks vs s t → all_at ks s ≡ Ok (vs, t) }
+    ensures values { (kinds : List Kind) (values : List Value) (handles more : List Handle) (taken : ℕ) → AreOf kinds values →
+        length (flat_map written values) ≤ 1048576 → drop taken handles ≡ flat_map handles_of values ++ more →
+        all_at kinds (before_values handles taken values) ≡ Ok (values, behind_values handles taken values) }
 {}
 
 /// A value of an enum is read as its number, and every number that is no value of it is refused by the enum's
@@ -36,16 +42,27 @@ pub fn messages()
     ensures spelled { (bytes : List ℕ) (m : Raw) (rest : List ℕ) → IsBytes bytes → front bytes ≡ Whole m rest → bytes ≡ bytes_of m ++ rest }
     ensures lawful { (bytes : List ℕ) (m : Raw) (rest : List ℕ) → IsBytes bytes → front bytes ≡ Whole m rest → IsLawful m }
     ensures more { (bytes more : List ℕ) (m : Raw) (rest : List ℕ) → front bytes ≡ Whole m rest → front (bytes ++ more) ≡ Whole m (rest ++ more) }
+    ensures size { (m : Raw) → length (bytes_of m) ≡ size m }
+    // cut short, and how long what is no whole message may be
+    ensures cut { (m : Raw) (part more : List ℕ) → IsLawful m → bytes_of m ≡ part ++ more → length part < size m → front part ≡ Short }
+    ensures short { (bytes : List ℕ) → front bytes ≡ Short → length bytes < 1048576 }
 {}
 
 /// The table of all messages has 36 requests and 48 events, of each interface by opcodes from 0 on and by
-/// names that differ.
+/// names that differ. A message has at most one handle, and one that announces an object has none.
 pub fn all_messages()
     ensures interfaces { (interface : KnownInterface) → Contains the_thirteen interface }
     ensures requests { count false ≡ 36 }
     ensures events { count true ≡ 48 }
     ensures opcodes { (events : Bool) (interface : KnownInterface) → opcodes events interface ≡ range_with_len 0 (length (table events interface)) }
     ensures names { (events : Bool) (interface : KnownInterface) → IsDistinct bytes_eq (names events interface) }
+    ensures by_name { (events : Bool) (interface : KnownInterface) (name : List ℕ) (r : ℕ × Row) → row_named name (table events interface) ≡ Some r →
+        (r.0 < 13) × (row_at r.0 (table events interface) ≡ Some r.1) }
+    // handles
+    ensures handles { (events : Bool) (interface : KnownInterface) (opcode : ℕ) (r : Row) (values : List Value) →
+        row_at opcode (table events interface) ≡ Some r → AreOf r.kinds values → HasFewHandles values }
+    ensures announcing { (events : Bool) (interface : KnownInterface) (opcode : ℕ) (r : Row) (values : List Value) →
+        row_at opcode (table events interface) ≡ Some r → AreOf r.kinds values → (length (flat_map handles_of values) ≡ 0) ⊎ (r.announces ≡ Nothing) }
 {}
 
 /// What one more position adds to the groups of inputs: `slot` comes behind those before it.

@@ -1,5 +1,6 @@
 use Rattle.std.proofs.Common.{refl}
 use Rattle.ei_backend.proofs.GivenOnce.{own_found, own_others, accepted_is, peer_found, peer_others, gone, gone_others, under_its_id, known, given_once}
+use Rattle.ei_backend.proofs.FoundAfter.{accepts}
 use Rattle.ei_backend.proofs.laws.tables.Goals as goal
 
 pub returns : goal.returns
@@ -8,6 +9,7 @@ returns c = record {
   own_found = own_found;
   own_others = own_others;
   peer_id = λ t u id version interface o e. let a = accepted_is t u id version interface o e in (a.low, a.high, rw a.table refl);
+  accepts = accepts;
   peer_found = peer_found;
   peer_others = peer_others;
   removed = gone;
