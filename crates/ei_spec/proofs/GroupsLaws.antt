@@ -57,7 +57,7 @@ module _ {X Y : Type 0} where
   unfolding grouped joined
   grouped_more readings before slot = refl
 
-  pub grouped_prefix : (readings : List ℕ) (more before : List (Slot X Y)) → (rest : List (Given X Y)) × (grouped readings (more ++ before) ≡ grouped readings before ++ rest)
+  pub grouped_prefix : (readings : List ℕ) (more before : List (Slot X Y)) → (rest : List (Given ℕ X Y)) × (grouped readings (more ++ before) ≡ grouped readings before ++ rest)
   unfolding grouped
   grouped_prefix readings more before = joined_prefix (gives readings) more before
 
@@ -96,4 +96,4 @@ module _ {X Y : Type 0} where
       let one = frames_made_more before s in
       let now = gives_at readings later before s.item s.serial (omega (arith, one)) in
       let earlier = grouped_readings readings later before (omega (arith, one)) in
-      ap (λ (x : List (Given X Y)). x ++ gives (readings ++ later) before s) earlier ∙ ap (λ (x : List (Given X Y)). grouped readings before ++ x) now
+      ap (λ (x : List (Given ℕ X Y)). x ++ gives (readings ++ later) before s) earlier ∙ ap (λ (x : List (Given ℕ X Y)). grouped readings before ++ x) now

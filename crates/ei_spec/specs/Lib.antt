@@ -4,6 +4,7 @@ pub mod Reading
 pub mod Spelling
 pub mod Rows
 pub mod Table
+pub mod FromValues
 pub mod Message
 pub mod Stream
 pub mod History

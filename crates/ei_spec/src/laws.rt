@@ -52,7 +52,7 @@ pub fn groups<X, Y>()
     ensures more { (readings : List ℕ) (before : List (Slot X Y)) (slot : Slot X Y) →
         grouped readings (slot ∷ before) ≡ grouped readings before ++ gives readings before slot }
     ensures prefix { (readings : List ℕ) (more before : List (Slot X Y)) →
-        (rest : List (Given X Y)) × (grouped readings (more ++ before) ≡ grouped readings before ++ rest) }
+        (rest : List (Given ℕ X Y)) × (grouped readings (more ++ before) ≡ grouped readings before ++ rest) }
     ensures readings { (readings later : List ℕ) (slots : List (Slot X Y)) → frames_made slots ≤ length readings →
         grouped (readings ++ later) slots ≡ grouped readings slots }
 {}
