@@ -1,0 +1,5 @@
+use Rattle.ei_reported.proofs.NoneWaits.{none_waits}
+use Rattle.ei_reported.proofs.laws.waiting.Goals as goal
+
+pub returns : goal.returns
+returns c = none_waits
