@@ -1,5 +1,6 @@
 -- What is reported, after one more event.
-use Rattle.std.proofs.Common.{◌≡◌, ℕ, ◌≤◌, List, [], ◌∷◌, ◌++◌, length, Option, Some, None, refl, sym, ap, ◌∙◌, arith}
+use Rattle.std.proofs.Common.{◌≡◌, ℕ, ◌+◌, ◌≤◌, cond, eqb, false, List, [], ◌∷◌, ◌++◌, length, Option, Some, None, refl, sym, ap, ◌∙◌, arith}
+use Rattle.std.proofs.lemmas.Bool.Decides.{nat_tests}
 use Rattle.std.specs.Prelude.{unwrap_or, map, slice_index}
 use Rattle.std.proofs.lemmas.List.{map-append, append-nil}
 use Rattle.ei_spec.specs.History.{last_said, each, joined}
@@ -84,6 +85,34 @@ pub tells_readings : (start : ℕ) (readings later : List ℕ) (before : List Sa
 unfolding tells
 tells_readings start readings later before m le =
     ap (map (seen (device_of before))) (gives_later readings later (slots start before) (slot start before m) (rw (← slots_more start before m) le))
+
+pub frames_by : (start : ℕ) (before : List Said) (m : Said) (o : Option Giving) → item before m ≡ o → frames_made (slots start (m ∷ before)) ≡ frames_made (slots start before) + made_by (λ d. group d (slots start before)) o
+unfolding slot
+frames_by start before m o e =
+    ap frames_made (slots_more start before m) ∙ frames_made_more (slots start before) (slot start before m)
+    ∙ ap (λ (x : Option Giving). frames_made (slots start before) + made_by (λ d. group d (slots start before)) x) e
+
+-- 1 for a group of some inputs
+one_for_some : (xs : List Input) → ◌≡◌ {A = ℕ} (elim xs [ [] ↦ 0 | _ ∷ _ ↦ 1 ]) (cond (eqb (length xs) 0) 0 1)
+one_for_some [] = refl
+one_for_some (x ∷ xs) = let e : eqb (length (x ∷ xs)) 0 ≡ false = grind (arith, nat_tests) in rw e refl
+
+pub frames_other : (start : ℕ) (before : List Said) (m : Said) (d : ℕ) (y : Plain) → item before m ≡ Some (Other d y) →
+    frames_made (slots start (m ∷ before)) ≡ frames_made (slots start before) + cond (eqb (length (group d (slots start before))) 0) 0 1
+frames_other start before m d y e =
+    frames_by start before m (Some (Other d y)) e ∙ ap (λ (n : ℕ). frames_made (slots start before) + n) (one_for_some (group d (slots start before)))
+
+pub frames_input : (start : ℕ) (before : List Said) (m : Said) (d : ℕ) (x : Input) → item before m ≡ Some (Waiting d x) → frames_made (slots start (m ∷ before)) ≡ frames_made (slots start before)
+frames_input start before m d x e = let h = frames_by start before m (Some (Waiting d x)) e in omega (arith, h)
+
+pub frames_frame : (start : ℕ) (before : List Said) (m : Said) (d s t : ℕ) → item before m ≡ Some (Framing d s t) → frames_made (slots start (m ∷ before)) ≡ frames_made (slots start before)
+frames_frame start before m d s t e = let h = frames_by start before m (Some (Framing d s t)) e in omega (arith, h)
+
+pub frames_free : (start : ℕ) (before : List Said) (m : Said) (y : Plain) → item before m ≡ Some (Free y) → frames_made (slots start (m ∷ before)) ≡ frames_made (slots start before)
+frames_free start before m y e = let h = frames_by start before m (Some (Free y)) e in omega (arith, h)
+
+pub frames_nothing : (start : ℕ) (before : List Said) (m : Said) → item before m ≡ None → frames_made (slots start (m ∷ before)) ≡ frames_made (slots start before)
+frames_nothing start before m e = let h = frames_by start before m None e in omega (arith, h)
 
 frames_grow : (start : ℕ) (before : List Said) (m : Said) → frames_made (slots start before) ≤ frames_made (slots start (m ∷ before))
 frames_grow start before m =

@@ -10,8 +10,8 @@ ghost use Rattle.ei_spec.specs.Groups.{gives, group, grouped, frames_made};
 ghost use Rattle.ei_reported.specs.Event.{Event};
 ghost use Rattle.ei_reported.specs.Said.{Told, Said, said, DeviceDone, DeviceTells, DeviceGoes, Inputs, Modifies};
 ghost use Rattle.ei_reported.specs.Standing.{device_pending, device_typed, device_added, holder};
-ghost use Rattle.ei_reported.specs.Reported.{Device, device_of, Report, Plain as PlainEvent, refusal, item, keeps, serial};
-ghost use Rattle.ei_reported.specs.Reported.{slot, slots, tells, reported};
+ghost use Rattle.ei_reported.specs.Reported.{Device, device_of, Report, Plain as PlainEvent, refusal, item, keeps};
+ghost use Rattle.ei_reported.specs.Reported.{serial, slots, tells, reported};
 
 /// One more event, for the serial and for what is reported.
 pub fn one_more_event()
@@ -58,7 +58,8 @@ pub fn given_by_item()
         item before m ≡ Some (Waiting d x) → tells start readings before m ≡ [] }
     ensures frame { (start : ℕ) (readings : List ℕ) (before : List Said) (m : Said) (d s t : ℕ) →
         item before m ≡ Some (Frame d s t) →
-        tells start readings before m ≡ map (seen (device_of before)) (with_frame (group d (slots start before)) d s t) }
+        tells start readings before m ≡
+            map (seen (device_of before)) (with_frame (group d (slots start before)) d s t) }
     ensures other { (start : ℕ) (readings : List ℕ) (before : List Said) (m : Said) (d : ℕ) (y : PlainEvent) →
         item before m ≡ Some (Other d y) →
         tells start readings before m ≡
@@ -72,7 +73,25 @@ pub fn given_by_item()
 
 /// No input waits on a device that isn't added.
 pub fn waiting()
-    ensures { (start : ℕ) (before : List Said) (d : ℕ) → device_added before d ≡ false → group d (slots start before) ≡ [] }
+    ensures none { (start : ℕ) (before : List Said) (d : ℕ) → device_added before d ≡ false →
+        group d (slots start before) ≡ [] }
+{}
+
+/// How many frames are made after one more event: one more where a device's other event comes while inputs wait on it.
+pub fn frames_after()
+    ensures made { (start : ℕ) (before : List Said) (m : Said) (d : ℕ) (y : PlainEvent) →
+        item before m ≡ Some (Other d y) →
+        frames_made (slots start (m ∷ before)) ≡
+            frames_made (slots start before) + (if length (group d (slots start before)) == 0 then 0 else 1) }
+    ensures input { (start : ℕ) (before : List Said) (m : Said) (d : ℕ) (x : Input) →
+        item before m ≡ Some (Waiting d x) →
+        frames_made (slots start (m ∷ before)) ≡ frames_made (slots start before) }
+    ensures frame { (start : ℕ) (before : List Said) (m : Said) (d s t : ℕ) → item before m ≡ Some (Frame d s t) →
+        frames_made (slots start (m ∷ before)) ≡ frames_made (slots start before) }
+    ensures free { (start : ℕ) (before : List Said) (m : Said) (y : PlainEvent) → item before m ≡ Some (Free y) →
+        frames_made (slots start (m ∷ before)) ≡ frames_made (slots start before) }
+    ensures nothing { (start : ℕ) (before : List Said) (m : Said) → item before m ≡ None →
+        frames_made (slots start (m ∷ before)) ≡ frames_made (slots start before) }
 {}
 
 /// The inputs that wait on each device, after an event of each kind.

@@ -1,7 +1,7 @@
-//! The rows of the client's converter: what each event of the table says, why it is refused, what it gives, and the serial
-//! after it. Each function does nothing: its clauses are the rows.
+//! The rows of the client's converter: what each event of the table says, why it is refused, what it gives, and the
+//! serial after it. Each function does nothing: its clauses are the rows.
 
-ghost use Rattle.std.specs.Prelude.{◌≡◌, ℕ, ℤ, List, [], ◌∷◌, ◌==◌, ◌&&◌, ◌||◌, not, Option, Some, None, Bool, true, false};
+ghost use Rattle.std.specs.Prelude.{◌≡◌, ℕ, ℤ, List, [], ◌∷◌, ◌==◌, ◌&&◌, ◌||◌, not, Option, Some, None, false};
 ghost use Rattle.std.specs.Prelude.{is_some, codes, if◌then◌else◌};
 ghost use Rattle.ei_spec.specs.declared.interface.KnownInterface.{KnownInterface};
 ghost use Rattle.ei_spec.specs.declared.interface.KnownInterface.TheVariants as known;
@@ -18,14 +18,15 @@ ghost use Rattle.ei_types.specs.Inputs.{Input, PointerMotion, PointerMotionAbsol
 ghost use Rattle.ei_types.specs.Inputs.{ScrollCancel, ScrollDiscrete, KeyboardKey, TouchDown, TouchMotion, TouchUp};
 ghost use Rattle.ei_types.specs.Inputs.{TouchCancel, TextKeysym, TextUtf8};
 ghost use Rattle.ei_reported.specs.Event.{event};
-ghost use Rattle.ei_reported.specs.Said.{Told, Resumed, Paused, StartEmulating, StopEmulating, Frame, Said, Shakes, Aside};
-ghost use Rattle.ei_reported.specs.Said.{Disconnects, SeatComes, SeatHasName, SeatHas, SeatDone, SeatGoes, DeviceComes};
-ghost use Rattle.ei_reported.specs.Said.{DeviceHas, DeviceHasType, DeviceGets, DeviceDone, DeviceTells, DeviceGoes};
-ghost use Rattle.ei_reported.specs.Said.{Maps, Inputs, Modifies, Goes, said};
+ghost use Rattle.ei_reported.specs.Said.{Told, Resumed, Paused, StartEmulating, StopEmulating, Frame};
+ghost use Rattle.ei_reported.specs.Said.{Said, Shakes, Aside, Disconnects, SeatComes, SeatHasName, SeatHas, SeatDone};
+ghost use Rattle.ei_reported.specs.Said.{SeatGoes, DeviceComes, DeviceHas, DeviceHasType, DeviceGets, DeviceDone};
+ghost use Rattle.ei_reported.specs.Said.{DeviceTells, DeviceGoes, Maps, Inputs, Modifies, Goes, said};
 ghost use Rattle.ei_reported.specs.Standing.{seat_pending, seat_added, device_pending, device_typed, device_added};
 ghost use Rattle.ei_reported.specs.Standing.{holder, is_in_setup};
 ghost use Rattle.ei_reported.specs.Reported.{device_of, SeatAdded, SeatRemoved, DeviceAdded, DeviceRemoved};
-ghost use Rattle.ei_reported.specs.Reported.{Disconnected, goes_freely, refusal, telling, waiting, modifying, item, serial};
+ghost use Rattle.ei_reported.specs.Reported.{Disconnected, goes_freely, refusal, telling, waiting, modifying};
+ghost use Rattle.ei_reported.specs.Reported.{item, serial};
 ghost use Rattle.ei_reported.specs.Changes.{has_serial, may_give};
 
 /// What the events of the handshake, the connection and a callback say.
@@ -98,7 +99,8 @@ pub fn device_events()
     ensures stop_emulating { (id serial : ℕ) →
         said (event known.Device (codes "stop_emulating") id (Word serial ∷ [])) ≡ DeviceTells id serial StopEmulating }
     ensures frame { (id serial time : ℕ) →
-        said (event known.Device (codes "frame") id (Word serial ∷ Long time ∷ [])) ≡ DeviceTells id serial (Frame time) }
+        said (event known.Device (codes "frame") id (Word serial ∷ Long time ∷ [])) ≡
+            DeviceTells id serial (Frame time) }
     ensures region_mapping_id { (id : ℕ) (t : List ℕ) →
         said (event known.Device (codes "region_mapping_id") id (Letters t ∷ [])) ≡ DeviceHas id }
 {}
@@ -174,7 +176,8 @@ pub fn input_events()
     ensures keysym_pressed { (id keysym : ℕ) →
         said (event known.Text (codes "keysym") id (Word keysym ∷ Word 1 ∷ [])) ≡
             Inputs id (TextKeysym keysym key_state.Press) }
-    ensures utf8 { (id : ℕ) (t : List ℕ) → said (event known.Text (codes "utf8") id (Letters t ∷ [])) ≡ Inputs id (TextUtf8 t) }
+    ensures utf8 { (id : ℕ) (t : List ℕ) →
+        said (event known.Text (codes "utf8") id (Letters t ∷ [])) ≡ Inputs id (TextUtf8 t) }
 {}
 
 /// Why what is said is refused, by its kind; the tests come in this order.
@@ -253,7 +256,8 @@ pub fn serials()
     ensures seat_goes { (start : ℕ) (before : List Said) (seat s : ℕ) → serial start (SeatGoes seat s ∷ before) ≡ s }
     ensures device_tells { (start : ℕ) (before : List Said) (device s : ℕ) (told : Told) →
         serial start (DeviceTells device s told ∷ before) ≡ s }
-    ensures device_goes { (start : ℕ) (before : List Said) (device s : ℕ) → serial start (DeviceGoes device s ∷ before) ≡ s }
+    ensures device_goes { (start : ℕ) (before : List Said) (device s : ℕ) →
+        serial start (DeviceGoes device s ∷ before) ≡ s }
     ensures modifiers { (start : ℕ) (before : List Said) (id s depressed locked latched layout : ℕ) →
         serial start (Modifies id s depressed locked latched layout ∷ before) ≡ s }
     ensures goes { (start : ℕ) (before : List Said) (interface : KnownInterface) (id s : ℕ) →

@@ -56,7 +56,8 @@ pub fn devices_after()
         device_pending (DeviceDone d ∷ before) device ≡ (if d == device then false else device_pending before device) }
     ensures done_typed { (before : List Said) (d device : ℕ) →
         device_typed (DeviceDone d ∷ before) device ≡ device_typed before device }
-    ensures added { (before : List Said) (d device : ℕ) → device_pending before d ≡ true → device_typed before d ≡ true →
+    ensures added { (before : List Said) (d device : ℕ) →
+        device_pending before d ≡ true → device_typed before d ≡ true →
         device_added (DeviceDone d ∷ before) device ≡ (if d == device then true else device_added before device) }
     ensures dropped { (before : List Said) (d device : ℕ) → device_pending before d && device_typed before d ≡ false →
         device_added (DeviceDone d ∷ before) device ≡ device_added before device }
@@ -66,7 +67,8 @@ pub fn devices_after()
     ensures goes_typed { (before : List Said) (d serial device : ℕ) →
         device_typed (DeviceGoes d serial ∷ before) device ≡ device_typed before device }
     ensures removed { (before : List Said) (d serial device : ℕ) →
-        device_added (DeviceGoes d serial ∷ before) device ≡ (if d == device then false else device_added before device) }
+        device_added (DeviceGoes d serial ∷ before) device ≡
+            (if d == device then false else device_added before device) }
     ensures other_pending { (before : List Said) (m : Said) (device : ℕ) → moves_device m ≡ false →
         device_pending (m ∷ before) device ≡ device_pending before device }
     ensures other_typed { (before : List Said) (m : Said) (device : ℕ) → moves_device m ≡ false →
@@ -83,24 +85,29 @@ pub fn seats_of_devices()
         seat_of (DeviceComes seat d ∷ before) device ≡ seat_of before device }
     ensures other { (before : List Said) (m : Said) (device : ℕ) → moves_device m ≡ false →
         seat_of (m ∷ before) device ≡ seat_of before device }
-    ensures typed { (before : List Said) (d device : ℕ) → seat_of (DeviceHasType d ∷ before) device ≡ seat_of before device }
-    ensures done { (before : List Said) (d device : ℕ) → seat_of (DeviceDone d ∷ before) device ≡ seat_of before device }
+    ensures typed { (before : List Said) (d device : ℕ) →
+        seat_of (DeviceHasType d ∷ before) device ≡ seat_of before device }
+    ensures done { (before : List Said) (d device : ℕ) →
+        seat_of (DeviceDone d ∷ before) device ≡ seat_of before device }
     ensures goes { (before : List Said) (d serial device : ℕ) →
         seat_of (DeviceGoes d serial ∷ before) device ≡ seat_of before device }
     ensures pending { (before : List Said) (device : ℕ) → device_pending before device ≡ true →
         is_some (seat_of before device) ≡ true }
     ensures added { (before : List Said) (device : ℕ) → device_added before device ≡ true →
         is_some (seat_of before device) ≡ true }
-    ensures kept { (before : List Said) (m : Said) (device : ℕ) → NewIdsDiffer (m ∷ before) → brought before device ≡ true →
+    ensures kept { (before : List Said) (m : Said) (device : ℕ) →
+        NewIdsDiffer (m ∷ before) → brought before device ≡ true →
         seat_of (m ∷ before) device ≡ seat_of before device }
 {}
 
 /// The interfaces after an event of each kind.
 pub fn interfaces_after()
-    ensures gets { (before : List Said) (d i : ℕ) (name : List ℕ) (version id : ℕ) → device_pending before d ≡ true →
+    ensures gets { (before : List Said) (d i : ℕ) (name : List ℕ) (version id : ℕ) →
+        device_pending before d ≡ true →
         interface (DeviceGets d i name version ∷ before) id ≡
             (if i == id then Some (offer d name version) else unless_named d name (interface before id)) }
-    ensures refused { (before : List Said) (d i : ℕ) (name : List ℕ) (version id : ℕ) → device_pending before d ≡ false →
+    ensures refused { (before : List Said) (d i : ℕ) (name : List ℕ) (version id : ℕ) →
+        device_pending before d ≡ false →
         interface (DeviceGets d i name version ∷ before) id ≡ interface before id }
     ensures device_goes { (before : List Said) (d serial id : ℕ) →
         interface (DeviceGoes d serial ∷ before) id ≡ unless_of d (interface before id) }
@@ -131,7 +138,8 @@ pub fn holders()
 pub fn new_ids()
     ensures seat_pending { (before : List Said) (id : ℕ) → brought before id ≡ false → seat_pending before id ≡ false }
     ensures seat_added { (before : List Said) (id : ℕ) → brought before id ≡ false → seat_added before id ≡ false }
-    ensures device_pending { (before : List Said) (id : ℕ) → brought before id ≡ false → device_pending before id ≡ false }
+    ensures device_pending { (before : List Said) (id : ℕ) → brought before id ≡ false →
+        device_pending before id ≡ false }
     ensures device_added { (before : List Said) (id : ℕ) → brought before id ≡ false → device_added before id ≡ false }
     ensures seat_of { (before : List Said) (id : ℕ) → brought before id ≡ false → seat_of before id ≡ None }
     ensures interface { (before : List Said) (id : ℕ) → brought before id ≡ false → interface before id ≡ None }
@@ -145,7 +153,8 @@ pub fn one_thing()
     ensures device { (before : List Said) (id : ℕ) → NewIdsDiffer before →
         device_pending before id && device_added before id ≡ false }
     ensures seat_no_device { (before : List Said) (id : ℕ) → NewIdsDiffer before →
-        seat_pending before id || seat_added before id ≡ true → device_pending before id || device_added before id ≡ false }
+        seat_pending before id || seat_added before id ≡ true →
+        device_pending before id || device_added before id ≡ false }
     ensures seat_no_interface { (before : List Said) (id : ℕ) → NewIdsDiffer before →
         seat_pending before id || seat_added before id ≡ true → interface before id ≡ None }
     ensures device_no_interface { (before : List Said) (id : ℕ) → NewIdsDiffer before →

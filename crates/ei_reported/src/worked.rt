@@ -1,5 +1,5 @@
-//! Worked lists of events: what they give, which are refused, and the serial after them. Each function does nothing: its
-//! clauses are what the definitions make of the lists.
+//! Worked lists of events: what they give, which are refused, and the serial after them. Each function does nothing:
+//! its clauses are what the definitions make of the lists.
 
 ghost use Rattle.std.specs.Prelude.{◌≡◌, ℤ, pos, negsuc, true, false, List, [], ◌∷◌, ◌++◌, Some, None, codes};
 ghost use Rattle.ei_spec.specs.declared.handle.Handle.{Handle};
@@ -14,7 +14,8 @@ ghost use Rattle.ei_types.specs.Inputs.{TouchCancel, TextKeysym, TextUtf8};
 ghost use Rattle.ei_reported.specs.Reported.{Disconnected, SeatAdded, SeatRemoved, DeviceAdded, DeviceRemoved};
 ghost use Rattle.ei_reported.specs.Reported.{DevicePaused, DeviceResumed, KeyboardModifiers, DeviceStartEmulating};
 ghost use Rattle.ei_reported.specs.Reported.{DeviceStopEmulating};
-ghost use Rattle.ei_reported.specs.Worked.{added_seat, device_of_button, told, refused, fails, serial_after, device, device_of};
+ghost use Rattle.ei_reported.specs.Worked.{added_seat, device_of_button, told, refused, fails, serial_after};
+ghost use Rattle.ei_reported.specs.Worked.{device, device_of};
 ghost use Rattle.ei_reported.specs.WorkedLists as lists;
 
 /// A seat, and a device of a button that is resumed.
@@ -152,7 +153,8 @@ pub fn groups()
         ∷ Framed (device 102) 10 2000 ∷ Plain (KeyboardModifiers (device 102) 10 1 3 2 4)
         ∷ Timed (device 102) (PointerMotion 1 2) 0 ∷ Framed (device 102) 22 0 ∷ Plain (DevicePaused (device 102) 22)
         ∷ Plain (Disconnected 1 reason.Disconnected None) ∷ Plain (SeatRemoved 101)
-        ∷ Timed (device 102) (PointerMotion 1 2) 0 ∷ Framed (device 102) 40 0 ∷ Plain (DeviceRemoved (device 102)) ∷ [] }
+        ∷ Timed (device 102) (PointerMotion 1 2) 0 ∷ Framed (device 102) 40 0 ∷ Plain (DeviceRemoved (device 102))
+        ∷ [] }
     ensures refused { refused lists.groups ≡ fails 19 error.DeviceEventBeforeDone
         ∷ fails 25 error.DeviceEventBeforeDone ∷ [] }
     ensures serial { serial_after lists.groups ≡ 40 }

@@ -9,6 +9,7 @@ ghost use Rattle.ei_spec.specs.Reading.{Unread, Fault, InvalidVariant, read, all
 ghost use Rattle.ei_spec.specs.Spelling.{Begins, Follows, AllBegin};
 ghost use Rattle.ei_spec.specs.Table.{table, opcodes, names, count, the_thirteen};
 ghost use Rattle.ei_spec.specs.Groups.{Slot, Given, Input, Frame, Other, Free, group, gives, grouped, frames_made};
+ghost use Rattle.ei_spec.specs.History.{lasts, HasLasted};
 ghost use Rattle.ei_spec.specs.Message.{Raw, IsLawful, IsBytes, bytes_of, front, Whole};
 
 /// What is spelled is read, whatever follows it, and what is refused isn't spelled.
@@ -45,6 +46,14 @@ pub fn all_messages()
     ensures events { count true ≡ 48 }
     ensures opcodes { (events : Bool) (interface : KnownInterface) → opcodes events interface ≡ range_with_len 0 (length (table events interface)) }
     ensures names { (events : Bool) (interface : KnownInterface) → IsDistinct bytes_eq (names events interface) }
+{}
+
+/// What lasts was started at a position, and no later one ended it.
+pub fn lasting<M>()
+    ensures found { (starts ends : List M → M → Bool) (before : List M) → lasts starts ends before ≡ true →
+        HasLasted starts ends before }
+    ensures shown { (starts ends : List M → M → Bool) (before : List M) → HasLasted starts ends before →
+        lasts starts ends before ≡ true }
 {}
 
 /// What one more position adds to the groups of inputs: `slot` comes behind those before it.

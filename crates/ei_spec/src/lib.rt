@@ -11,4 +11,4 @@ mod laws;
 
 pub use handle::Handle;
 pub use interface::KnownInterface;
-pub use laws::{all_messages, enums, groups, messages, spelling, waiting_inputs};
+pub use laws::{all_messages, enums, groups, lasting, messages, spelling, waiting_inputs};

@@ -2,4 +2,6 @@ use Rattle.ei_reported.proofs.NoneWaits.{none_waits}
 use Rattle.ei_reported.proofs.laws.waiting.Goals as goal
 
 pub returns : goal.returns
-returns c = none_waits
+returns c = record {
+  none = none_waits;
+}

@@ -1,4 +1,5 @@
-use Rattle.ei_reported.proofs.ItemsAndSerials.{item_disconnects, item_seat_done, item_seat_goes, item_device_done, item_device_tells, item_device_goes, item_input, item_modifiers, item_other}
+use Rattle.ei_reported.proofs.ItemsAndSerials.{item_disconnects, item_seat_done, item_seat_goes, item_device_done, item_device_tells}
+use Rattle.ei_reported.proofs.ItemsAndSerials.{item_device_goes, item_input, item_modifiers, item_other}
 use Rattle.ei_reported.proofs.rows.items.Goals as goal
 
 pub returns : goal.returns

@@ -1,4 +1,5 @@
-use Rattle.ei_reported.proofs.ItemsAndSerials.{serial_seat_goes, serial_device_tells, serial_device_goes, serial_modifiers, serial_goes, serial_other, serial_first}
+use Rattle.ei_reported.proofs.ItemsAndSerials.{serial_seat_goes, serial_device_tells, serial_device_goes, serial_modifiers, serial_goes, serial_other}
+use Rattle.ei_reported.proofs.ItemsAndSerials.{serial_first}
 use Rattle.ei_reported.proofs.rows.serials.Goals as goal
 
 pub returns : goal.returns

@@ -1,4 +1,5 @@
-use Rattle.ei_reported.proofs.AfterEachKind.{interface_gets, interface_refused, interface_device_goes, interface_dropped, interface_done, interface_not_pending, interface_goes, other_interface}
+use Rattle.ei_reported.proofs.AfterEachKind.{interface_gets, interface_refused, interface_device_goes, interface_dropped, interface_done}
+use Rattle.ei_reported.proofs.AfterEachKind.{interface_not_pending, interface_goes, other_interface}
 use Rattle.ei_reported.proofs.standing.interfaces_after.Goals as goal
 
 pub returns : goal.returns

@@ -1,4 +1,5 @@
-use Rattle.ei_reported.proofs.AfterEachKind.{pending_comes, pending_done, pending_goes, added_done, added_refused, added_goes, added_comes, other_seat_pending, other_seat_added}
+use Rattle.ei_reported.proofs.AfterEachKind.{pending_comes, pending_done, pending_goes, added_done, added_refused, added_goes, added_comes}
+use Rattle.ei_reported.proofs.AfterEachKind.{other_seat_pending, other_seat_added}
 use Rattle.ei_reported.proofs.standing.seats_after.Goals as goal
 
 pub returns : goal.returns

@@ -1,4 +1,5 @@
-use Rattle.ei_reported.proofs.AfterEachKind.{seat_of_comes, seat_of_refused, other_seat_of, seat_of_typed, seat_of_done, seat_of_goes, pending_has_seat, added_has_seat}
+use Rattle.ei_reported.proofs.AfterEachKind.{seat_of_comes, seat_of_refused, other_seat_of, seat_of_typed, seat_of_done, seat_of_goes}
+use Rattle.ei_reported.proofs.AfterEachKind.{pending_has_seat, added_has_seat}
 use Rattle.ei_reported.proofs.OneThing.{seat_of_kept}
 use Rattle.ei_reported.proofs.standing.seats_of_devices.Goals as goal
 
