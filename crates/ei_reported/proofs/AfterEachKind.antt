@@ -6,10 +6,13 @@ use Rattle.std.specs.Option.{option_or}
 use Rattle.std.specs.Str.{bytes_eq}
 use Rattle.ei_spec.specs.History.{lasts}
 use Rattle.ei_spec.specs.declared.interface.KnownInterface.{KnownInterface}
-use Rattle.ei_reported.specs.Said.{Said, Shakes, Aside, Disconnects, SeatComes, SeatHasName, SeatHas, SeatDone, SeatGoes, DeviceComes, DeviceHas, DeviceHasType, DeviceGets, DeviceDone, DeviceTells, DeviceGoes, Maps, Inputs, Modifies, Goes}
-use Rattle.ei_reported.specs.Standing.{seat_pending, seat_done, seat_goes, seat_comes, device_done, device_goes, device_typed_by, adds_seat, seat_added, announces, device_comes, seat_of, device_pending, device_typed, completes, device_added, Offer, offer, offers, takes, interface, if_added, holder, is_in_setup}
+use Rattle.ei_reported.specs.Said.{Said, SeatComes, SeatDone, SeatGoes, DeviceComes, DeviceHasType, DeviceGets, DeviceDone, DeviceGoes, Goes}
+use Rattle.ei_reported.specs.Standing.{seat_pending, seat_done, seat_goes, device_done, device_goes, adds_seat, seat_added, announces, device_comes}
+use Rattle.ei_reported.specs.Standing.{seat_of, device_pending, device_typed, completes, device_added, Offer, offer, offers, takes, interface}
+use Rattle.ei_reported.specs.Standing.{if_added, holder}
 use Rattle.ei_reported.specs.Changes.{moves_seat, moves_device, moves_interface, unless_of, unless_named}
-use Rattle.ei_reported.proofs.OneMoreEvent.{seat_pending_more, seat_added_more, seat_of_more, device_pending_more, device_typed_more, device_added_more, left, after, interface_at, interface_more}
+use Rattle.ei_reported.proofs.OneMoreEvent.{seat_pending_more, seat_added_more, seat_of_more, device_pending_more, device_typed_more}
+use Rattle.ei_reported.proofs.OneMoreEvent.{device_added_more, left, interface_at}
 
 -- ---- choices
 
@@ -377,8 +380,8 @@ interface_same before m id e h = interface_at before m id None e ∙ none_taken 
 pub interface_refused : (before : List Said) (d i : ℕ) (name : List ℕ) (version id : ℕ) → device_pending before d ≡ false → interface (DeviceGets d i name version ∷ before) id ≡ interface before id
 interface_refused before d i name version id h =
     interface_same before (DeviceGets d i name version) id
-        (gets_at before d i name version id (eqb i id) false refl h ∙ no_if (eqb i id) _)
-        (λ o. named_at before d i name version id o (eqb d o.device && bytes_eq name o.name) false refl h ∙ and_no (eqb d o.device && bytes_eq name o.name))
+    (gets_at before d i name version id (eqb i id) false refl h ∙ no_if (eqb i id) _)
+    (λ o. named_at before d i name version id o (eqb d o.device && bytes_eq name o.name) false refl h ∙ and_no (eqb d o.device && bytes_eq name o.name))
 
 -- ---- a device goes
 

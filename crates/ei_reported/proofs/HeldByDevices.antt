@@ -27,16 +27,18 @@ takes_not : (before : List Said) (m : Said) (id : ℕ) (o : Offer) → takes id 
     (device_goes o.device m ≡ false) × ((device_done o.device m && (device_pending before o.device && not (device_typed before o.device))) ≡ false)
 unfolding takes
 takes_not before (DeviceGoes d serial) id o h = (h, refl)
-takes_not before (DeviceDone d) id o h =
-    (refl, same_seat (λ x. device_pending before x && not (device_typed before x)) d o.device (eqb d o.device) (device_pending before d && not (device_typed before d)) refl refl
-        ∙ sym (done_takes_at before d id o (eqb d o.device) (device_pending before d) refl refl) ∙ h)
+takes_not before (DeviceDone d) id o h = (
+  refl,
+  same_seat (λ x. device_pending before x && not (device_typed before x)) d o.device (eqb d o.device) (device_pending before d && not (device_typed before d)) refl refl
+      ∙ sym (done_takes_at before d id o (eqb d o.device) (device_pending before d) refl refl) ∙ h,
+)
 takes_not before m id o h = (refl, refl)
 
 stays_there : (before : List Said) (m : Said) (id : ℕ) (o : Offer) → takes id o before m ≡ false → IsThere before o → IsThere (m ∷ before) o
 stays_there before m id o h there =
     let no = takes_not before m id o h in
     rw (device_pending_more before m o.device, device_added_after before m o.device)
-        (is_then (device_comes o.device before m) (device_done o.device m) (device_goes o.device m) (device_pending before o.device) (device_typed before o.device) (device_added before o.device) no.0 no.1 there)
+    (is_then (device_comes o.device before m) (device_done o.device m) (device_goes o.device m) (device_pending before o.device) (device_typed before o.device) (device_added before o.device) no.0 no.1 there)
 
 -- what is left was there, and isn't taken
 left_was : (before : List Said) (m : Said) (id : ℕ) (l : Option Offer) (o : Offer) → left before m id l ≡ Some o → (l ≡ Some o) × (takes id o before m ≡ false)

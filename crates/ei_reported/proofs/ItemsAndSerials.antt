@@ -9,7 +9,7 @@ use Rattle.ei_types.specs.declared.error.EventError.TheVariants as error
 use Rattle.ei_types.specs.declared.enums.DisconnectReason.{DisconnectReason}
 use Rattle.ei_types.specs.Inputs.{Input}
 use Rattle.ei_spec.specs.FromValues.{first}
-use Rattle.ei_reported.specs.Said.{Told, Said, Disconnects, SeatHas, SeatDone, SeatGoes, DeviceDone, DeviceTells, DeviceGoes}
+use Rattle.ei_reported.specs.Said.{Told, Said, Disconnects, SeatDone, SeatGoes, DeviceDone, DeviceTells, DeviceGoes}
 use Rattle.ei_reported.specs.Said.{Inputs, Modifies, Goes}
 use Rattle.ei_reported.specs.Standing.{seat_pending, seat_added, device_pending, device_typed, device_added, holder}
 use Rattle.ei_reported.specs.Reported.{device_of, Disconnected, SeatAdded, SeatRemoved, DeviceAdded, DeviceRemoved, Giving}

@@ -5,6 +5,7 @@ pub mod NeverBrought
 pub mod HeldByDevices
 pub mod OneThing
 pub mod ReportedLaws
+pub mod StatesByNumber
 pub mod TestsInOrder
 pub mod ItemsAndSerials
 pub mod NoneWaits

@@ -1,10 +1,10 @@
 -- What no event brought isn't there.
-use Rattle.std.proofs.Common.{◌≡◌, ℕ, Bool, true, false, not, ◌&&◌, ◌||◌, eqb, List, [], ◌∷◌, Option, Some, None, refl, sym, ap, ◌∙◌}
+use Rattle.std.proofs.Common.{◌≡◌, ℕ, Bool, true, false, not, ◌&&◌, ◌||◌, eqb, List, [], ◌∷◌, None, refl, sym, ap, ◌∙◌}
 use Rattle.ei_spec.specs.History.{occurs, last_said, lasts}
 use Rattle.ei_spec.proofs.HistoryLaws.{said_before, occurs_before, occurs_none, lasts_unless}
 use Rattle.ei_reported.specs.Said.{Said, SeatComes, DeviceComes, DeviceGets}
 use Rattle.ei_reported.specs.Standing.{seat_comes, seat_done, seat_goes, seat_pending, seat_added, announces, device_comes, seat_of}
-use Rattle.ei_reported.specs.Standing.{device_done, device_goes, device_pending, device_typed, device_added, Offer, offers, if_held, interface}
+use Rattle.ei_reported.specs.Standing.{device_done, device_goes, device_pending, device_typed, device_added, offers, if_held, interface}
 use Rattle.ei_reported.specs.Changes.{brings, brought}
 use Rattle.ei_reported.proofs.AfterEachKind.{added_after, device_added_after}
 

@@ -2,14 +2,15 @@
 use Rattle.std.proofs.Common.{◌≡◌, ℕ, Bool, true, false, not, ◌&&◌, ◌||◌, cond, eqb, List, [], ◌∷◌, ◌++◌, Option, Some, None, refl, sym, ap, ◌∙◌}
 use Rattle.std.proofs.lemmas.Bool.{eqb-true}
 use Rattle.ei_spec.specs.History.{since, each}
-use Rattle.ei_spec.specs.Groups.{Input as Waiting, Frame as Framing, Other, Free, group}
+use Rattle.ei_spec.specs.Groups.{Input as Waiting, Other, Free, group}
 use Rattle.ei_spec.proofs.GroupsLaws.{waits, group_more}
 use Rattle.ei_types.specs.declared.error.EventError.{EventError}
 use Rattle.ei_types.specs.Inputs.{Input}
 use Rattle.ei_reported.specs.Said.{Told, Resumed, Paused, StartEmulating, StopEmulating, Frame}
 use Rattle.ei_reported.specs.Said.{Said, SeatGoes, DeviceDone, DeviceTells, DeviceGoes, Inputs, Modifies}
 use Rattle.ei_reported.specs.Standing.{seat_added, device_done, device_goes, device_pending, device_typed, device_added, holder}
-use Rattle.ei_reported.specs.Reported.{device_of, Plain, SeatRemoved, DeviceRemoved, Giving, refusal, telling, waiting, modifying, giving, item, slot, slots}
+use Rattle.ei_reported.specs.Reported.{device_of, Plain, SeatRemoved, DeviceRemoved, Giving, refusal, telling, waiting, modifying, giving, item, slot}
+use Rattle.ei_reported.specs.Reported.{slots}
 use Rattle.ei_reported.proofs.AfterEachKind.{device_added_after}
 use Rattle.ei_reported.proofs.HeldByDevices.{holder_added}
 use Rattle.ei_reported.proofs.ReportedLaws.{slots_more, group_by}

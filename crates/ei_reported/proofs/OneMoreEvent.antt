@@ -1,12 +1,13 @@
 -- Seats, devices and interfaces after one more event.
-use Rattle.std.proofs.Common.{◌≡◌, ℕ, Bool, true, false, not, ◌&&◌, ◌||◌, cond, eqb, List, [], ◌∷◌, Option, Some, None, refl, sym, ap, ◌∙◌}
+use Rattle.std.proofs.Common.{◌≡◌, ℕ, Bool, true, false, not, ◌&&◌, ◌||◌, cond, List, ◌∷◌, Option, Some, None, refl, ap, ◌∙◌}
 use Rattle.std.specs.Prelude.{is_some}
 use Rattle.std.specs.Option.{option_or}
-use Rattle.std.specs.Str.{bytes_eq}
 use Rattle.ei_spec.specs.History.{last_said}
 use Rattle.ei_spec.proofs.HistoryLaws.{said_now, said_before, lasts_more, lasts_at}
-use Rattle.ei_reported.specs.Said.{Said, SeatComes, SeatDone, SeatGoes, DeviceComes, DeviceHasType, DeviceGets, DeviceDone, DeviceGoes, Goes}
-use Rattle.ei_reported.specs.Standing.{seat_comes, seat_done, seat_goes, seat_pending, adds_seat, seat_added, device_comes, device_typed_by, device_done, device_goes, announces, seat_of, device_pending, device_typed, completes, device_added, Offer, offer, offers, takes, is_held, if_held, interface}
+use Rattle.ei_reported.specs.Said.{Said}
+use Rattle.ei_reported.specs.Standing.{seat_comes, seat_done, seat_goes, seat_pending, adds_seat, seat_added, device_comes, device_typed_by}
+use Rattle.ei_reported.specs.Standing.{device_done, device_goes, announces, seat_of, device_pending, device_typed, completes, device_added, Offer}
+use Rattle.ei_reported.specs.Standing.{offers, takes, is_held, if_held, interface}
 
 -- ---- any event
 

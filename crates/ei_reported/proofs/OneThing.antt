@@ -1,14 +1,14 @@
 -- Where all new ids differ, an id names one thing.
-use Rattle.std.proofs.Common.{◌≡◌, ℕ, Bool, true, false, not, ◌&&◌, ◌||◌, cond, eqb, List, [], ◌∷◌, Option, Some, None, refl, sym, ap, ◌∙◌}
-use Rattle.std.proofs.lemmas.Bool.{eqb-true, eq-eqb}
+use Rattle.std.proofs.Common.{◌≡◌, ℕ, Bool, true, false, not, ◌&&◌, ◌||◌, cond, eqb, List, [], ◌∷◌, Some, None, refl, sym, ap, ◌∙◌}
 use Rattle.ei_spec.specs.History.{occurs, lasts}
-use Rattle.ei_spec.proofs.HistoryLaws.{occurs_or, occurs_before}
-use Rattle.ei_reported.specs.Said.{Said, SeatComes, SeatDone, SeatGoes, DeviceComes, DeviceHasType, DeviceGets, DeviceDone, DeviceGoes}
+use Rattle.ei_spec.proofs.HistoryLaws.{occurs_before}
+use Rattle.ei_reported.specs.Said.{Said, SeatComes, DeviceComes, DeviceHasType, DeviceGets, DeviceDone, DeviceGoes}
 use Rattle.ei_reported.specs.Standing.{seat_comes, seat_done, seat_goes, seat_pending, seat_added, seat_of, device_done, device_goes}
 use Rattle.ei_reported.specs.Standing.{announces, device_comes, device_pending, device_typed, device_added, interface}
 use Rattle.ei_reported.specs.Changes.{brings, brought, NewIdsDiffer}
 use Rattle.ei_reported.proofs.OneMoreEvent.{seat_pending_more, device_pending_more}
-use Rattle.ei_reported.proofs.AfterEachKind.{added_after, device_added_after, seat_of_comes, seat_of_refused, seat_of_typed, seat_of_done, seat_of_goes, other_seat_of}
+use Rattle.ei_reported.proofs.AfterEachKind.{added_after, device_added_after, seat_of_comes, seat_of_refused, seat_of_typed, seat_of_done}
+use Rattle.ei_reported.proofs.AfterEachKind.{seat_of_goes, other_seat_of}
 use Rattle.ei_reported.proofs.NeverBrought.{some_passes, passes_none, names_device, names_interface, brought_is, new_seat_added, new_device_added}
 use Rattle.ei_reported.proofs.NeverBrought.{no_seat_pending, no_seat_added, no_device_pending, no_device_added, no_interface}
 
@@ -38,8 +38,10 @@ one_kind id test other f g apart (m ∷ before) new h = by (one_kind id test oth
   where
     none_before : brings id m ≡ true → some_passes (brings id) before ≡ false
     none_before e = sym (brought_is before id) ∙ new.0 id e
+
     was : test m ≡ false → some_passes test before ≡ true
     was e = sym (occurs_before (λ b m. test m) before m e) ∙ h
+
     by : (some_passes test before ≡ true → some_passes other before ≡ false) → (a b : Bool) → test m ≡ a → other m ≡ b → some_passes other (m ∷ before) ≡ false
     by next true b e k = occurs_before (λ b m. other m) before m (apart m e) ∙ passes_none other (brings id) g before (none_before (brings_so id test f m e))
     by next false true e k = absurd (both_ways (some_passes test before) (was e) (passes_none test (brings id) f before (none_before (brings_so id other g m k))))
@@ -137,7 +139,7 @@ one_seat (m ∷ before) id new =
     rw (seat_pending_more before m id, added_after before m id)
     (ap (λ (x : Bool). (seat_comes id m || (not (seat_done id m || seat_goes id m) && seat_pending before id)) && ((seat_done id m && x) || (not (seat_goes id m) && seat_added before id))) (sym (and_one (seat_pending before id)))
     ∙ still_apart (seat_comes id m) (seat_done id m) (seat_goes id m) (seat_pending before id) (seat_added before id) true (one_seat before id new.1) (seat_comes_only id m)
-        (λ e. new_seat_added before id (new.0 id (brings_so id (seat_comes id) (seat_narrow id) m e))))
+    (λ e. new_seat_added before id (new.0 id (brings_so id (seat_comes id) (seat_narrow id) m e))))
 
 device_comes_named : (before : List Said) (id : ℕ) (m : Said) → device_comes id before m ≡ true → names_device id m ≡ true
 unfolding device_comes announces
@@ -158,8 +160,8 @@ one_device [] id new = refl
 one_device (m ∷ before) id new =
     rw (device_pending_more before m id, device_added_after before m id)
     (still_apart (device_comes id before m) (device_done id m) (device_goes id m) (device_pending before id) (device_added before id) (device_typed before id) (one_device before id new.1)
-        (λ e. device_named_only id m (device_comes_named before id m e))
-        (λ e. new_device_added before id (new.0 id (brings_so id (names_device id) (device_narrow id) m (device_comes_named before id m e)))))
+    (λ e. device_named_only id m (device_comes_named before id m e))
+    (λ e. new_device_added before id (new.0 id (brings_so id (names_device id) (device_narrow id) m (device_comes_named before id m e)))))
 
 -- ---- a device keeps its seat
 
@@ -169,6 +171,7 @@ seat_of_kept before (DeviceComes s d) device new h = by (seat_added before s) re
     other : (b : Bool) → eqb d device ≡ b → cond (eqb d device) (Some s) (seat_of before device) ≡ seat_of before device
     other true e = absurd (both_ways (brought before device) h (new.0 device e))
     other false e = rw e refl
+
     by : (a : Bool) → seat_added before s ≡ a → seat_of (DeviceComes s d ∷ before) device ≡ seat_of before device
     by true e = seat_of_comes before s d device e ∙ other (eqb d device) refl
     by false e = seat_of_refused before s d device e

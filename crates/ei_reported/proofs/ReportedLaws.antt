@@ -3,15 +3,16 @@ use Rattle.std.proofs.Common.{◌≡◌, ℕ, ◌+◌, ◌≤◌, cond, eqb, fal
 use Rattle.std.proofs.lemmas.Bool.Decides.{nat_tests}
 use Rattle.std.specs.Prelude.{unwrap_or, map, slice_index}
 use Rattle.std.proofs.lemmas.List.{map-append, append-nil}
-use Rattle.ei_spec.specs.History.{last_said, each, joined}
-use Rattle.ei_spec.specs.Groups.{Item, Input as Waiting, Frame as Framing, Other, Free, Given, Timed, Framed, Plain as Given_plain, seen, gives, group, frames_made, grouped, with_frame}
+use Rattle.ei_spec.specs.History.{each, joined}
+use Rattle.ei_spec.specs.Groups.{Input as Waiting, Frame as Framing, Other, Free, Given, Timed, Framed, Plain as Given_plain, seen, gives, group}
+use Rattle.ei_spec.specs.Groups.{frames_made, grouped, with_frame}
 use Rattle.ei_spec.proofs.HistoryLaws.{said_now, said_before, each_more, joined_more, joined_prefix}
 use Rattle.ei_spec.proofs.GroupsLaws.{waits, group_more, frames_made_more, made_by, grouped_more, gives_later}
 use Rattle.ei_types.specs.declared.error.EventError.{EventError}
 use Rattle.ei_types.specs.Inputs.{Input}
 use Rattle.ei_reported.specs.Event.{Event}
 use Rattle.ei_reported.specs.Said.{Said, said}
-use Rattle.ei_reported.specs.Reported.{Device, device_of, Plain, Report, Giving, refusal, giving, item, keeps, serial, slot, slots, tells, reported}
+use Rattle.ei_reported.specs.Reported.{Device, device_of, Plain, Report, Giving, refusal, item, keeps, serial, slot, slots, tells, reported}
 
 -- ---- one more event
 

@@ -1,10 +1,12 @@
 -- What one more event changes, in words that the laws cite.
-use Rattle.std.specs.Prelude.{ℕ, Bool, true, false, ◌≡◌, ◌&&◌, List, [], ◌∷◌, Option, Some, None, ◌==◌, if◌then◌else◌, ⊤}
+use Rattle.std.specs.Prelude.{ℕ, Bool, true, false, ◌≡◌, ◌&&◌, List, [], ◌∷◌, map, Option, Some, None, ◌==◌, if◌then◌else◌, ⊤}
 use Rattle.std.specs.Str.{bytes_eq}
 use Rattle.ei_spec.specs.History.{occurs}
-use Rattle.ei_reported.specs.Said.{Said, Disconnects, SeatComes, SeatDone, SeatGoes, DeviceComes, DeviceHasType, DeviceGets, DeviceDone, DeviceTells, DeviceGoes}
-use Rattle.ei_reported.specs.Said.{Inputs, Modifies, Goes}
+use Rattle.ei_spec.specs.Groups.{seen, group, with_frame}
+use Rattle.ei_reported.specs.Said.{Said, Disconnects, SeatComes, SeatDone, SeatGoes, DeviceComes, DeviceHasType, DeviceGets, DeviceDone, DeviceTells}
+use Rattle.ei_reported.specs.Said.{DeviceGoes, Inputs, Modifies, Goes}
 use Rattle.ei_reported.specs.Standing.{Offer}
+use Rattle.ei_reported.specs.Reported.{device_of, Report, slots}
 
 -- whether an event may change which seats are there
 abbrev pub moves_seat : Said → Bool
@@ -75,3 +77,7 @@ may_give (DeviceGoes device serial) = true
 may_give (Inputs id input) = true
 may_give (Modifies id serial depressed locked latched group) = true
 may_give m = false
+
+-- the inputs that wait on the device, with a frame of it, as the user is given them
+abbrev pub group_told : ℕ → List Said → ℕ → ℕ → ℕ → List Report
+group_told start before device n time = map (seen (device_of before)) (with_frame (group device (slots start before)) device n time)

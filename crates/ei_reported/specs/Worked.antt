@@ -5,7 +5,7 @@ use Rattle.ei_spec.specs.declared.interface.KnownInterface.TheVariants as known
 use Rattle.ei_spec.specs.Value.{Word, Long, Letters}
 use Rattle.ei_spec.specs.History.{joined}
 use Rattle.ei_reported.specs.Event.{Event, event}
-use Rattle.ei_reported.specs.Said.{Said, said}
+use Rattle.ei_reported.specs.Said.{said}
 use Rattle.ei_reported.specs.Reported.{Device, Report, refusal, serial, reported}
 
 -- a device of the seat

@@ -1,17 +1,17 @@
 //! The laws of what is reported. Each function does nothing: its clauses are the laws.
 
-ghost use Rattle.std.specs.Prelude.{◌≡◌, ◌≤◌, ℕ, ◌+◌, List, [], ◌∷◌, ◌++◌, ◌==◌, Option, Some, None, false, true};
+ghost use Rattle.std.specs.Prelude.{◌≡◌, ◌≤◌, ℕ, ◌+◌, List, [], ◌∷◌, ◌++◌, ◌==◌, Some, None, false, true};
 ghost use Rattle.std.specs.Prelude.{unwrap_or, length, map, slice_index, if◌then◌else◌};
 ghost use Rattle.ei_types.specs.declared.error.EventError.{EventError};
-ghost use Rattle.ei_types.specs.declared.enums.DisconnectReason.{DisconnectReason};
 ghost use Rattle.ei_types.specs.Inputs.{Input};
-ghost use Rattle.ei_spec.specs.Groups.{Input as Waiting, Frame, Other, Free, Plain, seen, with_frame};
+ghost use Rattle.ei_spec.specs.Groups.{Input as Waiting, Frame, Other, Free, Plain, seen};
 ghost use Rattle.ei_spec.specs.Groups.{gives, group, grouped, frames_made};
 ghost use Rattle.ei_reported.specs.Event.{Event};
 ghost use Rattle.ei_reported.specs.Said.{Told, Said, said, DeviceDone, DeviceTells, DeviceGoes, Inputs, Modifies};
 ghost use Rattle.ei_reported.specs.Standing.{device_pending, device_typed, device_added, holder};
-ghost use Rattle.ei_reported.specs.Reported.{Device, device_of, Report, Plain as PlainEvent, refusal, item, keeps};
+ghost use Rattle.ei_reported.specs.Reported.{Device, Report, Plain as PlainEvent, refusal, item, keeps};
 ghost use Rattle.ei_reported.specs.Reported.{serial, slots, tells, reported};
+ghost use Rattle.ei_reported.specs.Changes.{group_told};
 
 /// One more event, for the serial and for what is reported.
 pub fn one_more_event()
@@ -19,7 +19,7 @@ pub fn one_more_event()
         serial start (m ∷ before) ≡ unwrap_or (keeps before m) (serial start before) }
     ensures reported { (start : ℕ) (readings : List ℕ) (before : List Event) (e : Event) →
         reported start readings (e ∷ before) ≡
-            reported start readings before ++ tells start readings (map said before) (said e) }
+        reported start readings before ++ tells start readings (map said before) (said e) }
 {}
 
 /// What is reported of a list begins with what is reported of each list that it goes on from, and readings that come
@@ -57,16 +57,11 @@ pub fn given_by_item()
     ensures input { (start : ℕ) (readings : List ℕ) (before : List Said) (m : Said) (d : ℕ) (x : Input) →
         item before m ≡ Some (Waiting d x) → tells start readings before m ≡ [] }
     ensures frame { (start : ℕ) (readings : List ℕ) (before : List Said) (m : Said) (d s t : ℕ) →
-        item before m ≡ Some (Frame d s t) →
-        tells start readings before m ≡
-            map (seen (device_of before)) (with_frame (group d (slots start before)) d s t) }
+        item before m ≡ Some (Frame d s t) → tells start readings before m ≡ group_told start before d s t }
     ensures other { (start : ℕ) (readings : List ℕ) (before : List Said) (m : Said) (d : ℕ) (y : PlainEvent) →
         item before m ≡ Some (Other d y) →
-        tells start readings before m ≡
-            map (seen (device_of before))
-                (with_frame (group d (slots start before)) d (serial start (m ∷ before))
-                    (slice_index readings (frames_made (slots start before))))
-            ++ (Plain y ∷ []) }
+        tells start readings before m ≡ group_told start before d
+        (serial start (m ∷ before)) (slice_index readings (frames_made (slots start before))) ++ (Plain y ∷ []) }
     ensures free { (start : ℕ) (readings : List ℕ) (before : List Said) (m : Said) (y : PlainEvent) →
         item before m ≡ Some (Free y) → tells start readings before m ≡ Plain y ∷ [] }
 {}
@@ -82,7 +77,7 @@ pub fn frames_after()
     ensures made { (start : ℕ) (before : List Said) (m : Said) (d : ℕ) (y : PlainEvent) →
         item before m ≡ Some (Other d y) →
         frames_made (slots start (m ∷ before)) ≡
-            frames_made (slots start before) + (if length (group d (slots start before)) == 0 then 0 else 1) }
+        frames_made (slots start before) + (if length (group d (slots start before)) == 0 then 0 else 1) }
     ensures input { (start : ℕ) (before : List Said) (m : Said) (d : ℕ) (x : Input) →
         item before m ≡ Some (Waiting d x) →
         frames_made (slots start (m ∷ before)) ≡ frames_made (slots start before) }
@@ -98,21 +93,21 @@ pub fn frames_after()
 pub fn waiting_after()
     ensures input { (start : ℕ) (before : List Said) (id d device : ℕ) (x : Input) → holder before id ≡ Some d →
         group device (slots start (Inputs id x ∷ before)) ≡
-            (if d == device then group device (slots start before) ++ (x ∷ []) else group device (slots start before)) }
+        (if d == device then group device (slots start before) ++ (x ∷ []) else group device (slots start before)) }
     ensures modifiers { (start : ℕ) (before : List Said) (id d device serial depressed locked latched layout : ℕ) →
         holder before id ≡ Some d →
         group device (slots start (Modifies id serial depressed locked latched layout ∷ before)) ≡
-            (if d == device then [] else group device (slots start before)) }
+        (if d == device then [] else group device (slots start before)) }
     ensures told { (start : ℕ) (before : List Said) (d device serial : ℕ) (told : Told) → device_added before d ≡ true →
         group device (slots start (DeviceTells d serial told ∷ before)) ≡
-            (if d == device then [] else group device (slots start before)) }
+        (if d == device then [] else group device (slots start before)) }
     ensures done { (start : ℕ) (before : List Said) (d device : ℕ) →
         device_pending before d ≡ true → device_typed before d ≡ true →
         group device (slots start (DeviceDone d ∷ before)) ≡
-            (if d == device then [] else group device (slots start before)) }
+        (if d == device then [] else group device (slots start before)) }
     ensures goes { (start : ℕ) (before : List Said) (d device serial : ℕ) →
         group device (slots start (DeviceGoes d serial ∷ before)) ≡
-            (if d == device then [] else group device (slots start before)) }
+        (if d == device then [] else group device (slots start before)) }
     ensures free { (start : ℕ) (before : List Said) (m : Said) (y : PlainEvent) (device : ℕ) →
         item before m ≡ Some (Free y) → group device (slots start (m ∷ before)) ≡ group device (slots start before) }
     ensures nothing { (start : ℕ) (before : List Said) (m : Said) (device : ℕ) →

@@ -9,9 +9,9 @@ ghost use Rattle.ei_spec.specs.declared.handle.Handle.{Handle};
 ghost use Rattle.ei_spec.specs.Value.{Value, Word, Long, Signed, Letters, Null, Fd};
 ghost use Rattle.ei_spec.specs.Groups.{Other, Free};
 ghost use Rattle.ei_types.specs.declared.enums.DisconnectReason.{DisconnectReason};
-ghost use Rattle.ei_types.specs.declared.enums.DisconnectReason.TheVariants as reason;
-ghost use Rattle.ei_types.specs.declared.enums.ButtonState.TheVariants as button_state;
-ghost use Rattle.ei_types.specs.declared.enums.KeyState.TheVariants as key_state;
+ghost use Rattle.ei_types.specs.declared.enums.ButtonState.{ButtonState};
+ghost use Rattle.ei_types.specs.declared.enums.KeyState.{KeyState};
+ghost use Rattle.ei_types.specs.Enums.{disconnect_reason_number, button_state_number, key_state_number};
 ghost use Rattle.ei_types.specs.declared.error.EventError.TheVariants as error;
 ghost use Rattle.ei_types.specs.Capability.{capability_named};
 ghost use Rattle.ei_types.specs.Inputs.{Input, PointerMotion, PointerMotionAbsolute, Button, ScrollDelta, ScrollStop};
@@ -41,24 +41,14 @@ pub fn connection_events()
         said (event known.Connection (codes "ping") id (Long ping ∷ Word version ∷ [])) ≡ Aside }
     ensures invalid_object { (id serial invalid : ℕ) →
         said (event known.Connection (codes "invalid_object") id (Word serial ∷ Long invalid ∷ [])) ≡ Aside }
-    ensures disconnected { (id last_serial : ℕ) (t : List ℕ) →
-        said (event known.Connection (codes "disconnected") id (Word last_serial ∷ Word 0 ∷ Letters t ∷ [])) ≡
-            Disconnects last_serial reason.Disconnected (Some t) }
-    ensures no_text { (id last_serial : ℕ) →
-        said (event known.Connection (codes "disconnected") id (Word last_serial ∷ Word 1 ∷ Null ∷ [])) ≡
-            Disconnects last_serial reason.Error None }
-    ensures mode { (id last_serial : ℕ) →
-        said (event known.Connection (codes "disconnected") id (Word last_serial ∷ Word 2 ∷ Null ∷ [])) ≡
-            Disconnects last_serial reason.Mode None }
-    ensures protocol { (id last_serial : ℕ) →
-        said (event known.Connection (codes "disconnected") id (Word last_serial ∷ Word 3 ∷ Null ∷ [])) ≡
-            Disconnects last_serial reason.Protocol None }
-    ensures value { (id last_serial : ℕ) →
-        said (event known.Connection (codes "disconnected") id (Word last_serial ∷ Word 4 ∷ Null ∷ [])) ≡
-            Disconnects last_serial reason.Value None }
-    ensures transport { (id last_serial : ℕ) →
-        said (event known.Connection (codes "disconnected") id (Word last_serial ∷ Word 5 ∷ Null ∷ [])) ≡
-            Disconnects last_serial reason.Transport None }
+    ensures disconnected { (id last_serial : ℕ) (why : DisconnectReason) (t : List ℕ) →
+        said (event known.Connection (codes "disconnected") id
+        (Word last_serial ∷ Word (disconnect_reason_number why) ∷ Letters t ∷ [])) ≡
+        Disconnects last_serial why (Some t) }
+    ensures without_text { (id last_serial : ℕ) (why : DisconnectReason) →
+        said (event known.Connection (codes "disconnected") id
+        (Word last_serial ∷ Word (disconnect_reason_number why) ∷ Null ∷ [])) ≡
+        Disconnects last_serial why None }
 {}
 
 /// What the events of a seat say.
@@ -84,10 +74,10 @@ pub fn device_events()
         said (event known.Device (codes "dimensions") id (Word width ∷ Word height ∷ [])) ≡ DeviceHas id }
     ensures region { (id x y width height scale : ℕ) →
         said (event known.Device (codes "region") id
-            (Word x ∷ Word y ∷ Word width ∷ Word height ∷ Word scale ∷ [])) ≡ DeviceHas id }
+        (Word x ∷ Word y ∷ Word width ∷ Word height ∷ Word scale ∷ [])) ≡ DeviceHas id }
     ensures interface { (id object version : ℕ) (t : List ℕ) →
         said (event known.Device (codes "interface") id (Long object ∷ Letters t ∷ Word version ∷ [])) ≡
-            DeviceGets id object t version }
+        DeviceGets id object t version }
     ensures done { (id : ℕ) → said (event known.Device (codes "done") id []) ≡ DeviceDone id }
     ensures resumed { (id serial : ℕ) →
         said (event known.Device (codes "resumed") id (Word serial ∷ [])) ≡ DeviceTells id serial Resumed }
@@ -95,12 +85,12 @@ pub fn device_events()
         said (event known.Device (codes "paused") id (Word serial ∷ [])) ≡ DeviceTells id serial Paused }
     ensures start_emulating { (id serial sequence : ℕ) →
         said (event known.Device (codes "start_emulating") id (Word serial ∷ Word sequence ∷ [])) ≡
-            DeviceTells id serial (StartEmulating sequence) }
+        DeviceTells id serial (StartEmulating sequence) }
     ensures stop_emulating { (id serial : ℕ) →
         said (event known.Device (codes "stop_emulating") id (Word serial ∷ [])) ≡ DeviceTells id serial StopEmulating }
     ensures frame { (id serial time : ℕ) →
         said (event known.Device (codes "frame") id (Word serial ∷ Long time ∷ [])) ≡
-            DeviceTells id serial (Frame time) }
+        DeviceTells id serial (Frame time) }
     ensures region_mapping_id { (id : ℕ) (t : List ℕ) →
         said (event known.Device (codes "region_mapping_id") id (Letters t ∷ [])) ≡ DeviceHas id }
 {}
@@ -111,7 +101,7 @@ pub fn interface_events()
         said (event known.Pointer (codes "destroyed") id (Word serial ∷ [])) ≡ Goes known.Pointer id serial }
     ensures pointer_absolute { (id serial : ℕ) →
         said (event known.PointerAbsolute (codes "destroyed") id (Word serial ∷ [])) ≡
-            Goes known.PointerAbsolute id serial }
+        Goes known.PointerAbsolute id serial }
     ensures scroll { (id serial : ℕ) →
         said (event known.Scroll (codes "destroyed") id (Word serial ∷ [])) ≡ Goes known.Scroll id serial }
     ensures button { (id serial : ℕ) →
@@ -126,8 +116,8 @@ pub fn interface_events()
         said (event known.Keyboard (codes "keymap") id (Word type ∷ Word size ∷ Fd h ∷ [])) ≡ Maps id }
     ensures modifiers { (id serial depressed locked latched layout : ℕ) →
         said (event known.Keyboard (codes "modifiers") id
-            (Word serial ∷ Word depressed ∷ Word locked ∷ Word latched ∷ Word layout ∷ [])) ≡
-            Modifies id serial depressed locked latched layout }
+        (Word serial ∷ Word depressed ∷ Word locked ∷ Word latched ∷ Word layout ∷ [])) ≡
+        Modifies id serial depressed locked latched layout }
 {}
 
 /// The inputs.
@@ -136,46 +126,37 @@ pub fn input_events()
         said (event known.Pointer (codes "motion_relative") id (Word x ∷ Word y ∷ [])) ≡ Inputs id (PointerMotion x y) }
     ensures motion_absolute { (id x y : ℕ) →
         said (event known.PointerAbsolute (codes "motion_absolute") id (Word x ∷ Word y ∷ [])) ≡
-            Inputs id (PointerMotionAbsolute x y) }
+        Inputs id (PointerMotionAbsolute x y) }
     ensures scroll { (id x y : ℕ) →
         said (event known.Scroll (codes "scroll") id (Word x ∷ Word y ∷ [])) ≡ Inputs id (ScrollDelta x y) }
     ensures scroll_discrete { (id : ℕ) (x y : ℤ) →
         said (event known.Scroll (codes "scroll_discrete") id (Signed x ∷ Signed y ∷ [])) ≡
-            Inputs id (ScrollDiscrete x y) }
+        Inputs id (ScrollDiscrete x y) }
     ensures scroll_stop { (id x y : ℕ) →
         said (event known.Scroll (codes "scroll_stop") id (Word x ∷ Word y ∷ Word 0 ∷ [])) ≡
-            Inputs id (ScrollStop (not (x == 0)) (not (y == 0))) }
+        Inputs id (ScrollStop (not (x == 0)) (not (y == 0))) }
     ensures scroll_cancel { (id x y n : ℕ) → n == 0 ≡ false →
         said (event known.Scroll (codes "scroll_stop") id (Word x ∷ Word y ∷ Word n ∷ [])) ≡
-            Inputs id (ScrollCancel (not (x == 0)) (not (y == 0))) }
-    ensures button_released { (id code : ℕ) →
-        said (event known.Button (codes "button") id (Word code ∷ Word 0 ∷ [])) ≡
-            Inputs id (Button code button_state.Released) }
-    ensures button_pressed { (id code : ℕ) →
-        said (event known.Button (codes "button") id (Word code ∷ Word 1 ∷ [])) ≡
-            Inputs id (Button code button_state.Press) }
-    ensures key_released { (id key : ℕ) →
-        said (event known.Keyboard (codes "key") id (Word key ∷ Word 0 ∷ [])) ≡
-            Inputs id (KeyboardKey key key_state.Released) }
-    ensures key_pressed { (id key : ℕ) →
-        said (event known.Keyboard (codes "key") id (Word key ∷ Word 1 ∷ [])) ≡
-            Inputs id (KeyboardKey key key_state.Press) }
+        Inputs id (ScrollCancel (not (x == 0)) (not (y == 0))) }
+    ensures button { (id code : ℕ) (state : ButtonState) →
+        said (event known.Button (codes "button") id (Word code ∷ Word (button_state_number state) ∷ [])) ≡
+        Inputs id (Button code state) }
+    ensures key { (id key : ℕ) (state : KeyState) →
+        said (event known.Keyboard (codes "key") id (Word key ∷ Word (key_state_number state) ∷ [])) ≡
+        Inputs id (KeyboardKey key state) }
     ensures down { (id touch x y : ℕ) →
         said (event known.Touchscreen (codes "down") id (Word touch ∷ Word x ∷ Word y ∷ [])) ≡
-            Inputs id (TouchDown touch x y) }
+        Inputs id (TouchDown touch x y) }
     ensures motion { (id touch x y : ℕ) →
         said (event known.Touchscreen (codes "motion") id (Word touch ∷ Word x ∷ Word y ∷ [])) ≡
-            Inputs id (TouchMotion touch x y) }
+        Inputs id (TouchMotion touch x y) }
     ensures up { (id touch : ℕ) →
         said (event known.Touchscreen (codes "up") id (Word touch ∷ [])) ≡ Inputs id (TouchUp touch) }
     ensures cancel { (id touch : ℕ) →
         said (event known.Touchscreen (codes "cancel") id (Word touch ∷ [])) ≡ Inputs id (TouchCancel touch) }
-    ensures keysym_released { (id keysym : ℕ) →
-        said (event known.Text (codes "keysym") id (Word keysym ∷ Word 0 ∷ [])) ≡
-            Inputs id (TextKeysym keysym key_state.Released) }
-    ensures keysym_pressed { (id keysym : ℕ) →
-        said (event known.Text (codes "keysym") id (Word keysym ∷ Word 1 ∷ [])) ≡
-            Inputs id (TextKeysym keysym key_state.Press) }
+    ensures keysym { (id keysym : ℕ) (state : KeyState) →
+        said (event known.Text (codes "keysym") id (Word keysym ∷ Word (key_state_number state) ∷ [])) ≡
+        Inputs id (TextKeysym keysym state) }
     ensures utf8 { (id : ℕ) (t : List ℕ) →
         said (event known.Text (codes "utf8") id (Letters t ∷ [])) ≡ Inputs id (TextUtf8 t) }
 {}
@@ -236,18 +217,18 @@ pub fn items()
         (if seat_added before seat then Some (Free (SeatRemoved seat)) else None) }
     ensures device_done { (before : List Said) (device : ℕ) → item before (DeviceDone device) ≡
         (if device_pending before device && device_typed before device
-            then Some (Other device (DeviceAdded (device_of before device))) else None) }
+        then Some (Other device (DeviceAdded (device_of before device))) else None) }
     ensures device_tells { (before : List Said) (device serial : ℕ) (told : Told) →
         item before (DeviceTells device serial told) ≡
         (if device_added before device then Some (telling (device_of before device) serial told) else None) }
     ensures device_goes { (before : List Said) (device serial : ℕ) → item before (DeviceGoes device serial) ≡
         (if device_added before device
-            then Some (Other device (DeviceRemoved (device_of before device))) else None) }
+        then Some (Other device (DeviceRemoved (device_of before device))) else None) }
     ensures input { (before : List Said) (id : ℕ) (input : Input) →
         item before (Inputs id input) ≡ waiting input (holder before id) }
     ensures modifiers { (before : List Said) (id serial depressed locked latched layout : ℕ) →
         item before (Modifies id serial depressed locked latched layout) ≡
-            modifying before serial depressed locked latched layout (holder before id) }
+        modifying before serial depressed locked latched layout (holder before id) }
     ensures other { (before : List Said) (m : Said) → may_give m ≡ false → item before m ≡ None }
 {}
 

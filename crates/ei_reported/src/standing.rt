@@ -1,6 +1,6 @@
 //! The laws of what stands: seats, devices and interfaces. Each function does nothing: its clauses are the laws.
 
-ghost use Rattle.std.specs.Prelude.{◌≡◌, ℕ, List, ◌∷◌, ◌==◌, ◌&&◌, ◌||◌, Bool, true, false, Option, Some, None};
+ghost use Rattle.std.specs.Prelude.{◌≡◌, ℕ, List, ◌∷◌, ◌==◌, ◌&&◌, ◌||◌, true, false, Some, None};
 ghost use Rattle.std.specs.Prelude.{is_some, if◌then◌else◌};
 ghost use Rattle.ei_spec.specs.declared.interface.KnownInterface.{KnownInterface};
 ghost use Rattle.ei_reported.specs.Said.{Said, SeatComes, SeatDone, SeatGoes, DeviceComes, DeviceHasType, DeviceGets};
@@ -36,10 +36,10 @@ pub fn seats_after()
 pub fn devices_after()
     ensures comes { (before : List Said) (seat d device : ℕ) → seat_added before seat ≡ true →
         device_pending (DeviceComes seat d ∷ before) device ≡
-            (if d == device then true else device_pending before device) }
+        (if d == device then true else device_pending before device) }
     ensures comes_typed { (before : List Said) (seat d device : ℕ) → seat_added before seat ≡ true →
         device_typed (DeviceComes seat d ∷ before) device ≡
-            (if d == device then false else device_typed before device) }
+        (if d == device then false else device_typed before device) }
     ensures refused { (before : List Said) (seat d device : ℕ) → seat_added before seat ≡ false →
         device_pending (DeviceComes seat d ∷ before) device ≡ device_pending before device }
     ensures refused_typed { (before : List Said) (seat d device : ℕ) → seat_added before seat ≡ false →
@@ -63,12 +63,12 @@ pub fn devices_after()
         device_added (DeviceDone d ∷ before) device ≡ device_added before device }
     ensures goes { (before : List Said) (d serial device : ℕ) →
         device_pending (DeviceGoes d serial ∷ before) device ≡
-            (if d == device then false else device_pending before device) }
+        (if d == device then false else device_pending before device) }
     ensures goes_typed { (before : List Said) (d serial device : ℕ) →
         device_typed (DeviceGoes d serial ∷ before) device ≡ device_typed before device }
     ensures removed { (before : List Said) (d serial device : ℕ) →
         device_added (DeviceGoes d serial ∷ before) device ≡
-            (if d == device then false else device_added before device) }
+        (if d == device then false else device_added before device) }
     ensures other_pending { (before : List Said) (m : Said) (device : ℕ) → moves_device m ≡ false →
         device_pending (m ∷ before) device ≡ device_pending before device }
     ensures other_typed { (before : List Said) (m : Said) (device : ℕ) → moves_device m ≡ false →
@@ -105,7 +105,7 @@ pub fn interfaces_after()
     ensures gets { (before : List Said) (d i : ℕ) (name : List ℕ) (version id : ℕ) →
         device_pending before d ≡ true →
         interface (DeviceGets d i name version ∷ before) id ≡
-            (if i == id then Some (offer d name version) else unless_named d name (interface before id)) }
+        (if i == id then Some (offer d name version) else unless_named d name (interface before id)) }
     ensures refused { (before : List Said) (d i : ℕ) (name : List ℕ) (version id : ℕ) →
         device_pending before d ≡ false →
         interface (DeviceGets d i name version ∷ before) id ≡ interface before id }
@@ -119,7 +119,7 @@ pub fn interfaces_after()
         interface (DeviceDone d ∷ before) id ≡ interface before id }
     ensures goes { (before : List Said) (k : KnownInterface) (i serial id : ℕ) →
         interface (Goes k i serial ∷ before) id ≡
-            (if (i == id) && is_some (holder before id) then None else interface before id) }
+        (if (i == id) && is_some (holder before id) then None else interface before id) }
     ensures other { (before : List Said) (m : Said) (id : ℕ) → moves_interface m ≡ false →
         interface (m ∷ before) id ≡ interface before id }
 {}

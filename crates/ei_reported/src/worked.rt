@@ -1,7 +1,7 @@
 //! Worked lists of events: what they give, which are refused, and the serial after them. Each function does nothing:
 //! its clauses are what the definitions make of the lists.
 
-ghost use Rattle.std.specs.Prelude.{◌≡◌, ℤ, pos, negsuc, true, false, List, [], ◌∷◌, ◌++◌, Some, None, codes};
+ghost use Rattle.std.specs.Prelude.{◌≡◌, pos, negsuc, true, false, [], ◌∷◌, ◌++◌, Some, None, codes};
 ghost use Rattle.ei_spec.specs.declared.handle.Handle.{Handle};
 ghost use Rattle.ei_spec.specs.Groups.{Timed, Framed, Plain};
 ghost use Rattle.ei_types.specs.declared.enums.ButtonState.TheVariants as button_state;

@@ -1,5 +1,5 @@
 -- What lasts, told by the position that started it.
-use Rattle.std.proofs.Common.{◌≡◌, Bool, true, false, not, ◌&&◌, ◌||◌, List, [], ◌∷◌, ◌++◌, refl, sym, ap, ◌∙◌}
+use Rattle.std.proofs.Common.{◌≡◌, Bool, true, false, ◌&&◌, ◌||◌, List, [], ◌∷◌, ◌++◌, refl, sym, ap, ◌∙◌}
 use Rattle.ei_spec.specs.History.{lasts, HasLasted}
 use Rattle.ei_spec.proofs.HistoryLaws.{lasts_at}
 
@@ -59,7 +59,7 @@ module _ {M : Type 0} (starts ends : List M → M → Bool) where
   shown_from (m ∷ later) first earlier s none =
       lasts_at starts ends (later ++ (first ∷ earlier)) m (starts (later ++ (first ∷ earlier)) m) false refl (none [] m later refl)
       ∙ either_way (starts (later ++ (first ∷ earlier)) m) (lasts starts ends (later ++ (first ∷ earlier)))
-          (shown_from later first earlier s (λ newer x older e. none (m ∷ newer) x older (ap (λ (y : List M). m ∷ y) e)))
+      (shown_from later first earlier s (λ newer x older e. none (m ∷ newer) x older (ap (λ (y : List M). m ∷ y) e)))
 
   pub shown : (before : List M) → HasLasted starts ends before → lasts starts ends before ≡ true
   shown before l = ap (lasts starts ends) l.splits ∙ shown_from l.later l.first l.earlier l.starts_it l.none_ends

@@ -1,5 +1,6 @@
 use Rattle.std.proofs.Common.{refl}
 use Rattle.ei_reported.proofs.AllOpen.{all_open}
+use Rattle.ei_reported.proofs.StatesByNumber.{button, key, keysym}
 use Rattle.ei_reported.proofs.rows.input_events.Goals as goal
 
 pub returns : goal.returns
@@ -11,15 +12,12 @@ returns c = record {
   scroll_discrete = λ id x y. refl;
   scroll_stop = λ id x y. refl;
   scroll_cancel = λ id x y n e. rw e refl;
-  button_released = λ id code. refl;
-  button_pressed = λ id code. refl;
-  key_released = λ id key. refl;
-  key_pressed = λ id key. refl;
+  button = button;
+  key = key;
   down = λ id touch x y. refl;
   motion = λ id touch x y. refl;
   up = λ id touch. refl;
   cancel = λ id touch. refl;
-  keysym_released = λ id keysym. refl;
-  keysym_pressed = λ id keysym. refl;
+  keysym = keysym;
   utf8 = λ id t. refl;
 }
