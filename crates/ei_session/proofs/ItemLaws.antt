@@ -168,7 +168,7 @@ input_at before m i None k h = absurd (none_some i h)
 input_at before m i (Some e) k h = rw (k, item) (input_case before m e.interface e.device i h)
 
 -- an input of any kind waits, but for one of a touch that isn't down
-pub item_input : (before : List Raw) (m : Raw) (i : DeviceInput) → input before m ≡ Some i → item before m ≡ cond (is_heard before i.device i.input) (Some (Waiting i.device i)) None
+pub item_input : (before : List Raw) (m : Raw) (i : DeviceInput) → input before m ≡ Some i → item before m ≡ cond (is_heard before i.device i.input) (Some (Waiting i.device i.input)) None
 unfolding input
 item_input before m i h = input_at before m i (object before m.id) refl h ∙ ap (input_item before) h
 

@@ -1,7 +1,8 @@
 -- The arguments of requests and the events, by their names in the table of all messages.
 use Rattle.std.specs.Prelude.{ℕ, Bool, true, false, List, [], ◌∷◌, Option, Some, None, is_some, ◌==◌, if◌then◌else◌}
 use Rattle.ei_spec.specs.declared.interface.KnownInterface.{KnownInterface}
-use Rattle.ei_spec.specs.Value.{Value, Word, Long, Letters}
+use Rattle.ei_spec.specs.Value.{Value}
+pub use Rattle.ei_spec.specs.FromValues.{first, none, one, two, three, long, text}
 use Rattle.ei_spec.specs.Rows.{Row, row_named}
 use Rattle.ei_spec.specs.Table.{table}
 use Rattle.ei_spec.specs.Message.{Raw, message}
@@ -23,41 +24,3 @@ asks interface name m = is_some (asked interface name m)
 -- the event of that name, sent to an object of the interface
 abbrev pub event : KnownInterface → List ℕ → ℕ → List Value → Raw
 event interface name id values = message id (opcode_of (row_named name (table true interface))) values
-
--- ---- what is made of arguments
-
--- the first that is there
-abbrev pub first : {A : Type 0} → List (Option A) → Option A
-first [] = None
-first (Some a ∷ rest) = Some a
-first (None ∷ rest) = first rest
-
--- no argument
-abbrev pub none : {A : Type 0} → A → Option (List Value) → Option A
-none made (Some []) = Some made
-none made values = None
-
--- a number of four bytes
-abbrev pub one : {A : Type 0} → (ℕ → A) → Option (List Value) → Option A
-one make (Some (Word a ∷ [])) = Some (make a)
-one make values = None
-
--- two of them
-abbrev pub two : {A : Type 0} → (ℕ → ℕ → A) → Option (List Value) → Option A
-two make (Some (Word a ∷ Word b ∷ [])) = Some (make a b)
-two make values = None
-
--- three of them
-abbrev pub three : {A : Type 0} → (ℕ → ℕ → ℕ → A) → Option (List Value) → Option A
-three make (Some (Word a ∷ Word b ∷ Word c ∷ [])) = Some (make a b c)
-three make values = None
-
--- a number of eight bytes
-abbrev pub long : {A : Type 0} → (ℕ → A) → Option (List Value) → Option A
-long make (Some (Long a ∷ [])) = Some (make a)
-long make values = None
-
--- a text
-abbrev pub text : {A : Type 0} → (List ℕ → A) → Option (List Value) → Option A
-text make (Some (Letters t ∷ [])) = Some (make t)
-text make values = None

@@ -21,7 +21,7 @@ pub data Plain : Type 0 where
 
 -- a request as it is handed out
 abbrev pub Request : Type 0
-Request = Given Input Plain
+Request = Given ℕ Input Plain
 
 -- what a message gives
 unfoldable pub item : List Raw → Raw → Option (Item Input Plain)

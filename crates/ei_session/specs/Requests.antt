@@ -25,10 +25,10 @@ pub data Plain : Type 0 where
 
 -- a request as it is handed out: an input with its time, a frame, or another
 abbrev pub Request : Type 0
-Request = Given DeviceInput Plain
+Request = Given ℕ Input Plain
 
 abbrev pub Asking : Type 0
-Asking = Item DeviceInput Plain
+Asking = Item Input Plain
 
 -- ---- what a message gives
 
@@ -63,7 +63,7 @@ is_heard before device input = true
 
 abbrev pub input_item : List Raw → Option DeviceInput → Option Asking
 input_item before None = None
-input_item before (Some i) = if is_heard before i.device i.input then Some (Waiting i.device i) else None
+input_item before (Some i) = if is_heard before i.device i.input then Some (Waiting i.device i.input) else None
 
 -- what a message to such an object gives
 abbrev pub item_to : List Raw → Raw → KnownInterface → Option ℕ → Option Asking
@@ -81,7 +81,7 @@ unfoldable pub item : List Raw → Raw → Option Asking
 item before m = item_at before m (object before m.id)
 
 -- with the serial before it
-unfoldable pub slot : Setup → List Raw → Raw → Slot DeviceInput Plain
+unfoldable pub slot : Setup → List Raw → Raw → Slot Input Plain
 slot setup before m = record { item = item before m; serial = serial setup before }
 
 -- the requests of the messages, the oldest first, with these readings of the clock

@@ -121,7 +121,7 @@ pub fn steps_after()
 /// What a message of each kind gives.
 pub fn items()
     ensures input { (before : List Raw) (m : Raw) (i : DeviceInput) → input before m ≡ Some i →
-        item before m ≡ (if is_heard before i.device i.input then Some (Waits i.device i) else None) }
+        item before m ≡ (if is_heard before i.device i.input then Some (Waits i.device i.input) else None) }
     ensures frame { (before : List Raw) (m : Raw) (e : Entry) (d serial time : ℕ) → object before m.id ≡ Some e → e.interface ≡ known.Device → e.device ≡ Some d →
         asked known.Device (codes "frame") m ≡ Some (Word serial ∷ Long time ∷ []) → item before m ≡ Some (Frame d serial time) }
     ensures closed { (before : List Raw) (m : Raw) (e : Entry) (d : ℕ) → object before m.id ≡ Some e → e.interface ≡ known.Device → e.device ≡ Some d →
@@ -202,7 +202,7 @@ pub fn targets()
 
 /// The inputs that wait on a device, after a message of each kind.
 pub fn groups()
-    ensures input { (setup : Setup) (before : List Raw) (m : Raw) (device d : ℕ) (i : DeviceInput) → item before m ≡ Some (Waits d i) →
+    ensures input { (setup : Setup) (before : List Raw) (m : Raw) (device d : ℕ) (i : Input) → item before m ≡ Some (Waits d i) →
         group device (each (slot setup) (m ∷ before)) ≡ (if d == device then group device (each (slot setup) before) ++ (i ∷ []) else group device (each (slot setup) before)) }
     ensures frame { (setup : Setup) (before : List Raw) (m : Raw) (device d serial time : ℕ) → item before m ≡ Some (Frame d serial time) →
         group device (each (slot setup) (m ∷ before)) ≡ (if d == device then [] else group device (each (slot setup) before)) }

@@ -11,7 +11,7 @@ ghost use Rattle.ei_types.specs.declared.error.RequestError.TheVariants as reque
 ghost use Rattle.ei_types.specs.declared.enums.ButtonState.TheVariants as button_state;
 ghost use Rattle.ei_types.specs.declared.enums.KeyState.TheVariants as key_state;
 ghost use Rattle.ei_session.specs.Setup.{Setup, connection_id, seat_id};
-ghost use Rattle.ei_session.specs.Inputs.{Input, Button, KeyboardKey, PointerMotion, ScrollDiscrete, TouchDown, TouchMotion, TouchUp, TouchCancel, DeviceInput};
+ghost use Rattle.ei_session.specs.Inputs.{Input, Button, KeyboardKey, PointerMotion, ScrollDiscrete, TouchDown, TouchMotion, TouchUp, TouchCancel};
 ghost use Rattle.ei_session.specs.Refusals.{Handshake, Request, Parse, InvalidInterfaceVersion};
 ghost use Rattle.ei_session.specs.Requests.{Bind, DeviceClosed, DeviceStartEmulating, DeviceStopEmulating, Ready, Disconnect as Disconnects};
 ghost use Rattle.ei_session.specs.Served.{session, Disconnect, End, UnexpectedEof, PieceLimit, HandleLimit, Refused};
@@ -58,12 +58,12 @@ pub fn devices()
     ensures events { reply_bytes buttons (shaken ∷ bind 32 ∷ disconnect ∷ []) ≡ parts (connected_with 5 ∷ device_of_button ∷ resumed 6 ∷ []) }
     ensures requests { requests buttons [] (shaken ∷ bind 32 ∷ disconnect ∷ []) ≡ Plain (Bind seat_id 32) ∷ Plain Disconnects ∷ [] }
     ensures framed { requests buttons [] (shaken ∷ bind 32 ∷ press ∷ frame 6 9 ∷ frame 6 10 ∷ disconnect ∷ []) ≡
-        Plain (Bind seat_id 32) ∷ Timed (record { device = device_id; input = Button 272 button_state.Press }) 9 ∷ Framed device_id 6 9 ∷ Plain Disconnects ∷ [] }
+        Plain (Bind seat_id 32) ∷ Timed device_id (Button 272 button_state.Press) 9 ∷ Framed device_id 6 9 ∷ Plain Disconnects ∷ [] }
     ensures ready { requests buttons (77 ∷ []) (shaken ∷ bind 32 ∷ press ∷ ready ∷ disconnect ∷ []) ≡
-        Plain (Bind seat_id 32) ∷ Timed (record { device = device_id; input = Button 272 button_state.Press }) 77 ∷ Framed device_id 6 77 ∷ Plain (Ready device_id) ∷ Plain Disconnects ∷ [] }
+        Plain (Bind seat_id 32) ∷ Timed device_id (Button 272 button_state.Press) 77 ∷ Framed device_id 6 77 ∷ Plain (Ready device_id) ∷ Plain Disconnects ∷ [] }
     ensures unframed { requests buttons [] (shaken ∷ bind 32 ∷ press ∷ disconnect ∷ []) ≡ Plain (Bind seat_id 32) ∷ Plain Disconnects ∷ [] }
     ensures closed { requests buttons (77 ∷ []) (shaken ∷ bind 32 ∷ press ∷ release interface_id ∷ release device_id ∷ disconnect ∷ []) ≡
-        Plain (Bind seat_id 32) ∷ Timed (record { device = device_id; input = Button 272 button_state.Press }) 77 ∷ Framed device_id 7 77 ∷ Plain (DeviceClosed device_id) ∷ Plain Disconnects ∷ [] }
+        Plain (Bind seat_id 32) ∷ Timed device_id (Button 272 button_state.Press) 77 ∷ Framed device_id 7 77 ∷ Plain (DeviceClosed device_id) ∷ Plain Disconnects ∷ [] }
     ensures destroyed { reply_bytes buttons (shaken ∷ bind 32 ∷ press ∷ release interface_id ∷ release device_id ∷ disconnect ∷ []) ≡
         parts (connected_with 5 ∷ device_of_button ∷ resumed 6 ∷ destroyed interface_id 7 ∷ destroyed device_id 8 ∷ []) }
     ensures no_mask { requests buttons [] (shaken ∷ bind 0 ∷ []) ≡ Plain (Bind seat_id 0) ∷ [] }
@@ -101,7 +101,7 @@ pub fn touches()
     ensures cancelled { answer (with_capabilities 8) (touchscreen_announced ∷ shaken ∷ bind 8 ∷ touch_down 4 ∷ touch_cancel 4 ∷ []) ≡ End }
     ensures old { answer (with_capabilities 8) (shaken ∷ bind 8 ∷ touch_down 4 ∷ touch_cancel 4 ∷ []) ≡ Refused (InvalidInterfaceVersion (codes "ei_touchscreen") 1) }
     ensures unheard { requests (with_capabilities 8) [] (touchscreen_announced ∷ shaken ∷ bind 8 ∷ touch_down 4 ∷ touch_motion 5 ∷ touch_up 4 ∷ touch_up 4 ∷ touch_cancel 4 ∷ frame 6 9 ∷ []) ≡
-        Plain (Bind seat_id 8) ∷ Timed (record { device = device_id; input = TouchDown 4 0 0 }) 9 ∷ Timed (record { device = device_id; input = TouchUp 4 }) 9 ∷ Framed device_id 6 9 ∷ [] }
+        Plain (Bind seat_id 8) ∷ Timed device_id (TouchDown 4 0 0) 9 ∷ Timed device_id (TouchUp 4) 9 ∷ Framed device_id 6 9 ∷ [] }
 {}
 
 /// Texts of 1 to 254 bytes.
@@ -121,10 +121,10 @@ pub fn whole_session()
     ensures requests { requests all_setup [] (all_shaken ++ all_asked) ≡
         Plain (Bind seat_id 127)
         ∷ Plain (DeviceStartEmulating device_id 2 1)
-        ∷ Timed (record { device = device_id; input = KeyboardKey 30 key_state.Press }) 1000
+        ∷ Timed device_id (KeyboardKey 30 key_state.Press) 1000
         ∷ Framed device_id 2 1000
-        ∷ Timed (record { device = device_id; input = PointerMotion 0x3f800000 0xbf800000 }) 2000
-        ∷ Timed (record { device = device_id; input = ScrollDiscrete (pos 0) (pos 120) }) 2000
+        ∷ Timed device_id (PointerMotion 0x3f800000 0xbf800000) 2000
+        ∷ Timed device_id (ScrollDiscrete (pos 0) (pos 120)) 2000
         ∷ Framed device_id 2 2000
         ∷ Plain (DeviceStopEmulating device_id 2)
         ∷ Plain (DeviceClosed device_id)

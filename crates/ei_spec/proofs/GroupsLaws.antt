@@ -57,7 +57,7 @@ module _ {X Y : Type 0} where
   unfolding grouped joined
   grouped_more readings before slot = refl
 
-  pub grouped_prefix : (readings : List ℕ) (more before : List (Slot X Y)) → (rest : List (Given X Y)) × (grouped readings (more ++ before) ≡ grouped readings before ++ rest)
+  pub grouped_prefix : (readings : List ℕ) (more before : List (Slot X Y)) → (rest : List (Given ℕ X Y)) × (grouped readings (more ++ before) ≡ grouped readings before ++ rest)
   unfolding grouped
   grouped_prefix readings more before = joined_prefix (gives readings) more before
 
@@ -89,6 +89,12 @@ module _ {X Y : Type 0} where
   unfolding frames_made total
   frames_made_more before slot = ap (λ (n : ℕ). total makes_frame before + n) (made_at before slot.item slot.serial)
 
+  -- what a slot gives doesn't hang on readings past the frames that are made up to it
+  pub gives_later : (readings later : List ℕ) (before : List (Slot X Y)) (slot : Slot X Y) → frames_made (slot ∷ before) ≤ length readings → gives (readings ++ later) before slot ≡ gives readings before slot
+  gives_later readings later before slot le =
+      let one = frames_made_more before slot in
+      gives_at readings later before slot.item slot.serial (omega (arith, one))
+
   pub grouped_readings : (readings later : List ℕ) (slots : List (Slot X Y)) → frames_made slots ≤ length readings → grouped (readings ++ later) slots ≡ grouped readings slots
   unfolding grouped joined
   grouped_readings readings later [] le = refl
@@ -96,4 +102,4 @@ module _ {X Y : Type 0} where
       let one = frames_made_more before s in
       let now = gives_at readings later before s.item s.serial (omega (arith, one)) in
       let earlier = grouped_readings readings later before (omega (arith, one)) in
-      ap (λ (x : List (Given X Y)). x ++ gives (readings ++ later) before s) earlier ∙ ap (λ (x : List (Given X Y)). grouped readings before ++ x) now
+      ap (λ (x : List (Given ℕ X Y)). x ++ gives (readings ++ later) before s) earlier ∙ ap (λ (x : List (Given ℕ X Y)). grouped readings before ++ x) now

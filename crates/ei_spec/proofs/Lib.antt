@@ -8,6 +8,7 @@ pub mod FrontLaws
 pub mod GoesOn
 pub mod OneReading
 pub mod HistoryLaws
+pub mod LastsLaws
 pub mod GroupsLaws
 pub mod Faults
 pub mod Handleless

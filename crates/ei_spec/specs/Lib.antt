@@ -5,6 +5,7 @@ pub mod Spelling
 pub mod Arguments
 pub mod Rows
 pub mod Table
+pub mod FromValues
 pub mod Message
 pub mod Stream
 pub mod History

@@ -13,6 +13,7 @@ ghost use Rattle.ei_spec.specs.Arguments.{AreOf, HasFewHandles, before_values, b
 ghost use Rattle.ei_spec.specs.Rows.{Row, Nothing, row_at, row_named};
 ghost use Rattle.ei_spec.specs.Table.{table, opcodes, names, count};
 ghost use Rattle.ei_spec.specs.Groups.{Slot, Given, Input, Frame, Other, Free, group, gives, grouped, frames_made};
+ghost use Rattle.ei_spec.specs.History.{lasts, HasLasted};
 ghost use Rattle.ei_spec.specs.Message.{Raw, IsLawful, IsBytes, size, bytes_of, front, Short, Whole};
 
 /// What is spelled is read, whatever follows it, and what is refused isn't spelled.
@@ -65,12 +66,20 @@ pub fn all_messages()
         row_at opcode (table events interface) ≡ Some r → AreOf r.kinds values → (length (flat_map handles_of values) ≡ 0) ⊎ (r.announces ≡ Nothing) }
 {}
 
+/// What lasts was started at a position, and no later one ended it.
+pub fn lasting<M>()
+    ensures found { (starts ends : List M → M → Bool) (before : List M) → lasts starts ends before ≡ true →
+        HasLasted starts ends before }
+    ensures shown { (starts ends : List M → M → Bool) (before : List M) → HasLasted starts ends before →
+        lasts starts ends before ≡ true }
+{}
+
 /// What one more position adds to the groups of inputs: `slot` comes behind those before it.
 pub fn groups<X, Y>()
     ensures more { (readings : List ℕ) (before : List (Slot X Y)) (slot : Slot X Y) →
         grouped readings (slot ∷ before) ≡ grouped readings before ++ gives readings before slot }
     ensures prefix { (readings : List ℕ) (more before : List (Slot X Y)) →
-        (rest : List (Given X Y)) × (grouped readings (more ++ before) ≡ grouped readings before ++ rest) }
+        (rest : List (Given ℕ X Y)) × (grouped readings (more ++ before) ≡ grouped readings before ++ rest) }
     ensures readings { (readings later : List ℕ) (slots : List (Slot X Y)) → frames_made slots ≤ length readings →
         grouped (readings ++ later) slots ≡ grouped readings slots }
 {}

@@ -12,4 +12,4 @@ pub mod limits;
 
 pub use handle::Handle;
 pub use interface::KnownInterface;
-pub use laws::{all_messages, enums, groups, messages, spelling, waiting_inputs};
+pub use laws::{all_messages, enums, groups, lasting, messages, spelling, waiting_inputs};

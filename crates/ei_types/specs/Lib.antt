@@ -4,3 +4,4 @@ pub mod Twelve
 pub mod Operations
 pub mod Errors
 pub mod Texts
+pub mod Inputs

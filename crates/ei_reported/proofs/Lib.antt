@@ -1,0 +1,11 @@
+pub mod AllOpen
+pub mod OneMoreEvent
+pub mod AfterEachKind
+pub mod NeverBrought
+pub mod HeldByDevices
+pub mod OneThing
+pub mod ReportedLaws
+pub mod StatesByNumber
+pub mod TestsInOrder
+pub mod ItemsAndSerials
+pub mod NoneWaits

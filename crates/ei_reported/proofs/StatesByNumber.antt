@@ -1,0 +1,50 @@
+-- Reasons and states are read by their numbers.
+use Rattle.std.proofs.Common.{◌≡◌, ℕ, List, [], ◌∷◌, Some, None, refl}
+use Rattle.std.specs.Prelude.{codes}
+use Rattle.ei_spec.specs.declared.interface.KnownInterface.TheVariants as known
+use Rattle.ei_spec.specs.Value.{Word, Letters, Null}
+use Rattle.ei_types.specs.declared.enums.DisconnectReason.{DisconnectReason}
+use Rattle.ei_types.specs.declared.enums.DisconnectReason.TheVariants as reason
+use Rattle.ei_types.specs.declared.enums.ButtonState.{ButtonState}
+use Rattle.ei_types.specs.declared.enums.ButtonState.TheVariants as button_state
+use Rattle.ei_types.specs.declared.enums.KeyState.{KeyState}
+use Rattle.ei_types.specs.declared.enums.KeyState.TheVariants as key_state
+use Rattle.ei_types.specs.Enums.{disconnect_reason_number, button_state_number, key_state_number}
+use Rattle.ei_types.specs.Inputs.{Button, KeyboardKey, TextKeysym}
+use Rattle.ei_reported.specs.Event.{event}
+use Rattle.ei_reported.specs.Said.{Disconnects, Inputs, said}
+
+pub disconnected : (id last_serial : ℕ) (why : DisconnectReason) (t : List ℕ) →
+    said (event known.Connection (codes "disconnected") id (Word last_serial ∷ Word (disconnect_reason_number why) ∷ Letters t ∷ [])) ≡ Disconnects last_serial why (Some t)
+unfolding said
+disconnected id s reason.Disconnected t = refl
+disconnected id s reason.Error t = refl
+disconnected id s reason.Mode t = refl
+disconnected id s reason.Protocol t = refl
+disconnected id s reason.Value t = refl
+disconnected id s reason.Transport t = refl
+
+pub without_text : (id last_serial : ℕ) (why : DisconnectReason) →
+    said (event known.Connection (codes "disconnected") id (Word last_serial ∷ Word (disconnect_reason_number why) ∷ Null ∷ [])) ≡ Disconnects last_serial why None
+unfolding said
+without_text id s reason.Disconnected = refl
+without_text id s reason.Error = refl
+without_text id s reason.Mode = refl
+without_text id s reason.Protocol = refl
+without_text id s reason.Value = refl
+without_text id s reason.Transport = refl
+
+pub button : (id code : ℕ) (state : ButtonState) → said (event known.Button (codes "button") id (Word code ∷ Word (button_state_number state) ∷ [])) ≡ Inputs id (Button code state)
+unfolding said
+button id code button_state.Released = refl
+button id code button_state.Press = refl
+
+pub key : (id code : ℕ) (state : KeyState) → said (event known.Keyboard (codes "key") id (Word code ∷ Word (key_state_number state) ∷ [])) ≡ Inputs id (KeyboardKey code state)
+unfolding said
+key id code key_state.Released = refl
+key id code key_state.Press = refl
+
+pub keysym : (id sym : ℕ) (state : KeyState) → said (event known.Text (codes "keysym") id (Word sym ∷ Word (key_state_number state) ∷ [])) ≡ Inputs id (TextKeysym sym state)
+unfolding said
+keysym id sym key_state.Released = refl
+keysym id sym key_state.Press = refl

@@ -1,0 +1,10 @@
+use Rattle.ei_reported.proofs.HeldByDevices.{interface_there, holder_added, holder_none, setup_pending}
+use Rattle.ei_reported.proofs.standing.holders.Goals as goal
+
+pub returns : goal.returns
+returns c = record {
+  there = interface_there;
+  added = holder_added;
+  none = holder_none;
+  in_setup = setup_pending;
+}

@@ -1,0 +1,16 @@
+use Rattle.ei_reported.proofs.AfterEachKind.{pending_comes, pending_done, pending_goes, added_done, added_refused, added_goes, added_comes}
+use Rattle.ei_reported.proofs.AfterEachKind.{other_seat_pending, other_seat_added}
+use Rattle.ei_reported.proofs.standing.seats_after.Goals as goal
+
+pub returns : goal.returns
+returns c = record {
+  comes = pending_comes;
+  done = pending_done;
+  goes = pending_goes;
+  added = added_done;
+  refused = added_refused;
+  removed = added_goes;
+  came = added_comes;
+  other_pending = other_seat_pending;
+  other_added = other_seat_added;
+}

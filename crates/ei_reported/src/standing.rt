@@ -1,0 +1,162 @@
+//! The laws of what stands: seats, devices and interfaces. Each function does nothing: its clauses are the laws.
+
+ghost use Rattle.std.specs.Prelude.{◌≡◌, ℕ, List, ◌∷◌, ◌==◌, ◌&&◌, ◌||◌, true, false, Some, None};
+ghost use Rattle.std.specs.Prelude.{is_some, if◌then◌else◌};
+ghost use Rattle.ei_spec.specs.declared.interface.KnownInterface.{KnownInterface};
+ghost use Rattle.ei_reported.specs.Said.{Said, SeatComes, SeatDone, SeatGoes, DeviceComes, DeviceHasType, DeviceGets};
+ghost use Rattle.ei_reported.specs.Said.{DeviceDone, DeviceGoes, Goes};
+ghost use Rattle.ei_reported.specs.Standing.{seat_pending, seat_added, seat_of, device_pending, device_typed};
+ghost use Rattle.ei_reported.specs.Standing.{device_added, Offer, offer, interface, holder, is_in_setup};
+ghost use Rattle.ei_reported.specs.Changes.{moves_seat, moves_device, moves_interface, unless_of, unless_named};
+ghost use Rattle.ei_reported.specs.Changes.{brought, NewIdsDiffer};
+
+/// The seats after an event of each kind.
+pub fn seats_after()
+    ensures comes { (before : List Said) (s seat : ℕ) →
+        seat_pending (SeatComes s ∷ before) seat ≡ (if s == seat then true else seat_pending before seat) }
+    ensures done { (before : List Said) (s seat : ℕ) →
+        seat_pending (SeatDone s ∷ before) seat ≡ (if s == seat then false else seat_pending before seat) }
+    ensures goes { (before : List Said) (s serial seat : ℕ) →
+        seat_pending (SeatGoes s serial ∷ before) seat ≡ (if s == seat then false else seat_pending before seat) }
+    ensures added { (before : List Said) (s seat : ℕ) → seat_pending before s ≡ true →
+        seat_added (SeatDone s ∷ before) seat ≡ (if s == seat then true else seat_added before seat) }
+    ensures refused { (before : List Said) (s seat : ℕ) → seat_pending before s ≡ false →
+        seat_added (SeatDone s ∷ before) seat ≡ seat_added before seat }
+    ensures removed { (before : List Said) (s serial seat : ℕ) →
+        seat_added (SeatGoes s serial ∷ before) seat ≡ (if s == seat then false else seat_added before seat) }
+    ensures came { (before : List Said) (s seat : ℕ) →
+        seat_added (SeatComes s ∷ before) seat ≡ seat_added before seat }
+    ensures other_pending { (before : List Said) (m : Said) (seat : ℕ) → moves_seat m ≡ false →
+        seat_pending (m ∷ before) seat ≡ seat_pending before seat }
+    ensures other_added { (before : List Said) (m : Said) (seat : ℕ) → moves_seat m ≡ false →
+        seat_added (m ∷ before) seat ≡ seat_added before seat }
+{}
+
+/// The devices after an event of each kind.
+pub fn devices_after()
+    ensures comes { (before : List Said) (seat d device : ℕ) → seat_added before seat ≡ true →
+        device_pending (DeviceComes seat d ∷ before) device ≡
+        (if d == device then true else device_pending before device) }
+    ensures comes_typed { (before : List Said) (seat d device : ℕ) → seat_added before seat ≡ true →
+        device_typed (DeviceComes seat d ∷ before) device ≡
+        (if d == device then false else device_typed before device) }
+    ensures refused { (before : List Said) (seat d device : ℕ) → seat_added before seat ≡ false →
+        device_pending (DeviceComes seat d ∷ before) device ≡ device_pending before device }
+    ensures refused_typed { (before : List Said) (seat d device : ℕ) → seat_added before seat ≡ false →
+        device_typed (DeviceComes seat d ∷ before) device ≡ device_typed before device }
+    ensures came { (before : List Said) (seat d device : ℕ) →
+        device_added (DeviceComes seat d ∷ before) device ≡ device_added before device }
+    ensures typed { (before : List Said) (d device : ℕ) →
+        device_typed (DeviceHasType d ∷ before) device ≡ (if d == device then true else device_typed before device) }
+    ensures typed_pending { (before : List Said) (d device : ℕ) →
+        device_pending (DeviceHasType d ∷ before) device ≡ device_pending before device }
+    ensures typed_added { (before : List Said) (d device : ℕ) →
+        device_added (DeviceHasType d ∷ before) device ≡ device_added before device }
+    ensures done { (before : List Said) (d device : ℕ) →
+        device_pending (DeviceDone d ∷ before) device ≡ (if d == device then false else device_pending before device) }
+    ensures done_typed { (before : List Said) (d device : ℕ) →
+        device_typed (DeviceDone d ∷ before) device ≡ device_typed before device }
+    ensures added { (before : List Said) (d device : ℕ) →
+        device_pending before d ≡ true → device_typed before d ≡ true →
+        device_added (DeviceDone d ∷ before) device ≡ (if d == device then true else device_added before device) }
+    ensures dropped { (before : List Said) (d device : ℕ) → device_pending before d && device_typed before d ≡ false →
+        device_added (DeviceDone d ∷ before) device ≡ device_added before device }
+    ensures goes { (before : List Said) (d serial device : ℕ) →
+        device_pending (DeviceGoes d serial ∷ before) device ≡
+        (if d == device then false else device_pending before device) }
+    ensures goes_typed { (before : List Said) (d serial device : ℕ) →
+        device_typed (DeviceGoes d serial ∷ before) device ≡ device_typed before device }
+    ensures removed { (before : List Said) (d serial device : ℕ) →
+        device_added (DeviceGoes d serial ∷ before) device ≡
+        (if d == device then false else device_added before device) }
+    ensures other_pending { (before : List Said) (m : Said) (device : ℕ) → moves_device m ≡ false →
+        device_pending (m ∷ before) device ≡ device_pending before device }
+    ensures other_typed { (before : List Said) (m : Said) (device : ℕ) → moves_device m ≡ false →
+        device_typed (m ∷ before) device ≡ device_typed before device }
+    ensures other_added { (before : List Said) (m : Said) (device : ℕ) → moves_device m ≡ false →
+        device_added (m ∷ before) device ≡ device_added before device }
+{}
+
+/// The seat of each device, after an event of each kind. A device that is there has one.
+pub fn seats_of_devices()
+    ensures comes { (before : List Said) (seat d device : ℕ) → seat_added before seat ≡ true →
+        seat_of (DeviceComes seat d ∷ before) device ≡ (if d == device then Some seat else seat_of before device) }
+    ensures refused { (before : List Said) (seat d device : ℕ) → seat_added before seat ≡ false →
+        seat_of (DeviceComes seat d ∷ before) device ≡ seat_of before device }
+    ensures other { (before : List Said) (m : Said) (device : ℕ) → moves_device m ≡ false →
+        seat_of (m ∷ before) device ≡ seat_of before device }
+    ensures typed { (before : List Said) (d device : ℕ) →
+        seat_of (DeviceHasType d ∷ before) device ≡ seat_of before device }
+    ensures done { (before : List Said) (d device : ℕ) →
+        seat_of (DeviceDone d ∷ before) device ≡ seat_of before device }
+    ensures goes { (before : List Said) (d serial device : ℕ) →
+        seat_of (DeviceGoes d serial ∷ before) device ≡ seat_of before device }
+    ensures pending { (before : List Said) (device : ℕ) → device_pending before device ≡ true →
+        is_some (seat_of before device) ≡ true }
+    ensures added { (before : List Said) (device : ℕ) → device_added before device ≡ true →
+        is_some (seat_of before device) ≡ true }
+    ensures kept { (before : List Said) (m : Said) (device : ℕ) →
+        NewIdsDiffer (m ∷ before) → brought before device ≡ true →
+        seat_of (m ∷ before) device ≡ seat_of before device }
+{}
+
+/// The interfaces after an event of each kind.
+pub fn interfaces_after()
+    ensures gets { (before : List Said) (d i : ℕ) (name : List ℕ) (version id : ℕ) →
+        device_pending before d ≡ true →
+        interface (DeviceGets d i name version ∷ before) id ≡
+        (if i == id then Some (offer d name version) else unless_named d name (interface before id)) }
+    ensures refused { (before : List Said) (d i : ℕ) (name : List ℕ) (version id : ℕ) →
+        device_pending before d ≡ false →
+        interface (DeviceGets d i name version ∷ before) id ≡ interface before id }
+    ensures device_goes { (before : List Said) (d serial id : ℕ) →
+        interface (DeviceGoes d serial ∷ before) id ≡ unless_of d (interface before id) }
+    ensures dropped { (before : List Said) (d id : ℕ) → device_pending before d ≡ true → device_typed before d ≡ false →
+        interface (DeviceDone d ∷ before) id ≡ unless_of d (interface before id) }
+    ensures done { (before : List Said) (d id : ℕ) → device_typed before d ≡ true →
+        interface (DeviceDone d ∷ before) id ≡ interface before id }
+    ensures not_pending { (before : List Said) (d id : ℕ) → device_pending before d ≡ false →
+        interface (DeviceDone d ∷ before) id ≡ interface before id }
+    ensures goes { (before : List Said) (k : KnownInterface) (i serial id : ℕ) →
+        interface (Goes k i serial ∷ before) id ≡
+        (if (i == id) && is_some (holder before id) then None else interface before id) }
+    ensures other { (before : List Said) (m : Said) (id : ℕ) → moves_interface m ≡ false →
+        interface (m ∷ before) id ≡ interface before id }
+{}
+
+/// An interface is one of a device that is pending or added.
+pub fn holders()
+    ensures there { (before : List Said) (id : ℕ) (o : Offer) → interface before id ≡ Some o →
+        device_pending before o.device || device_added before o.device ≡ true }
+    ensures added { (before : List Said) (id d : ℕ) → holder before id ≡ Some d → device_added before d ≡ true }
+    ensures none { (before : List Said) (id : ℕ) → interface before id ≡ None → holder before id ≡ None }
+    ensures in_setup { (before : List Said) (id : ℕ) (o : Offer) → interface before id ≡ Some o →
+        is_in_setup before id ≡ device_pending before o.device }
+{}
+
+/// An id that no event brought is that of nothing.
+pub fn new_ids()
+    ensures seat_pending { (before : List Said) (id : ℕ) → brought before id ≡ false → seat_pending before id ≡ false }
+    ensures seat_added { (before : List Said) (id : ℕ) → brought before id ≡ false → seat_added before id ≡ false }
+    ensures device_pending { (before : List Said) (id : ℕ) → brought before id ≡ false →
+        device_pending before id ≡ false }
+    ensures device_added { (before : List Said) (id : ℕ) → brought before id ≡ false → device_added before id ≡ false }
+    ensures seat_of { (before : List Said) (id : ℕ) → brought before id ≡ false → seat_of before id ≡ None }
+    ensures interface { (before : List Said) (id : ℕ) → brought before id ≡ false → interface before id ≡ None }
+{}
+
+/// Where all new ids differ, an id names one thing: a seat, a device or an interface, and a seat or a device is either
+/// pending or added.
+pub fn one_thing()
+    ensures seat { (before : List Said) (id : ℕ) → NewIdsDiffer before →
+        seat_pending before id && seat_added before id ≡ false }
+    ensures device { (before : List Said) (id : ℕ) → NewIdsDiffer before →
+        device_pending before id && device_added before id ≡ false }
+    ensures seat_no_device { (before : List Said) (id : ℕ) → NewIdsDiffer before →
+        seat_pending before id || seat_added before id ≡ true →
+        device_pending before id || device_added before id ≡ false }
+    ensures seat_no_interface { (before : List Said) (id : ℕ) → NewIdsDiffer before →
+        seat_pending before id || seat_added before id ≡ true → interface before id ≡ None }
+    ensures device_no_interface { (before : List Said) (id : ℕ) → NewIdsDiffer before →
+        device_pending before id || device_added before id ≡ true → interface before id ≡ None }
+{}
