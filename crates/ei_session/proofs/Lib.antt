@@ -24,3 +24,9 @@ pub mod WaitingLaws
 pub mod MadeLaws
 pub mod RefusalLaws
 pub mod BuiltLaws
+pub mod AskedRows
+pub mod RowsMean
+pub mod ReadsMean
+pub mod AskedMeans
+pub mod ItemMeans
+pub mod RefusedMeans

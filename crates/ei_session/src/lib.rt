@@ -10,6 +10,7 @@
 #![tactic(auto)]
 
 mod all_requests;
+mod meanings;
 mod theorems;
 mod worked;
 
@@ -18,6 +19,7 @@ pub use all_requests::{
     devices_made, groups, inputs, interfaces_after, items, objects_after, objects_there, refusals,
     steps_after, targets, touches_after,
 };
+pub use meanings::{asked_rows, refused_by_meaning, requests_ask, words_by_meaning};
 pub use theorems::{one_more_message, prefixes, sessions, streams};
 pub use worked::{
     callbacks, devices, first_messages, handshakes, strangers, texts, touches, whole_session,
