@@ -30,3 +30,10 @@ pub mod ReadsMean
 pub mod AskedMeans
 pub mod ItemMeans
 pub mod RefusedMeans
+pub mod AskedByMeaning
+pub mod NewObjects
+pub mod LeftInterfaces
+pub mod GoesByRelease
+pub mod IntroducedOnce
+pub mod FreshDevices
+pub mod TouchCounts

@@ -10,7 +10,9 @@
 #![tactic(auto)]
 
 mod all_requests;
+mod devices_held;
 mod meanings;
+mod objects_by_id;
 mod theorems;
 mod worked;
 
@@ -19,7 +21,11 @@ pub use all_requests::{
     devices_made, groups, inputs, interfaces_after, items, objects_after, objects_there, refusals,
     steps_after, targets, touches_after,
 };
-pub use meanings::{asked_rows, refused_by_meaning, requests_ask, words_by_meaning};
+pub use devices_held::{fresh_devices, touch_counts};
+pub use meanings::{
+    asked_by_meaning, asked_rows, refused_by_meaning, requests_ask, words_by_meaning,
+};
+pub use objects_by_id::{interfaces_there, new_objects, objects_gone, objects_introduced};
 pub use theorems::{one_more_message, prefixes, sessions, streams};
 pub use worked::{
     callbacks, devices, first_messages, handshakes, strangers, texts, touches, whole_session,
