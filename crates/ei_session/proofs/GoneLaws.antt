@@ -27,7 +27,7 @@ pub record Dead (before : List Raw) (id : ℕ) : Type 0 where
   pub none : object before id ≡ None
   pub low : id < next_id before
 
-no_finish_again : (before : List Raw) (m : Raw) → connected before ≡ true → is_the_finish before m ≡ false
+pub no_finish_again : (before : List Raw) (m : Raw) → connected before ≡ true → is_the_finish before m ≡ false
 unfolding is_the_finish
 no_finish_again before m on = rw on (by (is_finish m))
   where
@@ -261,7 +261,7 @@ pub goes : (before : List Raw) (m : Raw) (id : ℕ) → list_any (nat_eq id) (go
 unfolding gone
 goes before m id h = goes_by before m id (object before m.id) refl h
 
-some_entry : (o : Option Entry) → is_some o ≡ true → (e : Entry) × (o ≡ Some e)
+pub some_entry : (o : Option Entry) → is_some o ≡ true → (e : Entry) × (o ≡ Some e)
 some_entry None h = absurd cc
 some_entry (Some e) h = (e, refl)
 

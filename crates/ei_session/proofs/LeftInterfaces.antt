@@ -14,7 +14,7 @@ use Rattle.ei_session.proofs.Choices.{chosen, none_some}
 use Rattle.ei_session.proofs.ObjectLaws.{changed, object_is_introduced, object_at, no_device, by_making}
 use Rattle.ei_session.proofs.ObjectShape as shape
 use Rattle.ei_session.proofs.DeviceRange.{interfaces_kept, interfaces_new, interfaces_other, range_owner}
-use Rattle.ei_session.proofs.GoneLaws.{member_range}
+use Rattle.ei_session.proofs.GoneLaws.{member_range, some_entry}
 
 pub record Within (past : List Raw) (d id : ℕ) : Type 0 where
   pub low : d ≤ id
@@ -105,10 +105,6 @@ is_left past id d e k p far =
     in_filter (λ x. is_some (object past x)) id (d + 1) (length (device_interfaces past d)) (ap is_some k) (omega arith) (omega (arith, w.high))
 
 -- ---- and what is left is there
-
-some_entry : (o : Option Entry) → is_some o ≡ true → (x : Entry) × (o ≡ Some x)
-some_entry None h = absurd cc
-some_entry (Some x) h = (x, refl)
 
 -- what is left is there, behind the device and of it
 pub record Left (past : List Raw) (d id : ℕ) : Type 0 where

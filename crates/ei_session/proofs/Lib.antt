@@ -37,3 +37,8 @@ pub mod GoesByRelease
 pub mod IntroducedOnce
 pub mod FreshDevices
 pub mod TouchCounts
+pub mod Placed
+pub mod KeptByRequests
+pub mod BeforeTheFinish
+pub mod GivenByItem
+pub mod RunsOut

@@ -11,6 +11,7 @@
 
 mod all_requests;
 mod devices_held;
+mod kinds_of_messages;
 mod meanings;
 mod objects_by_id;
 mod theorems;
@@ -22,10 +23,16 @@ pub use all_requests::{
     steps_after, targets, touches_after,
 };
 pub use devices_held::{fresh_devices, touch_counts};
+pub use kinds_of_messages::{
+    finish_message, frames_made_by_item, given_by_item, handshake_messages, ids_run_out,
+    other_inputs, plain_requests, seat_released,
+};
 pub use meanings::{
     asked_by_meaning, asked_rows, refused_by_meaning, requests_ask, words_by_meaning,
 };
-pub use objects_by_id::{interfaces_there, new_objects, objects_gone, objects_introduced};
+pub use objects_by_id::{
+    interfaces_there, new_objects, objects_gone, objects_introduced, objects_placed,
+};
 pub use theorems::{one_more_message, prefixes, sessions, streams};
 pub use worked::{
     callbacks, devices, first_messages, handshakes, strangers, texts, touches, whole_session,

@@ -1,6 +1,6 @@
 //! Which objects there are, told by their ids. Each function does nothing: its clauses are the laws.
 
-ghost use Rattle.std.specs.Prelude.{◌≡◌, ◌≢◌, ◌<◌, ◌+◌, ℕ, List, ◌∷◌, true, false, Some, None, nat_eq, if◌then◌else◌, slice_get, is_some, codes};
+ghost use Rattle.std.specs.Prelude.{◌≡◌, ◌≢◌, ◌<◌, ◌+◌, ℕ, List, ◌∷◌, true, false, Some, None, nat_eq, if◌then◌else◌, slice_get, is_some, not, codes};
 ghost use Rattle.std.specs.List.{list_any};
 ghost use Rattle.ei_spec.specs.declared.interface.KnownInterface.{KnownInterface};
 ghost use Rattle.ei_spec.specs.declared.interface.KnownInterface.TheVariants as known;
@@ -9,7 +9,7 @@ ghost use Rattle.ei_session.specs.Asked.{asks};
 ghost use Rattle.ei_session.specs.Handshake.{is_the_finish, version};
 ghost use Rattle.ei_session.specs.Devices.{interfaces_of, made, next_id};
 ghost use Rattle.ei_session.specs.Objects.{Entry, introduces, introduced, removes, object, interfaces_left, gone};
-ghost use Rattle.ei_session.specs.Kept.{is_removed};
+ghost use Rattle.ei_session.specs.Kept.{is_removed, is_bare, home};
 
 /// A new device has the next id, and its interfaces the ids that follow, in their order; older ids are as they were.
 pub fn new_objects()
@@ -42,4 +42,11 @@ pub fn objects_introduced()
     ensures once { (before : List Raw) (m : Raw) (id : ℕ) (e : Entry) → introduces before m id ≡ Some e → introduced before id ≡ None }
     ensures below { (before : List Raw) (id : ℕ) (e : Entry) → introduced before id ≡ Some e → id < next_id before }
     ensures removed { (before : List Raw) (m : Raw) (id : ℕ) → removes before m id ≡ true → is_some (introduced before id) ≡ true }
+{}
+
+/// Which interfaces are at which ids: the handshake, the connection and the seat each have one, and any other is of a device.
+pub fn objects_placed()
+    ensures home { (before : List Raw) (id : ℕ) (e : Entry) → object before id ≡ Some e → is_bare e.interface ≡ true → home e.interface ≡ Some id }
+    ensures bare { (before : List Raw) (id : ℕ) (e : Entry) → object before id ≡ Some e → is_some e.device ≡ not (is_bare e.interface) }
+    ensures owned { (before : List Raw) (id : ℕ) (e : Entry) → object before id ≡ Some e → is_bare e.interface ≡ false → (d : ℕ) × (e.device ≡ Some d) }
 {}
