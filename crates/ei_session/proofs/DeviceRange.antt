@@ -144,7 +144,7 @@ filtered_twice p q r h (x ∷ xs) = by (q x) (p x) refl refl (filtered_twice p q
     by false b qa pb next = let e : r x ≡ false = h x ∙ rw qa refl in rw (e, qa) next
 
 -- where neither the device's ids nor what is at them changes, the same are left
-left_same : (before : List Raw) (m : Raw) (d : ℕ) → device_interfaces (m ∷ before) d ≡ device_interfaces before d →
+pub left_same : (before : List Raw) (m : Raw) (d : ℕ) → device_interfaces (m ∷ before) d ≡ device_interfaces before d →
     ((id : ℕ) → d < id → id ≤ d + length (device_interfaces before d) → object (m ∷ before) id ≡ object before id) → interfaces_left (m ∷ before) d ≡ interfaces_left before d
 unfolding interfaces_left
 left_same before m d same h =

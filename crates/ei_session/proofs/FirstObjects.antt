@@ -52,7 +52,7 @@ unfolding introduces handed_over
 handed_zero before m true f = rw (f, introduces) refl
 handed_zero before m false f = low_none before m 0 (omega arith) f
 
-handshake_was : (before : List Raw) → introduced before 0 ≡ Some the_handshake
+pub handshake_was : (before : List Raw) → introduced before 0 ≡ Some the_handshake
 unfolding introduced last_said
 handshake_was [] = refl
 handshake_was (m ∷ before) = introduced_before before m 0 (handed_zero before m (is_the_finish before m) refl) ∙ handshake_was before
@@ -117,7 +117,7 @@ pub shut_makes_nothing : (before : List Raw) (m : Raw) → connected before ≡ 
 unfolding made seat_is_open
 shut_makes_nothing before m off = rw (off, made) refl
 
-not_the_finish : (before : List Raw) (m : Raw) → connected (m ∷ before) ≡ false → (is_the_finish before m ≡ false) × (connected before ≡ false)
+pub not_the_finish : (before : List Raw) (m : Raw) → connected (m ∷ before) ≡ false → (is_the_finish before m ≡ false) × (connected before ≡ false)
 not_the_finish before m off = by (is_the_finish before m) refl
   where
     by : (b : Bool) → is_the_finish before m ≡ b → (is_the_finish before m ≡ false) × (connected before ≡ false)

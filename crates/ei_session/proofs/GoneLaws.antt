@@ -27,7 +27,7 @@ pub record Dead (before : List Raw) (id : ℕ) : Type 0 where
   pub none : object before id ≡ None
   pub low : id < next_id before
 
-no_finish_again : (before : List Raw) (m : Raw) → connected before ≡ true → is_the_finish before m ≡ false
+pub no_finish_again : (before : List Raw) (m : Raw) → connected before ≡ true → is_the_finish before m ≡ false
 unfolding is_the_finish
 no_finish_again before m on = rw on (by (is_finish m))
   where
@@ -112,7 +112,7 @@ all_below before id e k = below_by before id e e.device refl k
 
 -- ---- what a release takes away
 
-not_finish_by : (before : List Raw) (m : Raw) → m.opcode ≡ 0 → is_the_finish before m ≡ false
+pub not_finish_by : (before : List Raw) (m : Raw) → m.opcode ≡ 0 → is_the_finish before m ≡ false
 unfolding is_the_finish is_finish
 not_finish_by before m o =
     let other : eqb m.opcode 1 ≡ false = grind (arith, nat_tests, o) in
@@ -131,7 +131,7 @@ gone_self before m e k r =
     let is : removes before m m.id ≡ true = released before m m.id e f (object_is_introduced before m.id e k) r ∙ rw (eq-eqb m.id m.id refl) refl in
     object_at before m m.id None true i is
 
-member_range : (p : ℕ → Bool) (id a n : ℕ) → list_any (nat_eq id) (filter p (range_with_len a n)) ≡ true → (p id ≡ true) × (a ≤ id) × (id < a + n)
+pub member_range : (p : ℕ → Bool) (id a n : ℕ) → list_any (nat_eq id) (filter p (range_with_len a n)) ≡ true → (p id ≡ true) × (a ≤ id) × (id < a + n)
 member_range p id a zero h = absurd cc
 member_range p id a (suc n) h = by (p a) refl h (member_range p id (a + 1) n)
   where
@@ -261,7 +261,7 @@ pub goes : (before : List Raw) (m : Raw) (id : ℕ) → list_any (nat_eq id) (go
 unfolding gone
 goes before m id h = goes_by before m id (object before m.id) refl h
 
-some_entry : (o : Option Entry) → is_some o ≡ true → (e : Entry) × (o ≡ Some e)
+pub some_entry : (o : Option Entry) → is_some o ≡ true → (e : Entry) × (o ≡ Some e)
 some_entry None h = absurd cc
 some_entry (Some e) h = (e, refl)
 

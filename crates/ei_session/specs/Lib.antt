@@ -7,13 +7,16 @@ pub mod Replies
 pub mod Session
 pub mod Asked
 pub mod Inputs
+pub mod Meaning
 pub mod Devices
 pub mod Objects
 pub mod Serial
 pub mod Touches
 pub mod Refusals
 pub mod Requests
+pub mod ByMeaning
 pub mod Events
+pub mod Kept
 pub mod Served
 pub mod Worked
 pub mod WorkedWhole

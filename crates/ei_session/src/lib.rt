@@ -10,6 +10,10 @@
 #![tactic(auto)]
 
 mod all_requests;
+mod devices_held;
+mod kinds_of_messages;
+mod meanings;
+mod objects_by_id;
 mod theorems;
 mod worked;
 
@@ -17,6 +21,17 @@ pub use all_requests::{
     all_one_more, all_prefixes, all_sessions, all_streams, answers, bounds, built_requests,
     devices_made, groups, inputs, interfaces_after, items, objects_after, objects_there, refusals,
     steps_after, targets, touches_after,
+};
+pub use devices_held::{fresh_devices, touch_counts};
+pub use kinds_of_messages::{
+    finish_message, frames_made_by_item, given_by_item, handshake_messages, ids_run_out,
+    other_inputs, plain_requests, seat_released,
+};
+pub use meanings::{
+    asked_by_meaning, asked_rows, refused_by_meaning, requests_ask, words_by_meaning,
+};
+pub use objects_by_id::{
+    interfaces_there, new_objects, objects_gone, objects_introduced, objects_placed,
 };
 pub use theorems::{one_more_message, prefixes, sessions, streams};
 pub use worked::{

@@ -1,0 +1,12 @@
+use Rattle.ei_session.proofs.KeptByRequests.{plainly_device, plainly_known, plainly_unknown, device_connected, fixed_versions, same_next_id}
+use Rattle.ei_session.proofs.kinds_of_messages.plain_requests.Goals as goal
+
+pub returns : goal.returns
+returns c = record {
+  device = plainly_device;
+  known = plainly_known;
+  unknown = plainly_unknown;
+  connected = device_connected;
+  versions = fixed_versions;
+  next_id = same_next_id;
+}
