@@ -52,7 +52,7 @@ unfolding introduces handed_over
 handed_zero before m true f = rw (f, introduces) refl
 handed_zero before m false f = low_none before m 0 (omega arith) f
 
-handshake_was : (before : List Raw) → introduced before 0 ≡ Some the_handshake
+pub handshake_was : (before : List Raw) → introduced before 0 ≡ Some the_handshake
 unfolding introduced last_said
 handshake_was [] = refl
 handshake_was (m ∷ before) = introduced_before before m 0 (handed_zero before m (is_the_finish before m) refl) ∙ handshake_was before

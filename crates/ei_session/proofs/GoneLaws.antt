@@ -27,7 +27,7 @@ pub record Dead (before : List Raw) (id : ℕ) : Type 0 where
   pub none : object before id ≡ None
   pub low : id < next_id before
 
-no_finish_again : (before : List Raw) (m : Raw) → connected before ≡ true → is_the_finish before m ≡ false
+pub no_finish_again : (before : List Raw) (m : Raw) → connected before ≡ true → is_the_finish before m ≡ false
 unfolding is_the_finish
 no_finish_again before m on = rw on (by (is_finish m))
   where
@@ -35,7 +35,7 @@ no_finish_again before m on = rw on (by (is_finish m))
     by true = refl
     by false = refl
 
-dead_more : (before : List Raw) (m : Raw) (id : ℕ) → Dead before id → Dead (m ∷ before) id
+pub dead_more : (before : List Raw) (m : Raw) (id : ℕ) → Dead before id → Dead (m ∷ before) id
 dead_more before m id d =
     let f = no_finish_again before m d.on in
     let i = none_below before m id (introduces before m id) d.low f refl in
@@ -131,7 +131,7 @@ gone_self before m e k r =
     let is : removes before m m.id ≡ true = released before m m.id e f (object_is_introduced before m.id e k) r ∙ rw (eq-eqb m.id m.id refl) refl in
     object_at before m m.id None true i is
 
-member_range : (p : ℕ → Bool) (id a n : ℕ) → list_any (nat_eq id) (filter p (range_with_len a n)) ≡ true → (p id ≡ true) × (a ≤ id) × (id < a + n)
+pub member_range : (p : ℕ → Bool) (id a n : ℕ) → list_any (nat_eq id) (filter p (range_with_len a n)) ≡ true → (p id ≡ true) × (a ≤ id) × (id < a + n)
 member_range p id a zero h = absurd cc
 member_range p id a (suc n) h = by (p a) refl h (member_range p id (a + 1) n)
   where
@@ -221,7 +221,7 @@ object_device before id e k i = device_self before id e (object_is_introduced be
 
 -- ---- each id that goes was there, and isn't any more
 
-going_cases : (before : List Raw) (x id : ℕ) (k : KnownInterface) → list_any (nat_eq id) (going before x k) ≡ true → (id ≡ x) ⊎ ((k ≡ known.Device) × (list_any (nat_eq id) (interfaces_left before x) ≡ true))
+pub going_cases : (before : List Raw) (x id : ℕ) (k : KnownInterface) → list_any (nat_eq id) (going before x k) ≡ true → (id ≡ x) ⊎ ((k ≡ known.Device) × (list_any (nat_eq id) (interfaces_left before x) ≡ true))
 going_cases before x id known.Device h = by (list_any (nat_eq id) (interfaces_left before x)) (nat_eq id x) refl refl (sym (list_any-append (nat_eq id) (interfaces_left before x) (x ∷ [])) ∙ h)
   where
     by : (a b : Bool) → list_any (nat_eq id) (interfaces_left before x) ≡ a → nat_eq id x ≡ b → (a || (b || false)) ≡ true → (id ≡ x) ⊎ ((known.Device ≡ known.Device) × (list_any (nat_eq id) (interfaces_left before x) ≡ true))
@@ -261,11 +261,11 @@ pub goes : (before : List Raw) (m : Raw) (id : ℕ) → list_any (nat_eq id) (go
 unfolding gone
 goes before m id h = goes_by before m id (object before m.id) refl h
 
-some_entry : (o : Option Entry) → is_some o ≡ true → (e : Entry) × (o ≡ Some e)
+pub some_entry : (o : Option Entry) → is_some o ≡ true → (e : Entry) × (o ≡ Some e)
 some_entry None h = absurd cc
 some_entry (Some e) h = (e, refl)
 
-connected_by : (before : List Raw) (m : Raw) (id : ℕ) (b : Bool) → connected before ≡ b → list_any (nat_eq id) (gone before m) ≡ true → connected (m ∷ before) ≡ true → Dead (m ∷ before) id
+pub connected_by : (before : List Raw) (m : Raw) (id : ℕ) (b : Bool) → connected before ≡ b → list_any (nat_eq id) (gone before m) ≡ true → connected (m ∷ before) ≡ true → Dead (m ∷ before) id
 connected_by before m id b on h after =
     let g = goes before m id h in
     let e = some_entry (object before id) g.there in

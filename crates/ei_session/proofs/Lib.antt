@@ -24,3 +24,9 @@ pub mod WaitingLaws
 pub mod MadeLaws
 pub mod RefusalLaws
 pub mod BuiltLaws
+pub mod ReadBack
+pub mod EventRows
+pub mod Telling
+pub mod TellingReplies
+pub mod TellingGone
+pub mod TellingAnswers

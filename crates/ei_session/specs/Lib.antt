@@ -15,5 +15,6 @@ pub mod Refusals
 pub mod Requests
 pub mod Events
 pub mod Served
+pub mod Told
 pub mod Worked
 pub mod WorkedWhole

@@ -11,6 +11,7 @@
 
 mod all_requests;
 mod theorems;
+mod told;
 mod worked;
 
 pub use all_requests::{
@@ -19,6 +20,7 @@ pub use all_requests::{
     steps_after, targets, touches_after,
 };
 pub use theorems::{one_more_message, prefixes, sessions, streams};
+pub use told::reply_targets;
 pub use worked::{
     callbacks, devices, first_messages, handshakes, strangers, texts, touches, whole_session,
 };
