@@ -117,7 +117,7 @@ pub shut_makes_nothing : (before : List Raw) (m : Raw) → connected before ≡ 
 unfolding made seat_is_open
 shut_makes_nothing before m off = rw (off, made) refl
 
-not_the_finish : (before : List Raw) (m : Raw) → connected (m ∷ before) ≡ false → (is_the_finish before m ≡ false) × (connected before ≡ false)
+pub not_the_finish : (before : List Raw) (m : Raw) → connected (m ∷ before) ≡ false → (is_the_finish before m ≡ false) × (connected before ≡ false)
 not_the_finish before m off = by (is_the_finish before m) refl
   where
     by : (b : Bool) → is_the_finish before m ≡ b → (is_the_finish before m ≡ false) × (connected before ≡ false)

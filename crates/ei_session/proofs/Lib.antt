@@ -30,3 +30,5 @@ pub mod Telling
 pub mod TellingReplies
 pub mod TellingGone
 pub mod TellingAnswers
+pub mod Completing
+pub mod NextLaws

@@ -16,5 +16,7 @@ pub mod Requests
 pub mod Events
 pub mod Served
 pub mod Told
+pub mod Complete
+pub mod NextIds
 pub mod Worked
 pub mod WorkedWhole

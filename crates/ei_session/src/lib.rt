@@ -10,6 +10,8 @@
 #![tactic(auto)]
 
 mod all_requests;
+mod completeness;
+mod next;
 mod theorems;
 mod told;
 mod worked;
@@ -19,6 +21,8 @@ pub use all_requests::{
     devices_made, groups, inputs, interfaces_after, items, objects_after, objects_there, refusals,
     steps_after, targets, touches_after,
 };
+pub use completeness::complete_pieces;
+pub use next::{own_ids, peer_ids};
 pub use theorems::{one_more_message, prefixes, sessions, streams};
 pub use told::reply_targets;
 pub use worked::{
