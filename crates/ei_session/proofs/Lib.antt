@@ -32,3 +32,4 @@ pub mod TellingGone
 pub mod TellingAnswers
 pub mod Completing
 pub mod NextLaws
+pub mod SettledMapLaws

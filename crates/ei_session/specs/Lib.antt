@@ -18,5 +18,6 @@ pub mod Served
 pub mod Told
 pub mod Complete
 pub mod NextIds
+pub mod SettledMap
 pub mod Worked
 pub mod WorkedWhole

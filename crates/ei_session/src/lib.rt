@@ -14,6 +14,7 @@ mod completeness;
 mod next;
 mod theorems;
 mod told;
+mod versions;
 mod worked;
 
 pub use all_requests::{
@@ -25,6 +26,7 @@ pub use completeness::complete_pieces;
 pub use next::{own_ids, peer_ids};
 pub use theorems::{one_more_message, prefixes, sessions, streams};
 pub use told::reply_targets;
+pub use versions::settled_versions;
 pub use worked::{
     callbacks, devices, first_messages, handshakes, strangers, texts, touches, whole_session,
 };
