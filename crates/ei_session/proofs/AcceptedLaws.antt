@@ -22,11 +22,11 @@ not_refused_last : (o : Option Refusal) (b : Bool) → verdict o b ≡ Final →
 not_refused_last None b e = refl
 not_refused_last (Some x) b e = absurd cc
 
-accepted_so : (setup : Setup) (before : List Raw) (m : Raw) → judge setup before m ≡ Accepted → refusal setup before m ≡ None
+pub accepted_so : (setup : Setup) (before : List Raw) (m : Raw) → judge setup before m ≡ Accepted → refusal setup before m ≡ None
 unfolding judge
 accepted_so setup before m e = not_refused (refusal setup before m) (is_disconnect before m || exhausts before m) e
 
-ended_so : (setup : Setup) (before : List Raw) (m : Raw) → judge setup before m ≡ Final → refusal setup before m ≡ None
+pub ended_so : (setup : Setup) (before : List Raw) (m : Raw) → judge setup before m ≡ Final → refusal setup before m ≡ None
 unfolding judge
 ended_so setup before m e = not_refused_last (refusal setup before m) (is_disconnect before m || exhausts before m) e
 
@@ -88,7 +88,7 @@ lasting None true e = absurd cc
 lasting None false e = refl
 lasting (Some x) b e = absurd cc
 
-no_exhausting : (setup : Setup) (before : List Raw) (m : Raw) → judge setup before m ≡ Accepted → exhausts before m ≡ false
+pub no_exhausting : (setup : Setup) (before : List Raw) (m : Raw) → judge setup before m ≡ Accepted → exhausts before m ≡ false
 unfolding judge
 no_exhausting setup before m e = (or_none (is_disconnect before m) (exhausts before m) (lasting (refusal setup before m) (is_disconnect before m || exhausts before m) e)).1
 

@@ -35,7 +35,7 @@ no_finish_again before m on = rw on (by (is_finish m))
     by true = refl
     by false = refl
 
-dead_more : (before : List Raw) (m : Raw) (id : ℕ) → Dead before id → Dead (m ∷ before) id
+pub dead_more : (before : List Raw) (m : Raw) (id : ℕ) → Dead before id → Dead (m ∷ before) id
 dead_more before m id d =
     let f = no_finish_again before m d.on in
     let i = none_below before m id (introduces before m id) d.low f refl in
@@ -221,7 +221,7 @@ object_device before id e k i = device_self before id e (object_is_introduced be
 
 -- ---- each id that goes was there, and isn't any more
 
-going_cases : (before : List Raw) (x id : ℕ) (k : KnownInterface) → list_any (nat_eq id) (going before x k) ≡ true → (id ≡ x) ⊎ ((k ≡ known.Device) × (list_any (nat_eq id) (interfaces_left before x) ≡ true))
+pub going_cases : (before : List Raw) (x id : ℕ) (k : KnownInterface) → list_any (nat_eq id) (going before x k) ≡ true → (id ≡ x) ⊎ ((k ≡ known.Device) × (list_any (nat_eq id) (interfaces_left before x) ≡ true))
 going_cases before x id known.Device h = by (list_any (nat_eq id) (interfaces_left before x)) (nat_eq id x) refl refl (sym (list_any-append (nat_eq id) (interfaces_left before x) (x ∷ [])) ∙ h)
   where
     by : (a b : Bool) → list_any (nat_eq id) (interfaces_left before x) ≡ a → nat_eq id x ≡ b → (a || (b || false)) ≡ true → (id ≡ x) ⊎ ((known.Device ≡ known.Device) × (list_any (nat_eq id) (interfaces_left before x) ≡ true))
@@ -265,7 +265,7 @@ pub some_entry : (o : Option Entry) → is_some o ≡ true → (e : Entry) × (o
 some_entry None h = absurd cc
 some_entry (Some e) h = (e, refl)
 
-connected_by : (before : List Raw) (m : Raw) (id : ℕ) (b : Bool) → connected before ≡ b → list_any (nat_eq id) (gone before m) ≡ true → connected (m ∷ before) ≡ true → Dead (m ∷ before) id
+pub connected_by : (before : List Raw) (m : Raw) (id : ℕ) (b : Bool) → connected before ≡ b → list_any (nat_eq id) (gone before m) ≡ true → connected (m ∷ before) ≡ true → Dead (m ∷ before) id
 connected_by before m id b on h after =
     let g = goes before m id h in
     let e = some_entry (object before id) g.there in

@@ -42,3 +42,12 @@ pub mod KeptByRequests
 pub mod BeforeTheFinish
 pub mod GivenByItem
 pub mod RunsOut
+pub mod ReadBack
+pub mod EventRows
+pub mod Telling
+pub mod TellingReplies
+pub mod TellingGone
+pub mod TellingAnswers
+pub mod Completing
+pub mod NextLaws
+pub mod SettledMapLaws

@@ -21,7 +21,7 @@ use Rattle.ei_session.proofs.FirstObjects.{object_connection, the_connection}
 use Rattle.ei_session.proofs.TouchLaws.{all_none}
 
 -- the row of `sync`
-abbrev sync_row : Row
+abbrev pub sync_row : Row
 sync_row = announcing (codes "sync") (New ∷ U32 ∷ []) (Fixed known.Callback)
 
 callback_is : (args : Option (List Value)) (c : ℕ) → callback_of args ≡ Some c → (v : ℕ) × (args ≡ Some (Long c ∷ Word v ∷ []))
@@ -45,7 +45,7 @@ is_sync before m c h =
       | inr b ↦ absurd (none_some c b.1)
     ]
 
-whole_is : (r : Result (List Value × Unread) Stop) (args : List Value) → whole r ≡ Some args → (u : Unread) × (r ≡ Ok (args, u))
+pub whole_is : (r : Result (List Value × Unread) Stop) (args : List Value) → whole r ≡ Some args → (u : Unread) × (r ≡ Ok (args, u))
 unfolding whole
 whole_is (Ok x) args h = elim (chosen (eqb (length x.1.bytes) 0) _ _ _ h) [ inl a ↦ (x.1, ap (λ (xs : List Value). Ok (xs, x.1)) (one x.0 args a.1)) | inr b ↦ absurd (none_some args b.1) ]
   where
@@ -53,7 +53,7 @@ whole_is (Ok x) args h = elim (chosen (eqb (length x.1.bytes) 0) _ _ _ h) [ inl 
     one a b e = cc
 whole_is (Err e) args h = absurd (none_some args h)
 
-read_is : (m : Raw) (args : List Value) → asked known.Connection (codes "sync") m ≡ Some args → (m.opcode ≡ 0) × ((u : Unread) × (all_at (New ∷ U32 ∷ []) (body_of m) ≡ Ok (args, u)))
+pub read_is : (m : Raw) (args : List Value) → asked known.Connection (codes "sync") m ≡ Some args → (m.opcode ≡ 0) × ((u : Unread) × (all_at (New ∷ U32 ∷ []) (body_of m) ≡ Ok (args, u)))
 unfolding asked row_args
 read_is m args h = let a = args_are 0 sync_row m args h in (a.0, whole_is (all_at (New ∷ U32 ∷ []) (body_of m)) args a.1)
 

@@ -18,5 +18,9 @@ pub mod ByMeaning
 pub mod Events
 pub mod Kept
 pub mod Served
+pub mod Told
+pub mod Complete
+pub mod NextIds
+pub mod SettledMap
 pub mod Worked
 pub mod WorkedWhole

@@ -10,11 +10,15 @@
 #![tactic(auto)]
 
 mod all_requests;
+mod completeness;
 mod devices_held;
 mod kinds_of_messages;
 mod meanings;
+mod next;
 mod objects_by_id;
 mod theorems;
+mod told;
+mod versions;
 mod worked;
 
 pub use all_requests::{
@@ -22,6 +26,7 @@ pub use all_requests::{
     devices_made, groups, inputs, interfaces_after, items, objects_after, objects_there, refusals,
     steps_after, targets, touches_after,
 };
+pub use completeness::complete_pieces;
 pub use devices_held::{fresh_devices, touch_counts};
 pub use kinds_of_messages::{
     finish_message, frames_made_by_item, given_by_item, handshake_messages, ids_run_out,
@@ -30,10 +35,13 @@ pub use kinds_of_messages::{
 pub use meanings::{
     asked_by_meaning, asked_rows, refused_by_meaning, requests_ask, words_by_meaning,
 };
+pub use next::{own_ids, peer_ids};
 pub use objects_by_id::{
     interfaces_there, new_objects, objects_gone, objects_introduced, objects_placed,
 };
 pub use theorems::{one_more_message, prefixes, sessions, streams};
+pub use told::reply_targets;
+pub use versions::settled_versions;
 pub use worked::{
     callbacks, devices, first_messages, handshakes, strangers, texts, touches, whole_session,
 };
