@@ -31,13 +31,13 @@ waits_on o = None
 owner_below : (past : List Raw) (id : ℕ) (e : Entry) (d : ℕ) → object past id ≡ Some e → e.device ≡ Some d → d < next_id past
 owner_below past id e d k p = let o = object_owner past id e d k p in object_below past d o.entry d o.is o.own
 
-heard : (d x : ℕ) (b : Bool) (i : DeviceInput) → waits_on (cond b (Some (Waiting x i)) None) ≡ Some d → Some x ≡ Some d
+heard : (d x : ℕ) (b : Bool) (i : Input) → waits_on (cond b (Some (Waiting x i)) None) ≡ Some d → Some x ≡ Some d
 heard d x true i h = h
 heard d x false i h = absurd (none_some d h)
 
 waiting_device : (past : List Raw) (id : ℕ) (device : Option ℕ) (o : Option Meaning) (d : ℕ) → waits_on (item_for past id device o) ≡ Some d → device ≡ Some d
 waiting_device past id None (Some (Inputs i)) d h = absurd (none_some d h)
-waiting_device past id (Some x) (Some (Inputs i)) d h = heard d x (is_heard past x i) (record { device = x; input = i }) h
+waiting_device past id (Some x) (Some (Inputs i)) d h = heard d x (is_heard past x i) i h
 waiting_device past id None o d h = absurd (none_some d h)
 waiting_device past id (Some x) o d h = absurd (none_some d h)
 
@@ -60,7 +60,7 @@ input_at past m i (Some e) k h = owner_below past m.id e i.device k (device_of e
 
 -- ---- one message after another
 
-nothing : (b : Bool) → cond {A = List DeviceInput} b [] [] ≡ []
+nothing : (b : Bool) → cond {A = List Input} b [] [] ≡ []
 nothing true = refl
 nothing false = refl
 

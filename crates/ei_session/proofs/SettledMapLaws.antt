@@ -2,6 +2,7 @@
 use Rattle.std.proofs.Common.{◌≡◌, ◌≢◌, ℕ, min, Bool, true, false, cond, List, [], ◌∷◌, Option, Some, None, refl, sym, ap, ◌∙◌, filter_map, inl, inr}
 use Rattle.std.specs.Option.{option_or}
 use Rattle.std.specs.Ordering.{nat_cmp, eq_by_cmp}
+use Rattle.std.specs.List.{find}
 use Rattle.std.specs.Str.{bytes_eq}
 use Rattle.std.specs.Cmp.Lexicographic.{slice_cmp, nat_list_cmp_total}
 use Rattle.std.specs.FinMap as finite
@@ -9,10 +10,9 @@ use Rattle.std.proofs.lemmas.Slice.Eq.{bytes_eq-Decides}
 use Rattle.std.proofs.lemmas.Map.Text.{is_eq-slice_cmp}
 use Rattle.ei_spec.specs.declared.interface.KnownInterface.{KnownInterface}
 use Rattle.ei_spec.specs.declared.interface.KnownInterface.TheVariants as known
-use Rattle.ei_spec.specs.Interface.{name_of, known_of, server_version, the_twelve}
+use Rattle.ei_spec.specs.Interface.{name_of, known_of, is_called, server_version, the_twelve, the_thirteen}
 use Rattle.ei_spec.specs.Message.{Raw}
 use Rattle.ei_spec.specs.History.{last_said}
-use Rattle.ei_spec.specs.Table.{the_thirteen}
 use Rattle.ei_session.specs.Handshake.{Announced, announced, connected, version_if, settled}
 use Rattle.ei_session.specs.SettledMap.{Versions, settled_entry, settled_map}
 use Rattle.ei_session.proofs.Choices.{chosen, some_is, none_some, not_both}
@@ -23,12 +23,7 @@ use Rattle.ei_session.proofs.Telling.{or_nothing}
 
 -- ---- names
 
--- the first of these interfaces that has the name
-abbrev first_named : List ℕ → List KnownInterface → Option KnownInterface
-first_named q [] = None
-first_named q (i ∷ is) = cond (bytes_eq q (name_of i)) (Some i) (first_named q is)
-
-first_has : (q : List ℕ) (is : List KnownInterface) (k : KnownInterface) → first_named q is ≡ Some k → q ≡ name_of k
+first_has : (q : List ℕ) (is : List KnownInterface) (k : KnownInterface) → find (is_called q) is ≡ Some k → q ≡ name_of k
 first_has q [] k e = absurd (none_some k e)
 first_has q (i ∷ is) k e =
     elim (chosen (bytes_eq q (name_of i)) _ _ _ e) [
