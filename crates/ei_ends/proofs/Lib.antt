@@ -17,3 +17,4 @@ pub mod JoinedSteps
 pub mod Answered
 pub mod Same
 pub mod ReadingAll
+pub mod Conversations

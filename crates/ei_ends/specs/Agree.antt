@@ -1,5 +1,5 @@
 -- Which messages are dropped, and the agreement of what one end took with what the other sent. Lists have the newest first.
-use Rattle.std.specs.Prelude.{◌≡◌, ℕ, ◌-◌, ◌≤◌, Bool, true, false, ◌||◌, ◌&&◌, List, [], ◌∷◌, ◌++◌, length, drop, map, if◌then◌else◌}
+use Rattle.std.specs.Prelude.{◌≡◌, ℕ, ◌-◌, ◌≤◌, ◌⊎◌, Bool, true, false, ◌||◌, ◌&&◌, List, [], ◌∷◌, ◌++◌, length, drop, map, if◌then◌else◌}
 use Rattle.ei_spec.specs.declared.handle.Handle.{Handle}
 use Rattle.ei_ends.specs.Sent.{other, Sent, Got, Took, Missed, new_of, handles_in, IsAlike}
 use Rattle.ei_ends.specs.Announced.{is_named, destroyed}
@@ -57,10 +57,12 @@ abbrev pub all_got : Bool → List Sent → List Sent → List Got → List Sent
 all_got events own past gots [] = gots
 all_got events own past gots (m ∷ ms) = all_got events own (m ∷ past) (next_got events own past gots m ∷ gots) ms
 
--- each of these messages has no handle
-abbrev pub HaveNoHandles : List Sent → Type 0
-HaveNoHandles [] = Unit {0}
-HaveNoHandles (m ∷ ms) = (handles_in m ≡ []) × HaveNoHandles ms
+-- each of these messages has no handle, or is dropped
+abbrev pub NeedNoHandles : Bool → List Sent → List Sent → List Got → List Sent → Type 0
+NeedNoHandles events own past gots [] = Unit {0}
+NeedNoHandles events own past gots (m ∷ ms) =
+    ((handles_in m ≡ []) ⊎ (dropped events own past (afters gots) (length own) m.target ≡ true))
+    × NeedNoHandles events own (m ∷ past) (next_got events own past gots m ∷ gots) ms
 
 -- ---- handles
 
