@@ -17,4 +17,6 @@ pub mod JoinedSteps
 pub mod Answered
 pub mod Same
 pub mod ReadingAll
-pub mod Conversations
+pub mod Talking
+pub mod EndedConnection
+pub mod DroppedHandle

@@ -1,5 +1,5 @@
 use Rattle.ei_ends.proofs.EqualHandles.{each_one}
-use Rattle.ei_ends.proofs.JoinedSteps.{agrees, never_refused, handles_in_order, equal, few_handles, all_of_it, objects_are, next_id_is}
+use Rattle.ei_ends.proofs.JoinedSteps.{agrees, never_refused, handles_in_order, equal, few_handles, all_of_it}
 use Rattle.ei_ends.proofs.Same.{same_object}
 use Rattle.ei_ends.proofs.Answered.{answered}
 use Rattle.ei_ends.proofs.laws.ends.Goals as goal
@@ -13,8 +13,6 @@ returns c = record {
   equal = equal;
   few_handles = few_handles;
   all = all_of_it;
-  objects = objects_are;
-  next_id = next_id_is;
   same = same_object;
   answered = λ events x y to_y to_x a b m n p q r after j. answered events x y to_y to_x j.there j.back a b m n p q r after j.tied;
 }
