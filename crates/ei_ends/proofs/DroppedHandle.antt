@@ -1,5 +1,5 @@
 -- A handle of a message that is dropped, worked by hand.
-use Rattle.std.proofs.Common.{◌≡◌, ℕ, ◌≤◌, true, false, List, [], ◌∷◌, ◌++◌, length, inl, inr, refl, sym, ap, ◌∙◌, arith, lit≤}
+use Rattle.std.proofs.Common.{◌≡◌, ℕ, true, false, List, [], ◌∷◌, ◌++◌, length, inl, inr, refl, sym, ap, ◌∙◌, arith, lit≤}
 use Rattle.ei_spec.specs.declared.handle.Handle.{Handle}
 use Rattle.ei_ends.specs.Sent.{Sent, Got, Took, Missed, handles_in, spelled, IsAlike}
 use Rattle.ei_ends.specs.Agree.{after_of, afters, dropped, IsTaken, handles_sent, handles_got}
@@ -22,27 +22,43 @@ four_taken = Took (keyboard 0xff00000000000002 0xff00000000000003) 0 ∷ Took (d
 
 may_announce_four : AreListedCalls true four [] []
 unfolding all_open
-may_announce_four = (_, record {
-  call = record { row = refl; kinds = (omega arith, (omega arith, (omega arith, tt))); target = omega arith; opcode = omega arith; short = lit≤ tt };
-  target = refl;
-  next = refl;
-  left = lit≤ tt;
-}, (_, record {
-  call = record { row = refl; kinds = (omega arith, (omega arith, tt)); target = omega arith; opcode = omega arith; short = lit≤ tt };
-  target = refl;
-  next = refl;
-  left = lit≤ tt;
-}, (_, record {
-  call = record { row = refl; kinds = (omega arith, (omega arith, tt)); target = omega arith; opcode = omega arith; short = lit≤ tt };
-  target = refl;
-  next = refl;
-  left = lit≤ tt;
-}, (_, record {
-  call = record { row = refl; kinds = (omega arith, (refl, (omega arith, tt))); target = omega arith; opcode = omega arith; short = lit≤ tt };
-  target = refl;
-  next = refl;
-  left = lit≤ tt;
-}, tt))))
+may_announce_four = (
+  _,
+  record {
+    call = record { row = refl; kinds = (omega arith, (omega arith, (omega arith, tt))); target = omega arith; opcode = omega arith; short = lit≤ tt };
+    target = refl;
+    next = refl;
+    left = lit≤ tt;
+  },
+  (
+    _,
+    record {
+      call = record { row = refl; kinds = (omega arith, (omega arith, tt)); target = omega arith; opcode = omega arith; short = lit≤ tt };
+      target = refl;
+      next = refl;
+      left = lit≤ tt;
+    },
+    (
+      _,
+      record {
+        call = record { row = refl; kinds = (omega arith, (omega arith, tt)); target = omega arith; opcode = omega arith; short = lit≤ tt };
+        target = refl;
+        next = refl;
+        left = lit≤ tt;
+      },
+      (
+        _,
+        record {
+          call = record { row = refl; kinds = (omega arith, (refl, (omega arith, tt))); target = omega arith; opcode = omega arith; short = lit≤ tt };
+          target = refl;
+          next = refl;
+          left = lit≤ tt;
+        },
+        tt,
+      ),
+    ),
+  ),
+)
 
 pub is_keyboard : IsTalk talk_keyboard four_sent [] [] four_taken []
 unfolding all_open talk_keyboard
@@ -50,12 +66,16 @@ is_keyboard = server_said four silence [] [] [] [] [] is_silence may_announce_fo
 
 may_end_it : AreListedCalls false (disconnect ∷ []) [] four_taken
 unfolding all_open
-may_end_it = (_, record {
-  call = record { row = refl; kinds = tt; target = omega arith; opcode = omega arith; short = lit≤ tt };
-  target = refl;
-  next = tt;
-  left = lit≤ tt;
-}, tt)
+may_end_it = (
+  _,
+  record {
+    call = record { row = refl; kinds = tt; target = omega arith; opcode = omega arith; short = lit≤ tt };
+    target = refl;
+    next = tt;
+    left = lit≤ tt;
+  },
+  tt,
+)
 
 abbrev more : Handle → List Sent
 more h = seat 0xff00000000000004 ∷ device 0xff00000000000004 0xff00000000000005 ∷ keyboard 0xff00000000000005 0xff00000000000006 ∷ keymap 0xff00000000000006 h ∷ []
@@ -68,27 +88,43 @@ more_taken = Missed 0xff00000000000006 1 ∷ Missed 0xff00000000000005 1 ∷ Mis
 
 may_announce_more : (h : Handle) → AreListedCalls true (more h) four_sent []
 unfolding all_open
-may_announce_more h = (_, record {
-  call = record { row = refl; kinds = (omega arith, (omega arith, tt)); target = omega arith; opcode = omega arith; short = lit≤ tt };
-  target = refl;
-  next = refl;
-  left = lit≤ tt;
-}, (_, record {
-  call = record { row = refl; kinds = (omega arith, (omega arith, tt)); target = omega arith; opcode = omega arith; short = lit≤ tt };
-  target = refl;
-  next = refl;
-  left = lit≤ tt;
-}, (_, record {
-  call = record { row = refl; kinds = (omega arith, (refl, (omega arith, tt))); target = omega arith; opcode = omega arith; short = lit≤ tt };
-  target = refl;
-  next = refl;
-  left = lit≤ tt;
-}, (_, record {
-  call = record { row = refl; kinds = ((omega arith, refl), (omega arith, (tt, tt))); target = omega arith; opcode = omega arith; short = lit≤ tt };
-  target = refl;
-  next = tt;
-  left = lit≤ tt;
-}, tt))))
+may_announce_more h = (
+  _,
+  record {
+    call = record { row = refl; kinds = (omega arith, (omega arith, tt)); target = omega arith; opcode = omega arith; short = lit≤ tt };
+    target = refl;
+    next = refl;
+    left = lit≤ tt;
+  },
+  (
+    _,
+    record {
+      call = record { row = refl; kinds = (omega arith, (omega arith, tt)); target = omega arith; opcode = omega arith; short = lit≤ tt };
+      target = refl;
+      next = refl;
+      left = lit≤ tt;
+    },
+    (
+      _,
+      record {
+        call = record { row = refl; kinds = (omega arith, (refl, (omega arith, tt))); target = omega arith; opcode = omega arith; short = lit≤ tt };
+        target = refl;
+        next = refl;
+        left = lit≤ tt;
+      },
+      (
+        _,
+        record {
+          call = record { row = refl; kinds = ((omega arith, refl), (omega arith, (tt, tt))); target = omega arith; opcode = omega arith; short = lit≤ tt };
+          target = refl;
+          next = tt;
+          left = lit≤ tt;
+        },
+        tt,
+      ),
+    ),
+  ),
+)
 
 pub is_keymap : (h : Handle) → IsTalk (talk_keymap h) (more_sent h) [] (disconnect ∷ []) more_taken (spelled (disconnect ∷ []))
 unfolding all_open talk_keymap
@@ -98,12 +134,16 @@ is_keymap h =
 
 may_send_keymap : (h next : Handle) → AreListedCalls true (keymap 0xff00000000000003 next ∷ []) (more_sent h) []
 unfolding all_open
-may_send_keymap h next = (_, record {
-  call = record { row = refl; kinds = ((omega arith, refl), (omega arith, (tt, tt))); target = omega arith; opcode = omega arith; short = lit≤ tt };
-  target = refl;
-  next = tt;
-  left = lit≤ tt;
-}, tt)
+may_send_keymap h next = (
+  _,
+  record {
+    call = record { row = refl; kinds = ((omega arith, refl), (omega arith, (tt, tt))); target = omega arith; opcode = omega arith; short = lit≤ tt };
+    target = refl;
+    next = tt;
+    left = lit≤ tt;
+  },
+  tt,
+)
 
 last_one : (h next : Handle) → SaidOne (talk_keymap h) (keymap 0xff00000000000003 next) (more_sent h) (disconnect ∷ []) more_taken
 unfolding all_open

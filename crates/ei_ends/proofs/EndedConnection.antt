@@ -1,5 +1,5 @@
 -- A connection that the client ends, worked by hand.
-use Rattle.std.proofs.Common.{◌≤◌, true, false, [], ◌∷◌, inl, refl, arith, lit≤}
+use Rattle.std.proofs.Common.{true, false, [], ◌∷◌, inl, refl, arith, lit≤}
 use Rattle.ei_ends.specs.Sent.{Took, Missed, spelled}
 use Rattle.ei_ends.specs.Joined.{AreListedCalls}
 use Rattle.ei_ends.specs.Worked.{server_says, client_says, client_writes, silence, connection, sync, done, disconnect, seat, device, talk_answered, talk_ended}
@@ -7,12 +7,16 @@ use Rattle.ei_ends.proofs.Talking.{IsTalk, server_said, client_said, client_wrot
 
 may_connect : AreListedCalls true (connection ∷ []) [] []
 unfolding all_open
-may_connect = (_, record {
-  call = record { row = refl; kinds = (omega arith, (omega arith, (omega arith, tt))); target = omega arith; opcode = omega arith; short = lit≤ tt };
-  target = refl;
-  next = refl;
-  left = lit≤ tt;
-}, tt)
+may_connect = (
+  _,
+  record {
+    call = record { row = refl; kinds = (omega arith, (omega arith, (omega arith, tt))); target = omega arith; opcode = omega arith; short = lit≤ tt };
+    target = refl;
+    next = refl;
+    left = lit≤ tt;
+  },
+  tt,
+)
 
 is_connected : IsTalk (server_says (connection ∷ []) silence) (connection ∷ []) [] [] (Took connection 0 ∷ []) []
 unfolding all_open
@@ -20,44 +24,64 @@ is_connected = server_said (connection ∷ []) silence [] [] [] [] [] is_silence
 
 may_sync : AreListedCalls false (sync ∷ []) [] (Took connection 0 ∷ [])
 unfolding all_open
-may_sync = (_, record {
-  call = record { row = refl; kinds = (omega arith, (omega arith, tt)); target = omega arith; opcode = omega arith; short = lit≤ tt };
-  target = refl;
-  next = refl;
-  left = lit≤ tt;
-}, tt)
+may_sync = (
+  _,
+  record {
+    call = record { row = refl; kinds = (omega arith, (omega arith, tt)); target = omega arith; opcode = omega arith; short = lit≤ tt };
+    target = refl;
+    next = refl;
+    left = lit≤ tt;
+  },
+  tt,
+)
 
 may_answer : AreListedCalls true (done ∷ []) (connection ∷ []) (Took sync 1 ∷ [])
 unfolding all_open
-may_answer = (_, record {
-  call = record { row = refl; kinds = (omega arith, tt); target = omega arith; opcode = omega arith; short = lit≤ tt };
-  target = refl;
-  next = tt;
-  left = lit≤ tt;
-}, tt)
+may_answer = (
+  _,
+  record {
+    call = record { row = refl; kinds = (omega arith, tt); target = omega arith; opcode = omega arith; short = lit≤ tt };
+    target = refl;
+    next = tt;
+    left = lit≤ tt;
+  },
+  tt,
+)
 
 may_end : AreListedCalls false (disconnect ∷ []) (sync ∷ []) (Took done 1 ∷ Took connection 0 ∷ [])
 unfolding all_open
-may_end = (_, record {
-  call = record { row = refl; kinds = tt; target = omega arith; opcode = omega arith; short = lit≤ tt };
-  target = refl;
-  next = tt;
-  left = lit≤ tt;
-}, tt)
+may_end = (
+  _,
+  record {
+    call = record { row = refl; kinds = tt; target = omega arith; opcode = omega arith; short = lit≤ tt };
+    target = refl;
+    next = tt;
+    left = lit≤ tt;
+  },
+  tt,
+)
 
 pub may_announce : AreListedCalls true (seat 0xff00000000000001 ∷ device 0xff00000000000001 0xff00000000000002 ∷ []) (done ∷ connection ∷ []) (Took sync 1 ∷ [])
 unfolding all_open
-may_announce = (_, record {
-  call = record { row = refl; kinds = (omega arith, (omega arith, tt)); target = omega arith; opcode = omega arith; short = lit≤ tt };
-  target = refl;
-  next = refl;
-  left = lit≤ tt;
-}, (_, record {
-  call = record { row = refl; kinds = (omega arith, (omega arith, tt)); target = omega arith; opcode = omega arith; short = lit≤ tt };
-  target = refl;
-  next = refl;
-  left = lit≤ tt;
-}, tt))
+may_announce = (
+  _,
+  record {
+    call = record { row = refl; kinds = (omega arith, (omega arith, tt)); target = omega arith; opcode = omega arith; short = lit≤ tt };
+    target = refl;
+    next = refl;
+    left = lit≤ tt;
+  },
+  (
+    _,
+    record {
+      call = record { row = refl; kinds = (omega arith, (omega arith, tt)); target = omega arith; opcode = omega arith; short = lit≤ tt };
+      target = refl;
+      next = refl;
+      left = lit≤ tt;
+    },
+    tt,
+  ),
+)
 
 pub is_answered : IsTalk talk_answered (done ∷ connection ∷ []) (Took sync 1 ∷ []) (sync ∷ []) (Took done 1 ∷ Took connection 0 ∷ []) []
 unfolding all_open talk_answered

@@ -1,22 +1,18 @@
 -- What the next message is, and that taking it keeps what ties two ends.
-use Rattle.std.proofs.Common.{◌≡◌, ℕ, ◌+◌, ◌<◌, ◌≤◌, Bool, true, false, ◌||◌, ◌⊎◌, inl, inr, List, [], ◌∷◌, ◌++◌, length, drop, map, Option, Some, None, Ok, refl, sym, ap, subst, ◌∙◌, length-append, arith}
+use Rattle.std.proofs.Common.{◌≡◌, ℕ, ◌<◌, ◌≤◌, Bool, true, false, ◌||◌, ◌⊎◌, inl, inr, List, [], ◌∷◌, ◌++◌, length, map, Option, Some, None, Ok, refl, sym, ap, subst, ◌∙◌, length-append, arith}
 use Rattle.std.specs.List.{flat_map}
-use Rattle.std.specs.FinMap.{insert}
-use Rattle.std.proofs.lemmas.Bool.{le-ltb, lt-leb, cases_lt, cases_Bool}
-use Rattle.std.proofs.Math.Seq.{drop-append_seam}
-use Rattle.ei_spec.specs.declared.handle.Handle.{Handle}
+use Rattle.std.proofs.lemmas.Bool.{cases_lt, cases_Bool}
 use Rattle.ei_spec.specs.Value.{Kind, Value, written, handles_of}
 use Rattle.ei_spec.specs.Interface.{Known, ObjectView}
-use Rattle.ei_spec.specs.Rows.{Row, Announces, Nothing, Fixed, Named, row_at}
-use Rattle.ei_spec.specs.Table.{table}
+use Rattle.ei_spec.specs.Rows.{Row, Announces, Nothing, Fixed, Named}
 use Rattle.ei_spec.specs.Message.{Raw, IsLawful, message, bytes_of, size, Short, front}
 use Rattle.ei_spec.specs.Piece.{Piece}
-use Rattle.ei_backend.specs.Table.{TableView, accept, found, own_limit, peer_end}
+use Rattle.ei_backend.specs.Table.{TableView, found, own_limit, peer_end}
 use Rattle.ei_backend.specs.Message.{announce, with_new}
 use Rattle.ei_backend.specs.Step.{reading}
 use Rattle.ei_backend.proofs.FoundAfter.{accepts}
 use Rattle.ei_backend.proofs.NextIs.{reads as next_reads, gone as next_gone, waits as next_waits}
-use Rattle.ei_backend.specs.Backend.{BackendView, Waits, Gone, Message, next, unsent_of}
+use Rattle.ei_backend.specs.Backend.{BackendView, Gone, Message, next, unsent_of}
 use Rattle.ei_ends.specs.Sent.{other, Sent, Took, Missed, New, new_by, new_in, new_of, row_of, IsCall, handles_in, bytes_in, raw_of, spelled, bare}
 use Rattle.ei_ends.specs.Announced.{destroyed, next_own, counts}
 use Rattle.ei_ends.specs.Way.{gone, onto, HasNextId, MaySend, AllSent, needed, Way, End, Cut, Tied, unread_of}

@@ -1,6 +1,5 @@
 -- What is taken once all was delivered, and what an end may send, by the lists alone.
-use Rattle.std.proofs.Common.{◌≡◌, ℕ, suc, ◌+◌, ◌<◌, ◌≤◌, Bool, true, false, cond, ◌⊎◌, inl, inr, List, [], ◌∷◌, ◌++◌, length, Option, Some, None, refl, sym, ap, subst, ◌∙◌, append_assoc, append-nil, length-append, arith}
-use Rattle.std.specs.List.{flat_map}
+use Rattle.std.proofs.Common.{◌≡◌, ℕ, ◌+◌, ◌≤◌, Bool, true, false, ◌⊎◌, inl, inr, List, [], ◌∷◌, ◌++◌, length, Option, Some, None, refl, sym, ap, subst, ◌∙◌, append-nil, length-append, arith}
 use Rattle.ei_spec.specs.Interface.{ObjectView, Known}
 use Rattle.ei_spec.specs.Rows.{Row}
 use Rattle.ei_spec.specs.Message.{Raw, Front, Short, Unlawful, Whole, front, size}
@@ -11,7 +10,7 @@ use Rattle.ei_ends.specs.Sent.{other, Sent, Got, Took, Missed, New, new_of, raw_
 use Rattle.ei_ends.specs.Announced.{counts, next_own}
 use Rattle.ei_ends.specs.Agree.{Agree, oldest, next_got, all_got, after_of, IsTaken, NeedNoHandles, afters, dropped}
 use Rattle.ei_ends.specs.Way.{onto, HasNextId, End, Cut, Tied}
-use Rattle.ei_ends.specs.Steps.{HasId, after_call, after_calls, with_taken, stored, after_read, after_reads}
+use Rattle.ei_ends.specs.Steps.{HasId, after_call, with_taken, stored, after_read, after_reads}
 use Rattle.ei_ends.specs.Joined.{Joined, IsCallOf, IsListedCall, AreCalls, AreListedCalls}
 use Rattle.ei_ends.proofs.Known.{next_more}
 use Rattle.ei_ends.proofs.Agreeing.{twice, agree_length}
@@ -106,10 +105,10 @@ took_plain events x y to_y to_x rest past ms cy m none take =
     let read_none : handles_in take.read ≡ [] = nothing (handles_in take.read) (alike_handles take.read.values take.message.values take.alike.values ∙ ap length no_handle) in
     let read : take.read ≡ m = same_message take.message take.read take.alike (read_none ∙ sym no_handle) ∙ same.0 in
     one_took events x y to_y to_x rest past ms cy m take.after take.target (take.target_is ∙ ap (λ (k : Sent). let o : ObjectView = record { id = k.target; interface = Known k.interface; version = k.version; client_side = events } in o) read)
-      (take.next_is ∙ ap (λ (k : Sent). (Message take.target k.opcode k.values, take.after)) read)
-      (subst (λ (fs : List Sent). Tied events x (with_taken take.after (Took m (length y.sent)) y) to_y to_x (record { past = m ∷ past; flight = fs; rest = rest }) cy) same.1
-        (subst (λ (k : Sent). Tied events x (with_taken take.after (Took k (length y.sent)) y) to_y to_x (record { past = m ∷ past; flight = take.flight; rest = rest }) cy) read
-          (subst (λ (k : Sent). Tied events x (with_taken take.after (Took take.read (length y.sent)) y) to_y to_x (record { past = k ∷ past; flight = take.flight; rest = rest }) cy) same.0 take.tied)))
+    (take.next_is ∙ ap (λ (k : Sent). (Message take.target k.opcode k.values, take.after)) read)
+    (subst (λ (fs : List Sent). Tied events x (with_taken take.after (Took m (length y.sent)) y) to_y to_x (record { past = m ∷ past; flight = fs; rest = rest }) cy) same.1
+    (subst (λ (k : Sent). Tied events x (with_taken take.after (Took k (length y.sent)) y) to_y to_x (record { past = m ∷ past; flight = take.flight; rest = rest }) cy) read
+    (subst (λ (k : Sent). Tied events x (with_taken take.after (Took take.read (length y.sent)) y) to_y to_x (record { past = k ∷ past; flight = take.flight; rest = rest }) cy) same.0 take.tied)))
 
 not_dropped : (events : Bool) (x y : End) (to_y to_x rest : Piece) (past ms : List Sent) (cy : Cut) (m : Sent) → dropped events y.sent past (afters y.taken) (length y.sent) m.target ≡ true → Takes events x y to_y to_x (record { past = past; flight = m ∷ ms; rest = rest }) cy → ⊥
 unfolding Agree
@@ -124,8 +123,8 @@ takes_one events x y to_y to_x rest past ms cy m h all none = elim (reads_whole 
   | inl miss ↦
       let same = cut_is past ms miss.flight rest m miss.message miss.first in
       one_missed events x y to_y to_x rest past ms cy m miss.after (miss.next_is ∙ ap (λ (k : Sent). (Gone k.target, miss.after)) same.0)
-        (subst (λ (fs : List Sent). Tied events x (with_taken miss.after (Missed m.target (length y.sent)) y) to_y to_x (record { past = m ∷ past; flight = fs; rest = rest }) cy) same.1
-          (subst (λ (k : Sent). Tied events x (with_taken miss.after (Missed k.target (length y.sent)) y) to_y to_x (record { past = k ∷ past; flight = miss.flight; rest = rest }) cy) same.0 miss.tied))
+      (subst (λ (fs : List Sent). Tied events x (with_taken miss.after (Missed m.target (length y.sent)) y) to_y to_x (record { past = m ∷ past; flight = fs; rest = rest }) cy) same.1
+      (subst (λ (k : Sent). Tied events x (with_taken miss.after (Missed k.target (length y.sent)) y) to_y to_x (record { past = k ∷ past; flight = miss.flight; rest = rest }) cy) same.0 miss.tied))
   | inr take ↦ elim none [
     | inl plain ↦ took_plain events x y to_y to_x rest past ms cy m plain take
     | inr out ↦ absurd (not_dropped events x y to_y to_x rest past ms cy m out take)

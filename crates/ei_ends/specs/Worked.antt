@@ -106,7 +106,7 @@ talk_keyboard = server_says
 unfoldable pub talk_keymap : Handle → Talk
 talk_keymap handle = server_says
     (seat 0xff00000000000004 ∷ device 0xff00000000000004 0xff00000000000005 ∷ keyboard 0xff00000000000005 0xff00000000000006
-     ∷ keymap 0xff00000000000006 handle ∷ [])
+    ∷ keymap 0xff00000000000006 handle ∷ [])
     (client_writes (disconnect ∷ []) talk_keyboard)
 
 -- then it sends a keymap to the first keyboard
