@@ -18,7 +18,7 @@ use Rattle.ei_ends.specs.Announced.{next_own}
 use Rattle.ei_ends.specs.Agree.{oldest, handles_sent, KeepsHandles, AllEqual, handles_got}
 use Rattle.ei_ends.specs.Way.{HasNextId, MaySend, End, Cut, Tied, alive}
 use Rattle.ei_ends.specs.Steps.{behind, no_piece, table_after, table_with, called, after_call, flushed, delivered, closed_end, with_taken, ringed, roomy, IsPiece, stored, after_calls, with_sent, having_read, having_answered, after_read, handed, left_over}
-use Rattle.ei_ends.specs.Joined.{new_end, Joined, IsCallOf, AgreeSoFar, AreCalls, ArePlain}
+use Rattle.ei_ends.specs.Joined.{new_end, Joined, AllDelivered, IsCallOf, AgreeSoFar, AreCalls, ArePlain}
 use Rattle.ei_ends.proofs.ReadsNext.{Misses, Takes, cut_shorter}
 use Rattle.ei_ends.proofs.Begins.{start}
 use Rattle.ei_ends.proofs.Turned.{swap}
@@ -161,8 +161,8 @@ agrees events x y to_y to_x j =
     let past = past_is events x y to_y to_x j in
     (omega (arith, l, ap length way.sent_is, onto_length j.there.flight j.there.past), rw past way.agree)
 
-pub all_of_it : (events : Bool) (x y : End) (to_y to_x : Piece) → Joined events x y to_y to_x → y.backend.closed ≡ false → to_y.bytes ≡ [] → x.backend.unsent ≡ [] → next events y.backend ≡ (Waits, y.backend) → length y.taken ≡ length x.sent
-all_of_it events x y to_y to_x j opened none sent w = all_taken events x y to_y to_x j.there j.back j.tied opened none sent w
+pub all_of_it : (events : Bool) (x y : End) (to_y to_x : Piece) → Joined events x y to_y to_x → AllDelivered x y to_y → next events y.backend ≡ (Waits, y.backend) → length y.taken ≡ length x.sent
+all_of_it events x y to_y to_x j all w = all_taken events x y to_y to_x j.there j.back j.tied all.opened all.none all.unsent w
 
 pub few_handles : (events : Bool) (x y : End) (to_y to_x p left : Piece) → Joined events x y to_y to_x → y.backend.closed ≡ false → IsPiece p left to_y → length (handles_sent x.sent) ≤ 4096 → length y.backend.handles + length p.handles ≤ 4096
 few_handles events x y to_y to_x p left j opened is few = no_limit events x y to_y to_x p left j.there j.back j.tied opened is few

@@ -11,7 +11,7 @@ use Rattle.ei_ends.specs.Announced.{counts, next_own}
 use Rattle.ei_ends.specs.Agree.{Agree, oldest, next_got, all_got, after_of, IsTaken, NeedNoHandles, afters, dropped}
 use Rattle.ei_ends.specs.Way.{onto, HasNextId, End, Cut, Tied}
 use Rattle.ei_ends.specs.Steps.{HasId, after_call, with_taken, stored, after_read, after_reads}
-use Rattle.ei_ends.specs.Joined.{Joined, IsCallOf, IsListedCall, AreCalls, AreListedCalls}
+use Rattle.ei_ends.specs.Joined.{AllDelivered, Joined, IsCallOf, IsListedCall, AreCalls, AreListedCalls}
 use Rattle.ei_ends.proofs.Known.{next_more}
 use Rattle.ei_ends.proofs.Agreeing.{twice, agree_length}
 use Rattle.ei_ends.proofs.InTime.{bytes_length}
@@ -42,16 +42,10 @@ next_keeps events b = front_keeps events b (front b.unread)
 
 -- ---- one message after another
 
--- all that is on its way is unread
-record IsAllThere (x y : End) (to_y : Piece) : Type 0 where
-  opened : y.backend.closed ≡ false
-  none : to_y.bytes ≡ []
-  unsent : x.backend.unsent ≡ []
-
-still_there : (events : Bool) (x y : End) (to_y : Piece) (b : BackendView) (g : Got) → b ≡ (next events y.backend).1 → IsAllThere x y to_y → IsAllThere x (with_taken b g y) to_y
+still_there : (events : Bool) (x y : End) (to_y : Piece) (b : BackendView) (g : Got) → b ≡ (next events y.backend).1 → AllDelivered x y to_y → AllDelivered x (with_taken b g y) to_y
 still_there events x y to_y b g is h = record { opened = ap (λ (c : BackendView). c.closed) is ∙ (next_keeps events y.backend).closed ∙ h.opened; none = h.none; unsent = h.unsent }
 
-whole_there : (events : Bool) (x y : End) (to_y to_x rest : Piece) (past ms : List Sent) (cy : Cut) (m : Sent) → Tied events x y to_y to_x (record { past = past; flight = m ∷ ms; rest = rest }) cy → IsAllThere x y to_y → size (raw_of m) ≤ length y.backend.unread
+whole_there : (events : Bool) (x y : End) (to_y to_x rest : Piece) (past ms : List Sent) (cy : Cut) (m : Sent) → Tied events x y to_y to_x (record { past = past; flight = m ∷ ms; rest = rest }) cy → AllDelivered x y to_y → size (raw_of m) ≤ length y.backend.unread
 whole_there events x y to_y to_x rest past ms cy m h all =
     let flows = h.there.flows in
     let none : rest.bytes ≡ [] = flows.open_bytes all.opened ∙ ap (λ l. l ++ x.backend.unsent) all.none ∙ all.unsent in
@@ -118,7 +112,7 @@ not_dropped events x y to_y to_x rest past ms cy m out take =
     let both : true ≡ false = sym out ∙ ap (λ (k : Sent). dropped events y.sent past (afters y.taken) (length y.sent) k.target) (sym same.0) ∙ there in
     cc
 
-takes_one : (events : Bool) (x y : End) (to_y to_x rest : Piece) (past ms : List Sent) (cy : Cut) (m : Sent) → Tied events x y to_y to_x (record { past = past; flight = m ∷ ms; rest = rest }) cy → IsAllThere x y to_y → (handles_in m ≡ []) ⊎ (dropped events y.sent past (afters y.taken) (length y.sent) m.target ≡ true) → TakesOne events x y to_y to_x past ms rest cy m
+takes_one : (events : Bool) (x y : End) (to_y to_x rest : Piece) (past ms : List Sent) (cy : Cut) (m : Sent) → Tied events x y to_y to_x (record { past = past; flight = m ∷ ms; rest = rest }) cy → AllDelivered x y to_y → (handles_in m ≡ []) ⊎ (dropped events y.sent past (afters y.taken) (length y.sent) m.target ≡ true) → TakesOne events x y to_y to_x past ms rest cy m
 takes_one events x y to_y to_x rest past ms cy m h all none = elim (reads_whole events x y to_y to_x (record { past = past; flight = m ∷ ms; rest = rest }) cy m ms h refl (whole_there events x y to_y to_x rest past ms cy m h all)) [
   | inl miss ↦
       let same = cut_is past ms miss.flight rest m miss.message miss.first in
@@ -167,7 +161,7 @@ pub record TakesAll (events : Bool) (x y : End) (to_y : Piece) (past ms : List S
   pub closed : (after_reads (length ms) events y).backend.closed ≡ false
   pub unsent : (after_reads (length ms) events y).backend.unsent ≡ y.backend.unsent
 
-takes_all : (events : Bool) (x y : End) (to_y to_x rest : Piece) (past ms : List Sent) (cy : Cut) → Tied events x y to_y to_x (record { past = past; flight = ms; rest = rest }) cy → IsAllThere x y to_y → NeedNoHandles events y.sent past y.taken ms → TakesAll events x y to_y past ms
+takes_all : (events : Bool) (x y : End) (to_y to_x rest : Piece) (past ms : List Sent) (cy : Cut) → Tied events x y to_y to_x (record { past = past; flight = ms; rest = rest }) cy → AllDelivered x y to_y → NeedNoHandles events y.sent past y.taken ms → TakesAll events x y to_y past ms
 takes_all events x y to_y to_x rest past [] cy h all none = record { taken = refl; sent = refl; closed = all.opened; unsent = refl }
 takes_all events x y to_y to_x rest past (m ∷ ms) cy h all none =
     let one = takes_one events x y to_y to_x rest past ms cy m h all none.0 in
@@ -204,14 +198,14 @@ cut_same events x y to_y to_x past ms j is long =
     subst (λ (c : Cut). Tied events x y to_y to_x c j.back) same j.tied
 
 -- once all was delivered, the messages on their way are taken as the lists say
-pub takes_as_listed : (events : Bool) (x y : End) (to_y to_x : Piece) (past ms : List Sent) → Joined events x y to_y to_x → y.backend.closed ≡ false → to_y.bytes ≡ [] → x.backend.unsent ≡ [] → x.sent ≡ onto ms past → length past ≡ length y.taken → NeedNoHandles events y.sent past y.taken ms → TakesAll events x y to_y past ms
-takes_as_listed events x y to_y to_x past ms j opened none sent is long no_handles =
-    takes_all events x y to_y to_x j.there.rest past ms j.back (cut_same events x y to_y to_x past ms j is long) (record { opened = opened; none = none; unsent = sent }) no_handles
+pub takes_as_listed : (events : Bool) (x y : End) (to_y to_x : Piece) (past ms : List Sent) → Joined events x y to_y to_x → AllDelivered x y to_y → x.sent ≡ onto ms past → length past ≡ length y.taken → NeedNoHandles events y.sent past y.taken ms → TakesAll events x y to_y past ms
+takes_as_listed events x y to_y to_x past ms j all is long no_handles =
+    takes_all events x y to_y to_x j.there.rest past ms j.back (cut_same events x y to_y to_x past ms j is long) all no_handles
 
-pub takes_any : (events : Bool) (x y : End) (to_y to_x : Piece) (past ms : List Sent) (m : Sent) → Joined events x y to_y to_x → y.backend.closed ≡ false → to_y.bytes ≡ [] → x.backend.unsent ≡ [] → x.sent ≡ onto (m ∷ ms) past → length past ≡ length y.taken → TakesAny events y past m
-takes_any events x y to_y to_x past ms m j opened none sent is long =
+pub takes_any : (events : Bool) (x y : End) (to_y to_x : Piece) (past ms : List Sent) (m : Sent) → Joined events x y to_y to_x → AllDelivered x y to_y → x.sent ≡ onto (m ∷ ms) past → length past ≡ length y.taken → TakesAny events y past m
+takes_any events x y to_y to_x past ms m j all is long =
     let h = cut_same events x y to_y to_x past (m ∷ ms) j is long in
-    let there = whole_there events x y to_y to_x j.there.rest past ms j.back m h (record { opened = opened; none = none; unsent = sent }) in
+    let there = whole_there events x y to_y to_x j.there.rest past ms j.back m h all in
     any_at events x y to_y to_x past ms j.there.rest j.back m (reads_whole events x y to_y to_x (record { past = past; flight = m ∷ ms; rest = j.there.rest }) j.back m ms h refl there)
 
 -- where all was taken, no message waits

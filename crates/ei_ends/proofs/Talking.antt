@@ -65,7 +65,7 @@ said events ms x y j are opened empty short all none =
     let wrote = after_calls events ms x in
     record {
       joined = reads_keep (length ms) events (flushed wrote) (delivered (unsent_of wrote.backend) y) no_piece no_piece there;
-      takes = takes_as_listed events (flushed wrote) (delivered (unsent_of wrote.backend) y) no_piece no_piece x.sent ms there opened refl refl (sent_after events ms x) all none;
+      takes = takes_as_listed events (flushed wrote) (delivered (unsent_of wrote.backend) y) no_piece no_piece x.sent ms there (record { opened = opened; none = refl; unsent = refl }) (sent_after events ms x) all none;
     }
 
 -- ---- a talk by its lists
@@ -122,7 +122,7 @@ server_said_one m t a c b d w h are short all =
     let there = given true (m ∷ []) t.server t.client h.joined (listed true (m ∷ []) t.server.sent a t.server.taken b h.said_server h.took_server are) h.open_client h.waits_server short in
     let wrote = after_calls true (m ∷ []) t.server in
     let y = delivered (unsent_of wrote.backend) t.client in
-    let any = takes_any true (flushed wrote) y no_piece no_piece t.server.sent [] m there h.open_client refl refl refl (ap length h.said_server ∙ all ∙ ap length (sym h.took_client)) in
+    let any = takes_any true (flushed wrote) y no_piece no_piece t.server.sent [] m there (record { opened = h.open_client; none = refl; unsent = refl }) refl (ap length h.said_server ∙ all ∙ ap length (sym h.took_client)) in
     record {
       joined = reads_keep 1 true (flushed wrote) y no_piece no_piece there;
       sent = ap (λ (l : List Sent). m ∷ l) h.said_server;

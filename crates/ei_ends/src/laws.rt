@@ -18,11 +18,11 @@ ghost use Rattle.ei_ends.specs.Sent.{other, Sent, Got, Took, Missed, New, new_of
 ghost use Rattle.ei_ends.specs.Announced.{next_own};
 ghost use Rattle.ei_ends.specs.Agree.{oldest, handles_sent, handles_got, IsTaken, Agree, KeepsHandles, AllEqual, NeedNoHandles, all_got};
 ghost use Rattle.ei_ends.specs.Way.{End, alive, onto};
-ghost use Rattle.ei_ends.specs.Steps.{behind, no_piece, called, with_sent, after_call, after_calls, flushed, delivered, closed_end, with_taken, stored, after_read, after_reads, ringed, roomy, IsPiece, handed, left_over};
-ghost use Rattle.ei_ends.specs.Joined.{new_end, Joined, IsCallOf, AgreeSoFar, AreCalls, AreListedCalls, ArePlain, IsSame};
+ghost use Rattle.ei_ends.specs.Steps.{called, with_sent, after_call, after_calls, after_read, after_reads, with_taken, stored};
+ghost use Rattle.ei_ends.specs.Steps.{behind, no_piece, flushed, delivered, closed_end, ringed, roomy, IsPiece, handed, left_over};
+ghost use Rattle.ei_ends.specs.Joined.{new_end, Joined, IsCallOf, AgreeSoFar, AllDelivered, AreCalls, AreListedCalls, ArePlain, IsSame};
 
-/// Two new ends are joined, and each step keeps them so, whichever end makes it. What a refused call, a read of
-/// nothing and the ring of unread bytes leave is the same in all that matters.
+/// Two new ends are joined, and each step keeps them so, whichever end makes it.
 pub fn steps()
     ensures begins { (events : Bool) → Joined events (new_end (other events)) (new_end events) no_piece no_piece }
     ensures turned { (events : Bool) (x y : End) (to_y to_x : Piece) → Joined events x y to_y to_x → Joined (other events) y x to_x to_y }
@@ -102,8 +102,8 @@ pub fn ends()
     ensures few_handles { (events : Bool) (x y : End) (to_y to_x p left : Piece) → Joined events x y to_y to_x → y.backend.closed ≡ false →
         IsPiece p left to_y → length (handles_sent x.sent) ≤ 4096 → length y.backend.handles + length p.handles ≤ 4096 }
     // where nothing is on its way any more, all was taken
-    ensures all { (events : Bool) (x y : End) (to_y to_x : Piece) → Joined events x y to_y to_x → y.backend.closed ≡ false →
-        to_y.bytes ≡ [] → x.backend.unsent ≡ [] → next events y.backend ≡ (Waits, y.backend) → length y.taken ≡ length x.sent }
+    ensures all { (events : Bool) (x y : End) (to_y to_x : Piece) → Joined events x y to_y to_x → AllDelivered x y to_y →
+        next events y.backend ≡ (Waits, y.backend) → length y.taken ≡ length x.sent }
     // an object that is at both ends is the same, but for the side
     ensures same { (events : Bool) (x y : End) (to_y to_x : Piece) (id : ℕ) (o p : ObjectView) → Joined events x y to_y to_x →
         found x.backend.table id ≡ Some o → found y.backend.table id ≡ Some p → IsSame o p }
@@ -120,9 +120,9 @@ pub fn by_the_lists()
     ensures next_id { (events : Bool) (x y : End) (to_y to_x : Piece) → Joined events x y to_y to_x → x.backend.table.next_own ≡ next_own events x.sent }
     ensures objects { (events : Bool) (x y : End) (to_y to_x : Piece) (id : ℕ) → Joined events x y to_y to_x →
         found y.backend.table id ≡ alive events y.sent (oldest (length y.taken) x.sent) y.taken id }
-    // `past` was taken, and all of `ms` that is behind it was delivered
-    ensures takes { (events : Bool) (x y : End) (to_y to_x : Piece) (past ms : List Sent) → Joined events x y to_y to_x → y.backend.closed ≡ false →
-        to_y.bytes ≡ [] → x.backend.unsent ≡ [] → x.sent ≡ onto ms past → length past ≡ length y.taken → NeedNoHandles events y.sent past y.taken ms →
+    // `past` was taken, and `ms` behind it is there
+    ensures takes { (events : Bool) (x y : End) (to_y to_x : Piece) (past ms : List Sent) → Joined events x y to_y to_x → AllDelivered x y to_y →
+        x.sent ≡ onto ms past → length past ≡ length y.taken → NeedNoHandles events y.sent past y.taken ms →
         (after_reads (length ms) events y).taken ≡ all_got events y.sent past y.taken ms }
     ensures waits { (events : Bool) (x y : End) (to_y to_x : Piece) → Joined events x y to_y to_x → length y.taken ≡ length x.sent →
         next events y.backend ≡ (Waits, y.backend) }

@@ -2,18 +2,19 @@
 
 ghost use Rattle.std.specs.Prelude.{◌≡◌, true, [], ◌∷◌};
 ghost use Rattle.ei_spec.specs.declared.handle.Handle.{Handle};
-ghost use Rattle.ei_spec.specs.Message.{bytes_of};
 ghost use Rattle.ei_ends.specs.Sent.{Took, Missed};
 ghost use Rattle.ei_ends.specs.Steps.{no_piece};
 ghost use Rattle.ei_ends.specs.Joined.{Joined, AreListedCalls};
-ghost use Rattle.ei_ends.specs.Worked.{talk_answered, talk_ended, talk_keyboard, talk_keymap, talk_keymaps, connection, sync, done, disconnect, seat, device, keyboard, keymap};
+ghost use Rattle.ei_ends.specs.Worked.{talk_answered, talk_ended, talk_keyboard, talk_keymap, talk_keymaps};
+ghost use Rattle.ei_ends.specs.Worked.{connection, sync, done, disconnect, seat, device, keyboard, keymap};
 
 /// A server hands over the connection and answers a sync. Then the client ends the connection, of which the server
 /// hasn't heard, and takes neither the seat that the server announces there nor the seat's device.
 pub fn an_ended_connection()
     ensures answered { talk_answered.client.taken ≡ Took done 1 ∷ Took connection 0 ∷ [] }
     ensures answered_joined { Joined true talk_answered.server talk_answered.client no_piece no_piece }
-    ensures may_announce { AreListedCalls true (seat 0xff00000000000001 ∷ device 0xff00000000000001 0xff00000000000002 ∷ []) (done ∷ connection ∷ []) (Took sync 1 ∷ []) }
+    ensures may_announce { AreListedCalls true (seat 0xff00000000000001 ∷ device 0xff00000000000001 0xff00000000000002 ∷ [])
+        (done ∷ connection ∷ []) (Took sync 1 ∷ []) }
     ensures server_sent { talk_ended.server.sent ≡ device 0xff00000000000001 0xff00000000000002 ∷ seat 0xff00000000000001 ∷ done ∷ connection ∷ [] }
     ensures server_taken { talk_ended.server.taken ≡ Took sync 1 ∷ [] }
     ensures client_sent { talk_ended.client.sent ≡ disconnect ∷ sync ∷ [] }

@@ -7,6 +7,6 @@ returns c = record {
   may_send = are_calls;
   next_id = next_id_is;
   objects = objects_are;
-  takes = λ events x y to_y to_x past ms j opened none sent is long handles. (takes_as_listed events x y to_y to_x past ms j opened none sent is long handles).taken;
+  takes = λ events x y to_y to_x past ms j all is long handles. (takes_as_listed events x y to_y to_x past ms j all is long handles).taken;
   waits = waits_for_more;
 }
