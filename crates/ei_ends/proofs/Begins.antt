@@ -7,7 +7,7 @@ use Rattle.ei_backend.specs.Table.{found, new_table, first_object, own_start}
 use Rattle.ei_backend.proofs.Objects.{get_with}
 use Rattle.ei_ends.specs.Sent.{other}
 use Rattle.ei_ends.specs.Announced.{announced, destroyed, next_own}
-use Rattle.ei_ends.specs.Agree.{handles_sent, handles_got, Agree}
+use Rattle.ei_ends.specs.Agree.{handles_sent, handles_got, Agree, AreTimes}
 use Rattle.ei_ends.specs.Way.{gone, AllSent, alive, needed, Way, Cut, Tied}
 use Rattle.ei_ends.specs.Steps.{no_piece}
 use Rattle.ei_ends.specs.Joined.{new_end}
@@ -24,16 +24,18 @@ start_objects client id = get_with empty 0 id (first_object client) ∙ elim (eq
 ]
 
 start_way : (events : Bool) → Way events [] no_piece no_piece [] (new_end events).backend [] [] [] no_piece
-unfolding Agree handles_sent handles_got next_own needed
+unfolding Agree AreTimes handles_sent handles_got next_own needed
 start_way true = record {
   sent_is = refl;
   agree = tt;
+  times = tt;
   flows = record { bytes = refl; handles = refl; open_bytes = λ c. refl; open_handles = λ c. refl; in_time = omega arith; in_time_waiting = λ c. omega arith };
   objects = record { client_is = refl; objects = start_objects true; next = refl; ends = omega arith; peer = omega arith };
 }
 start_way false = record {
   sent_is = refl;
   agree = tt;
+  times = tt;
   flows = record { bytes = refl; handles = refl; open_bytes = λ c. refl; open_handles = λ c. refl; in_time = omega arith; in_time_waiting = λ c. omega arith };
   objects = record { client_is = refl; objects = start_objects false; next = refl; ends = omega arith; peer = omega arith };
 }

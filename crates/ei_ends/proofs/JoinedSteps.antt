@@ -15,7 +15,7 @@ use Rattle.ei_spec.specs.Message.{all_bytes}
 use Rattle.ei_backend.specs.Backend.{BackendView, Answer, Waits, Refused, Gone, Message, next, unsent_of, after_row, after_new, sent, sent_new, removed}
 use Rattle.ei_ends.specs.Sent.{other, Sent, Got, Took, Missed, New, new_by, new_in, new_of, row_of, destroys, ends_target, bytes_in, handles_in, raw_of}
 use Rattle.ei_ends.specs.Announced.{next_own}
-use Rattle.ei_ends.specs.Agree.{oldest, handles_sent, KeepsHandles, AllEqual, handles_got}
+use Rattle.ei_ends.specs.Agree.{oldest, handles_sent, KeepsHandles, AllEqual, handles_got, AreTimes}
 use Rattle.ei_ends.specs.Way.{HasNextId, MaySend, End, Cut, Tied, alive}
 use Rattle.ei_ends.specs.Steps.{behind, no_piece, table_after, table_with, called, after_call, flushed, delivered, closed_end, with_taken, ringed, roomy, IsPiece, stored, after_calls, with_sent, having_read, having_answered, after_read, handed, left_over}
 use Rattle.ei_ends.specs.Joined.{new_end, Joined, AllDelivered, IsCallOf, AgreeSoFar, AreCalls, ArePlain}
@@ -167,6 +167,10 @@ all_of_it events x y to_y to_x j all w = all_taken events x y to_y to_x j.there 
 pub few_handles : (events : Bool) (x y : End) (to_y to_x p left : Piece) → Joined events x y to_y to_x → y.backend.closed ≡ false → IsPiece p left to_y → length (handles_sent x.sent) ≤ 4096 → length y.backend.handles + length p.handles ≤ 4096
 few_handles events x y to_y to_x p left j opened is few = no_limit events x y to_y to_x p left j.there j.back j.tied opened is few
 
+-- when it was taken
+pub times_are : (events : Bool) (x y : End) (to_y to_x : Piece) → Joined events x y to_y to_x → AreTimes (length y.sent) y.taken
+times_are events x y to_y to_x j = j.tied.there.times
+
 -- the handles that were taken are the first that were sent
 pub handles_in_order : (events : Bool) (x y : End) (to_y to_x : Piece) → Joined events x y to_y to_x → (rest : List Handle) × (handles_sent x.sent ≡ handles_got y.taken ++ rest)
 handles_in_order events x y to_y to_x j = (y.backend.handles ++ j.there.rest.handles, sym j.tied.there.flows.handles)
@@ -275,8 +279,8 @@ ring events x y to_y to_x capacity j =
       there = j.there;
       back = j.back;
       tied = record {
-        there = record { sent_is = h.there.sent_is; agree = h.there.agree; flows = h.there.flows; objects = h.there.objects };
-        back = record { sent_is = h.back.sent_is; agree = h.back.agree; flows = h.back.flows; objects = h.back.objects };
+        there = record { sent_is = h.there.sent_is; agree = h.there.agree; times = h.there.times; flows = h.there.flows; objects = h.there.objects };
+        back = record { sent_is = h.back.sent_is; agree = h.back.agree; times = h.back.times; flows = h.back.flows; objects = h.back.objects };
         says = h.says;
         answers = h.answers;
       };
@@ -291,8 +295,8 @@ room events x y to_y to_x bytes handles objects j =
       there = j.there;
       back = j.back;
       tied = record {
-        there = record { sent_is = h.there.sent_is; agree = h.there.agree; flows = h.there.flows; objects = record { client_is = o.client_is; objects = o.objects; next = o.next; ends = o.ends; peer = o.peer } };
-        back = record { sent_is = h.back.sent_is; agree = h.back.agree; flows = h.back.flows; objects = h.back.objects };
+        there = record { sent_is = h.there.sent_is; agree = h.there.agree; times = h.there.times; flows = h.there.flows; objects = record { client_is = o.client_is; objects = o.objects; next = o.next; ends = o.ends; peer = o.peer } };
+        back = record { sent_is = h.back.sent_is; agree = h.back.agree; times = h.back.times; flows = h.back.flows; objects = h.back.objects };
         says = h.says;
         answers = h.answers;
       };

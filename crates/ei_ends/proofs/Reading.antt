@@ -23,7 +23,7 @@ use Rattle.ei_spec.proofs.Cuts.{cut_short, front_none}
 use Rattle.ei_ends.proofs.Keeping.{ranges}
 use Rattle.ei_ends.proofs.Known.{Rising, rising_onto, Apart, new_unheard, next_more, next_onto, all_sent_more, all_sent_onto}
 use Rattle.ei_ends.proofs.Objects.{Hears, took_keeps, missed_keeps}
-use Rattle.ei_ends.proofs.Agreeing.{agree_next, known_across, dropped_now}
+use Rattle.ei_ends.proofs.Agreeing.{agree_next, times_next, known_across, dropped_now}
 use Rattle.ei_ends.proofs.Refilled.{Refilled, refilled, bare_same}
 use Rattle.ei_ends.proofs.InTime.{needed_fits, bytes_length}
 use Rattle.ei_spec.proofs.RowHandles.{new_or_handle}
@@ -135,6 +135,7 @@ missed events x y to_y to_x rest past ms cy m left h bytes out =
         there = record {
           sent_is = h.there.sent_is;
           agree = agree_next events y.sent past y.taken m (Missed m.target (length y.sent)) (omega arith, dropped_now events y.sent past y.taken m.target h.there.agree ∙ out, refl) h.there.agree;
+          times = times_next (length y.sent) (Missed m.target (length y.sent)) y.taken refl h.there.times;
           flows = missed_flows b.closed (unread_of b) to_y (unsent_of x.backend) x.sent ms y.taken rest m m.target (length y.sent) left bytes h.there.flows;
           objects = missed_keeps events m m.target (length y.sent) y.sent past y.taken b.table h.there.objects may.fresh (λ n e. new_unheard events past y.sent near (next_below events m ms past x.sent y.sent n r h.there.sent_is e));
         };
@@ -180,6 +181,7 @@ took events x y to_y to_x rest past ms cy m left h bytes in_table =
         there = record {
           sent_is = h.there.sent_is;
           agree = agree_next events y.sent past y.taken m (Took read (length y.sent)) (omega arith, dropped_now events y.sent past y.taken m.target h.there.agree ∙ in_table, record { target = refl; interface = refl; version = refl; opcode = refl; values = re.alike }) h.there.agree;
+          times = times_next (length y.sent) (Took read (length y.sent)) y.taken refl h.there.times;
           flows = took_flows b.closed (unread_of b) to_y (unsent_of x.backend) x.sent ms y.taken rest m read (length y.sent) (record { bytes = left; handles = re.more }) bytes re.handles re.count h.there.flows;
           objects = took_keeps events m read (length y.sent) y.sent past y.taken b.table heard.0 h.there.objects h.answers may.fresh (λ n e. new_unheard events past y.sent near (next_below events m ms past x.sent y.sent n r h.there.sent_is e)) heard.1;
         };

@@ -19,6 +19,11 @@ after_of (Missed id after) = after
 abbrev pub afters : List Got → List ℕ
 afters gots = map after_of gots
 
+-- an end had sent no fewer messages when it took one than when it took the one before, and has sent this many now
+unfoldable pub AreTimes : ℕ → List Got → Type 0
+AreTimes now [] = Unit {0}
+AreTimes now (g ∷ gots) = (after_of g ≤ now) × AreTimes (after_of g) gots
+
 -- Whether the message that announced the object of that id was itself dropped: the reader had destroyed its target by one
 -- of the first so many that it sent (`own`), or the message that announced that target was dropped.
 unfoldable pub lost : Bool → List Sent → List Sent → List ℕ → ℕ → Bool

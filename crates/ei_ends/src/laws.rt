@@ -16,7 +16,7 @@ ghost use Rattle.ei_backend.specs.Table.{found};
 ghost use Rattle.ei_backend.specs.Backend.{BackendView, Waits, Refused, Gone, Message, next, unsent_of, sent, sent_new, removed, after_row, after_new};
 ghost use Rattle.ei_ends.specs.Sent.{other, Sent, Got, Took, Missed, New, new_of, row_of, raw_of};
 ghost use Rattle.ei_ends.specs.Announced.{next_own};
-ghost use Rattle.ei_ends.specs.Agree.{oldest, handles_sent, handles_got, IsTaken, Agree, KeepsHandles, AllEqual, NeedNoHandles, all_got};
+ghost use Rattle.ei_ends.specs.Agree.{oldest, handles_sent, handles_got, IsTaken, Agree, AreTimes, KeepsHandles, AllEqual, NeedNoHandles, all_got};
 ghost use Rattle.ei_ends.specs.Way.{End, alive, onto};
 ghost use Rattle.ei_ends.specs.Steps.{called, with_sent, after_call, after_calls, after_read, after_reads, with_taken, stored};
 ghost use Rattle.ei_ends.specs.Steps.{behind, no_piece, flushed, delivered, closed_end, ringed, roomy, IsPiece, handed, left_over};
@@ -92,6 +92,7 @@ pub fn ends()
     ensures agrees { (events : Bool) (x y : End) (to_y to_x : Piece) → Joined events x y to_y to_x → AgreeSoFar events x y }
     ensures each { (events : Bool) (own a b : List Sent) (m : Sent) (c d : List Got) (g : Got) → length a ≡ length c →
         Agree events own (a ++ (m ∷ b)) (c ++ (g ∷ d)) → IsTaken events own b d m g × Agree events own b d }
+    ensures times { (events : Bool) (x y : End) (to_y to_x : Piece) → Joined events x y to_y to_x → AreTimes (length y.sent) y.taken }
     ensures never_refused { (events : Bool) (x y : End) (to_y to_x : Piece) (f : Fault) (b : BackendView) →
         Joined events x y to_y to_x → next events y.backend ≡ (Refused f, b) → ⊥ }
     // handles come in their order, and with their message up to where a message with a handle was dropped

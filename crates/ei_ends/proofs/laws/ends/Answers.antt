@@ -1,5 +1,5 @@
 use Rattle.ei_ends.proofs.EqualHandles.{each_one}
-use Rattle.ei_ends.proofs.JoinedSteps.{agrees, never_refused, handles_in_order, equal, few_handles, all_of_it}
+use Rattle.ei_ends.proofs.JoinedSteps.{agrees, times_are, never_refused, handles_in_order, equal, few_handles, all_of_it}
 use Rattle.ei_ends.proofs.Same.{same_object}
 use Rattle.ei_ends.proofs.Answered.{answered}
 use Rattle.ei_ends.proofs.laws.ends.Goals as goal
@@ -8,6 +8,7 @@ pub returns : goal.returns
 returns c = record {
   agrees = agrees;
   each = each_one;
+  times = times_are;
   never_refused = never_refused;
   handles = handles_in_order;
   equal = equal;
