@@ -1,9 +1,9 @@
 -- What was taken still agrees, and what is known at one end is known at the other.
-use Rattle.std.proofs.Common.{◌≡◌, ℕ, suc, ◌≤◌, Bool, true, false, ◌||◌, ◌&&◌, inl, inr, List, [], ◌∷◌, length, drop, Some, None, refl, ap, ◌∙◌, arith}
+use Rattle.std.proofs.Common.{◌≡◌, ℕ, suc, ◌≤◌, Bool, true, false, ◌||◌, ◌&&◌, inl, inr, List, [], ◌∷◌, length, drop, Some, None, refl, ap, ◌∙◌, arith, subst, sym}
 use Rattle.std.specs.Prelude.{◌-◌}
 use Rattle.ei_ends.specs.Sent.{other, Sent, Got, Took, Missed, New, new_of}
 use Rattle.ei_ends.specs.Announced.{announced, destroyed, first, known_by, is_named}
-use Rattle.ei_ends.specs.Agree.{oldest, IsTaken, Agree, lost, afters, dropped}
+use Rattle.ei_ends.specs.Agree.{oldest, IsTaken, Agree, lost, afters, dropped, after_of, AreTimes}
 use Rattle.ei_ends.specs.Way.{gone, onto}
 use Rattle.ei_ends.proofs.Known.{or_else_some, or_else_first, announced_onto, Apart, apart}
 
@@ -78,6 +78,17 @@ agree_length events own [] [] h = refl
 agree_length events own [] (g ∷ gots) h = absurd h
 agree_length events own (m ∷ past) [] h = absurd h
 agree_length events own (m ∷ past) (g ∷ gots) h = omega (arith, agree_length events own past gots h.1)
+
+-- ---- when it was taken
+
+pub times_more : (now : ℕ) (gots : List Got) → AreTimes now gots → AreTimes (suc now) gots
+unfolding AreTimes
+times_more now [] h = tt
+times_more now (g ∷ gots) h = (omega (arith, h.0), h.1)
+
+pub times_next : (now : ℕ) (g : Got) (gots : List Got) → after_of g ≡ now → AreTimes now gots → AreTimes now (g ∷ gots)
+unfolding AreTimes
+times_next now g gots e h = (omega (arith, e), subst (λ n. AreTimes n gots) (sym e) h)
 
 -- ---- the target of the next message
 

@@ -1,28 +1,16 @@
 -- Two new ends are tied.
-use Rattle.std.proofs.Common.{◌≡◌, ℕ, ◌+◌, ◌≤◌, Bool, true, false, ◌⊎◌, inl, inr, List, [], ◌∷◌, ◌++◌, length, map, Option, Some, None, refl, sym, ap, subst, ◌∙◌, length-append, append_assoc, append-nil, arith}
-use Rattle.std.specs.List.{flat_map}
+use Rattle.std.proofs.Common.{◌≡◌, ℕ, Bool, true, false, inl, inr, [], refl, ◌∙◌, arith}
 use Rattle.std.specs.FinMap.{empty, get-empty}
 use Rattle.std.specs.Ordering.{nat_cmp}
 use Rattle.std.proofs.lemmas.Bool.Decides.{eqb_tells}
-use Rattle.ei_spec.specs.declared.handle.Handle.{Handle}
-use Rattle.ei_spec.specs.Value.{Value, Word, Long, Signed, SignedLong, Letters, Null, Fd, handles_of}
-use Rattle.ei_spec.specs.Message.{size}
-use Rattle.ei_spec.specs.Piece.{Piece}
 use Rattle.ei_backend.specs.Table.{found, new_table, first_object, own_start}
-use Rattle.ei_backend.specs.Backend.{BackendView, Answer, Waits, Gone, Message, next}
 use Rattle.ei_backend.proofs.Objects.{get_with}
-use Rattle.ei_ends.specs.Sent.{other, Sent, Got, Took, Missed, IsAlike, handles_in, bytes_in, raw_of, spelled, bare}
+use Rattle.ei_ends.specs.Sent.{other}
 use Rattle.ei_ends.specs.Announced.{announced, destroyed, next_own}
-use Rattle.ei_ends.specs.Agree.{handles_sent, handles_got, IsTaken, Agree, KeepsHandles, AllEqual}
-use Rattle.ei_ends.specs.Way.{gone, onto, AllSent, alive, needed, Way, End, Cut, Tied}
-use Rattle.ei_ends.specs.Steps.{no_piece, IsPiece}
+use Rattle.ei_ends.specs.Agree.{handles_sent, handles_got, Agree, AreTimes}
+use Rattle.ei_ends.specs.Way.{gone, AllSent, alive, needed, Way, Cut, Tied}
+use Rattle.ei_ends.specs.Steps.{no_piece}
 use Rattle.ei_ends.specs.Joined.{new_end}
-use Rattle.ei_ends.proofs.ReadsNext.{Misses, Takes}
-use Rattle.ei_ends.proofs.Splits.{split_long}
-use Rattle.ei_ends.proofs.InTime.{handles_onto, bytes_length}
-use Rattle.ei_ends.proofs.Flowing.{alike_handles}
-use Rattle.ei_ends.proofs.Agreeing.{agree_length}
-use Rattle.ei_ends.proofs.Reading.{reads_whole}
 
 -- nothing was sent
 abbrev pub new_cut : Cut
@@ -36,16 +24,18 @@ start_objects client id = get_with empty 0 id (first_object client) ∙ elim (eq
 ]
 
 start_way : (events : Bool) → Way events [] no_piece no_piece [] (new_end events).backend [] [] [] no_piece
-unfolding Agree handles_sent handles_got next_own needed
+unfolding Agree AreTimes handles_sent handles_got next_own needed
 start_way true = record {
   sent_is = refl;
   agree = tt;
+  times = tt;
   flows = record { bytes = refl; handles = refl; open_bytes = λ c. refl; open_handles = λ c. refl; in_time = omega arith; in_time_waiting = λ c. omega arith };
   objects = record { client_is = refl; objects = start_objects true; next = refl; ends = omega arith; peer = omega arith };
 }
 start_way false = record {
   sent_is = refl;
   agree = tt;
+  times = tt;
   flows = record { bytes = refl; handles = refl; open_bytes = λ c. refl; open_handles = λ c. refl; in_time = omega arith; in_time_waiting = λ c. omega arith };
   objects = record { client_is = refl; objects = start_objects false; next = refl; ends = omega arith; peer = omega arith };
 }

@@ -4,7 +4,7 @@ use Rattle.ei_spec.specs.declared.handle.Handle.{Handle}
 use Rattle.std.proofs.lemmas.List.{take-append-drop, length-take, length-drop}
 use Rattle.std.proofs.lemmas.Bool.{cases_lt}
 use Rattle.std.specs.Prelude.{if◌then◌else◌}
-use Rattle.std.proofs.Common.{◌≡◌, ℕ, ◌+◌, ◌≤◌, Bool, true, false, inl, inr, List, [], ◌++◌, length, Some, None, refl, sym, ap, subst, ◌∙◌, arith, append_assoc, append-nil, map, ◌∷◌, ◌⊎◌, take, drop, length-append}
+use Rattle.std.proofs.Common.{◌≡◌, ℕ, ◌+◌, ◌≤◌, Bool, true, false, inl, inr, List, [], ◌++◌, length, Some, None, refl, sym, ap, subst, ◌∙◌, arith, append_assoc, append-nil, map, ◌∷◌, ◌⊎◌, take, drop}
 use Rattle.ei_spec.specs.declared.interface.KnownInterface.{KnownInterface}
 use Rattle.ei_spec.specs.Value.{Value}
 use Rattle.ei_spec.specs.Reading.{Fault}
@@ -15,10 +15,10 @@ use Rattle.ei_spec.specs.Message.{all_bytes}
 use Rattle.ei_backend.specs.Backend.{BackendView, Answer, Waits, Refused, Gone, Message, next, unsent_of, after_row, after_new, sent, sent_new, removed}
 use Rattle.ei_ends.specs.Sent.{other, Sent, Got, Took, Missed, New, new_by, new_in, new_of, row_of, destroys, ends_target, bytes_in, handles_in, raw_of}
 use Rattle.ei_ends.specs.Announced.{next_own}
-use Rattle.ei_ends.specs.Agree.{oldest, handles_sent, KeepsHandles, AllEqual, handles_got}
+use Rattle.ei_ends.specs.Agree.{oldest, handles_sent, KeepsHandles, AllEqual, handles_got, AreTimes}
 use Rattle.ei_ends.specs.Way.{HasNextId, MaySend, End, Cut, Tied, alive}
 use Rattle.ei_ends.specs.Steps.{behind, no_piece, table_after, table_with, called, after_call, flushed, delivered, closed_end, with_taken, ringed, roomy, IsPiece, stored, after_calls, with_sent, having_read, having_answered, after_read, handed, left_over}
-use Rattle.ei_ends.specs.Joined.{new_end, Joined, IsCallOf, AgreeSoFar, AreCalls, ArePlain}
+use Rattle.ei_ends.specs.Joined.{new_end, Joined, AllDelivered, IsCallOf, AgreeSoFar, AreCalls, ArePlain}
 use Rattle.ei_ends.proofs.ReadsNext.{Misses, Takes, cut_shorter}
 use Rattle.ei_ends.proofs.Begins.{start}
 use Rattle.ei_ends.proofs.Turned.{swap}
@@ -161,11 +161,15 @@ agrees events x y to_y to_x j =
     let past = past_is events x y to_y to_x j in
     (omega (arith, l, ap length way.sent_is, onto_length j.there.flight j.there.past), rw past way.agree)
 
-pub all_of_it : (events : Bool) (x y : End) (to_y to_x : Piece) → Joined events x y to_y to_x → y.backend.closed ≡ false → to_y.bytes ≡ [] → x.backend.unsent ≡ [] → next events y.backend ≡ (Waits, y.backend) → length y.taken ≡ length x.sent
-all_of_it events x y to_y to_x j opened none sent w = all_taken events x y to_y to_x j.there j.back j.tied opened none sent w
+pub all_of_it : (events : Bool) (x y : End) (to_y to_x : Piece) → Joined events x y to_y to_x → AllDelivered x y to_y → next events y.backend ≡ (Waits, y.backend) → length y.taken ≡ length x.sent
+all_of_it events x y to_y to_x j all w = all_taken events x y to_y to_x j.there j.back j.tied all.opened all.none all.unsent w
 
 pub few_handles : (events : Bool) (x y : End) (to_y to_x p left : Piece) → Joined events x y to_y to_x → y.backend.closed ≡ false → IsPiece p left to_y → length (handles_sent x.sent) ≤ 4096 → length y.backend.handles + length p.handles ≤ 4096
 few_handles events x y to_y to_x p left j opened is few = no_limit events x y to_y to_x p left j.there j.back j.tied opened is few
+
+-- when it was taken
+pub times_are : (events : Bool) (x y : End) (to_y to_x : Piece) → Joined events x y to_y to_x → AreTimes (length y.sent) y.taken
+times_are events x y to_y to_x j = j.tied.there.times
 
 -- the handles that were taken are the first that were sent
 pub handles_in_order : (events : Bool) (x y : End) (to_y to_x : Piece) → Joined events x y to_y to_x → (rest : List Handle) × (handles_sent x.sent ≡ handles_got y.taken ++ rest)
@@ -275,8 +279,8 @@ ring events x y to_y to_x capacity j =
       there = j.there;
       back = j.back;
       tied = record {
-        there = record { sent_is = h.there.sent_is; agree = h.there.agree; flows = h.there.flows; objects = h.there.objects };
-        back = record { sent_is = h.back.sent_is; agree = h.back.agree; flows = h.back.flows; objects = h.back.objects };
+        there = record { sent_is = h.there.sent_is; agree = h.there.agree; times = h.there.times; flows = h.there.flows; objects = h.there.objects };
+        back = record { sent_is = h.back.sent_is; agree = h.back.agree; times = h.back.times; flows = h.back.flows; objects = h.back.objects };
         says = h.says;
         answers = h.answers;
       };
@@ -291,8 +295,8 @@ room events x y to_y to_x bytes handles objects j =
       there = j.there;
       back = j.back;
       tied = record {
-        there = record { sent_is = h.there.sent_is; agree = h.there.agree; flows = h.there.flows; objects = record { client_is = o.client_is; objects = o.objects; next = o.next; ends = o.ends; peer = o.peer } };
-        back = record { sent_is = h.back.sent_is; agree = h.back.agree; flows = h.back.flows; objects = h.back.objects };
+        there = record { sent_is = h.there.sent_is; agree = h.there.agree; times = h.there.times; flows = h.there.flows; objects = record { client_is = o.client_is; objects = o.objects; next = o.next; ends = o.ends; peer = o.peer } };
+        back = record { sent_is = h.back.sent_is; agree = h.back.agree; times = h.back.times; flows = h.back.flows; objects = h.back.objects };
         says = h.says;
         answers = h.answers;
       };

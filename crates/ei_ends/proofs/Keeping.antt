@@ -1,5 +1,5 @@
 -- Each step keeps what ties two ends.
-use Rattle.std.proofs.Common.{◌≡◌, ◌<◌, ◌≤◌, Bool, true, false, List, [], ◌∷◌, ◌++◌, Option, Some, None, refl, sym, ap, subst, ◌∙◌, arith}
+use Rattle.std.proofs.Common.{◌≡◌, ◌<◌, ◌≤◌, Bool, true, false, List, [], ◌∷◌, ◌++◌, Option, Some, None, refl, sym, ap, subst, ◌∙◌, arith, length}
 use Rattle.ei_spec.specs.Rows.{Row}
 use Rattle.ei_spec.specs.Piece.{Piece}
 use Rattle.ei_backend.specs.Table.{TableView, own_end, own_limit}
@@ -11,7 +11,7 @@ use Rattle.ei_ends.specs.Steps.{behind, table_after, table_with, HasId, after_ca
 use Rattle.ei_spec.specs.Arguments.{HasFewHandles}
 use Rattle.ei_ends.proofs.Known.{Rising, rising, Apart, new_unknown, next_onto, all_sent_onto, rising_onto}
 use Rattle.ei_ends.proofs.Objects.{call_keeps}
-use Rattle.ei_ends.proofs.Agreeing.{agree_more}
+use Rattle.ei_ends.proofs.Agreeing.{agree_more, times_more}
 use Rattle.ei_ends.proofs.InTime.{AllFew}
 use Rattle.ei_spec.proofs.RowHandles.{few_handles}
 use Rattle.ei_ends.proofs.Flowing.{call_flows, flush_flows, deliver_flows, close_flows}
@@ -90,12 +90,14 @@ call_step events m x y to_y to_x cx cy h may id = record {
   there = record {
     sent_is = ap (λ l. m ∷ l) h.there.sent_is ∙ sym (onto_more cx.flight cx.past m);
     agree = h.there.agree;
+    times = h.there.times;
     flows = call_flows y.backend.closed (unread_of y.backend) to_y (unsent_of x.backend) x.sent cx.flight y.taken cx.rest m h.there.flows;
     objects = h.there.objects;
   };
   back = record {
     sent_is = h.back.sent_is;
     agree = agree_more (other events) m x.sent cy.past x.taken h.back.agree;
+    times = times_more (length x.sent) x.taken h.back.times;
     flows = h.back.flows;
     objects = call_objects events m x x.sent cy.past x.taken h.back.objects h.says (ranges_back events x y to_y to_x cx cy h) may.fresh id;
   };
@@ -110,10 +112,11 @@ flush_step events x y to_y to_x cx cy h = record {
   there = record {
     sent_is = h.there.sent_is;
     agree = h.there.agree;
+    times = h.there.times;
     flows = flush_flows events y.backend.closed (unread_of y.backend) to_y (unsent_of x.backend) y.sent x.sent cx.past cx.flight y.taken cx.rest h.there.agree h.there.sent_is h.there.flows;
     objects = h.there.objects;
   };
-  back = record { sent_is = h.back.sent_is; agree = h.back.agree; flows = h.back.flows; objects = h.back.objects };
+  back = record { sent_is = h.back.sent_is; agree = h.back.agree; times = h.back.times; flows = h.back.flows; objects = h.back.objects };
   says = h.says;
   answers = h.answers;
 }
@@ -140,10 +143,11 @@ deliver_step events x y to_y to_x p left cx cy h opened is =
       there = record {
         sent_is = h.there.sent_is;
         agree = h.there.agree;
+        times = h.there.times;
         flows = rw opened (deliver_flows (unread_of y.backend) to_y (unsent_of x.backend) x.sent cx.flight y.taken cx.rest p left few is flows);
         objects = h.there.objects;
       };
-      back = record { sent_is = h.back.sent_is; agree = h.back.agree; flows = h.back.flows; objects = h.back.objects };
+      back = record { sent_is = h.back.sent_is; agree = h.back.agree; times = h.back.times; flows = h.back.flows; objects = h.back.objects };
       says = h.says;
       answers = h.answers;
     }
@@ -154,10 +158,11 @@ close_step events x y to_y to_x left cx cy h = record {
   there = record {
     sent_is = h.there.sent_is;
     agree = h.there.agree;
+    times = h.there.times;
     flows = close_flows y.backend.closed (unread_of y.backend) to_y (unsent_of x.backend) x.sent cx.flight y.taken cx.rest left h.there.flows;
     objects = h.there.objects;
   };
-  back = record { sent_is = h.back.sent_is; agree = h.back.agree; flows = h.back.flows; objects = h.back.objects };
+  back = record { sent_is = h.back.sent_is; agree = h.back.agree; times = h.back.times; flows = h.back.flows; objects = h.back.objects };
   says = h.says;
   answers = h.answers;
 }

@@ -17,3 +17,6 @@ pub mod JoinedSteps
 pub mod Answered
 pub mod Same
 pub mod ReadingAll
+pub mod Talking
+pub mod EndedConnection
+pub mod DroppedHandle

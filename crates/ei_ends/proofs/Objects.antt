@@ -2,8 +2,8 @@
 use Rattle.std.proofs.Common.{◌≡◌, ℕ, ◌+◌, ◌≤◌, Bool, true, false, cond, ◌&&◌, ◌||◌, eqb, inl, inr, List, [], ◌∷◌, Option, Some, None, Ok, refl, sym, ap, subst, ◌∙◌, arith}
 use Rattle.std.proofs.lemmas.Bool.{eqb-true, ne_eqb, or_cases, false_from_ne_true}
 use Rattle.std.proofs.lemmas.Bool.Decides.{eqb_tells}
-use Rattle.ei_spec.specs.Interface.{Interface, ObjectView}
-use Rattle.ei_backend.specs.Table.{TableView, found, own as own_object, own_end, with_own, without, accept}
+use Rattle.ei_spec.specs.Interface.{ObjectView}
+use Rattle.ei_backend.specs.Table.{TableView, found, own as own_object, own_end, accept}
 use Rattle.ei_backend.proofs.Objects.{get_with}
 use Rattle.ei_backend.proofs.FoundAfter.{found_own, found_without}
 use Rattle.ei_backend.proofs.GivenOnce.{accepted_is}

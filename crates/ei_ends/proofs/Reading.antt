@@ -1,22 +1,18 @@
 -- What the next message is, and that taking it keeps what ties two ends.
-use Rattle.std.proofs.Common.{◌≡◌, ℕ, ◌+◌, ◌<◌, ◌≤◌, Bool, true, false, ◌||◌, ◌⊎◌, inl, inr, List, [], ◌∷◌, ◌++◌, length, drop, map, Option, Some, None, Ok, refl, sym, ap, subst, ◌∙◌, length-append, arith}
+use Rattle.std.proofs.Common.{◌≡◌, ℕ, ◌<◌, ◌≤◌, Bool, true, false, ◌||◌, ◌⊎◌, inl, inr, List, [], ◌∷◌, ◌++◌, length, map, Option, Some, None, Ok, refl, sym, ap, subst, ◌∙◌, length-append, arith}
 use Rattle.std.specs.List.{flat_map}
-use Rattle.std.specs.FinMap.{insert}
-use Rattle.std.proofs.lemmas.Bool.{le-ltb, lt-leb, cases_lt, cases_Bool}
-use Rattle.std.proofs.Math.Seq.{drop-append_seam}
-use Rattle.ei_spec.specs.declared.handle.Handle.{Handle}
+use Rattle.std.proofs.lemmas.Bool.{cases_lt, cases_Bool}
 use Rattle.ei_spec.specs.Value.{Kind, Value, written, handles_of}
 use Rattle.ei_spec.specs.Interface.{Known, ObjectView}
-use Rattle.ei_spec.specs.Rows.{Row, Announces, Nothing, Fixed, Named, row_at}
-use Rattle.ei_spec.specs.Table.{table}
+use Rattle.ei_spec.specs.Rows.{Row, Announces, Nothing, Fixed, Named}
 use Rattle.ei_spec.specs.Message.{Raw, IsLawful, message, bytes_of, size, Short, front}
 use Rattle.ei_spec.specs.Piece.{Piece}
-use Rattle.ei_backend.specs.Table.{TableView, accept, found, own_limit, peer_end}
+use Rattle.ei_backend.specs.Table.{TableView, found, own_limit, peer_end}
 use Rattle.ei_backend.specs.Message.{announce, with_new}
 use Rattle.ei_backend.specs.Step.{reading}
 use Rattle.ei_backend.proofs.FoundAfter.{accepts}
 use Rattle.ei_backend.proofs.NextIs.{reads as next_reads, gone as next_gone, waits as next_waits}
-use Rattle.ei_backend.specs.Backend.{BackendView, Waits, Gone, Message, next, unsent_of}
+use Rattle.ei_backend.specs.Backend.{BackendView, Gone, Message, next, unsent_of}
 use Rattle.ei_ends.specs.Sent.{other, Sent, Took, Missed, New, new_by, new_in, new_of, row_of, IsCall, handles_in, bytes_in, raw_of, spelled, bare}
 use Rattle.ei_ends.specs.Announced.{destroyed, next_own, counts}
 use Rattle.ei_ends.specs.Way.{gone, onto, HasNextId, MaySend, AllSent, needed, Way, End, Cut, Tied, unread_of}
@@ -27,7 +23,7 @@ use Rattle.ei_spec.proofs.Cuts.{cut_short, front_none}
 use Rattle.ei_ends.proofs.Keeping.{ranges}
 use Rattle.ei_ends.proofs.Known.{Rising, rising_onto, Apart, new_unheard, next_more, next_onto, all_sent_more, all_sent_onto}
 use Rattle.ei_ends.proofs.Objects.{Hears, took_keeps, missed_keeps}
-use Rattle.ei_ends.proofs.Agreeing.{agree_next, known_across, dropped_now}
+use Rattle.ei_ends.proofs.Agreeing.{agree_next, times_next, known_across, dropped_now}
 use Rattle.ei_ends.proofs.Refilled.{Refilled, refilled, bare_same}
 use Rattle.ei_ends.proofs.InTime.{needed_fits, bytes_length}
 use Rattle.ei_spec.proofs.RowHandles.{new_or_handle}
@@ -139,6 +135,7 @@ missed events x y to_y to_x rest past ms cy m left h bytes out =
         there = record {
           sent_is = h.there.sent_is;
           agree = agree_next events y.sent past y.taken m (Missed m.target (length y.sent)) (omega arith, dropped_now events y.sent past y.taken m.target h.there.agree ∙ out, refl) h.there.agree;
+          times = times_next (length y.sent) (Missed m.target (length y.sent)) y.taken refl h.there.times;
           flows = missed_flows b.closed (unread_of b) to_y (unsent_of x.backend) x.sent ms y.taken rest m m.target (length y.sent) left bytes h.there.flows;
           objects = missed_keeps events m m.target (length y.sent) y.sent past y.taken b.table h.there.objects may.fresh (λ n e. new_unheard events past y.sent near (next_below events m ms past x.sent y.sent n r h.there.sent_is e));
         };
@@ -184,6 +181,7 @@ took events x y to_y to_x rest past ms cy m left h bytes in_table =
         there = record {
           sent_is = h.there.sent_is;
           agree = agree_next events y.sent past y.taken m (Took read (length y.sent)) (omega arith, dropped_now events y.sent past y.taken m.target h.there.agree ∙ in_table, record { target = refl; interface = refl; version = refl; opcode = refl; values = re.alike }) h.there.agree;
+          times = times_next (length y.sent) (Took read (length y.sent)) y.taken refl h.there.times;
           flows = took_flows b.closed (unread_of b) to_y (unsent_of x.backend) x.sent ms y.taken rest m read (length y.sent) (record { bytes = left; handles = re.more }) bytes re.handles re.count h.there.flows;
           objects = took_keeps events m read (length y.sent) y.sent past y.taken b.table heard.0 h.there.objects h.answers may.fresh (λ n e. new_unheard events past y.sent near (next_below events m ms past x.sent y.sent n r h.there.sent_is e)) heard.1;
         };

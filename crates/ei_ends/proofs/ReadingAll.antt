@@ -1,24 +1,23 @@
 -- What is taken once all was delivered, and what an end may send, by the lists alone.
-use Rattle.std.proofs.Common.{◌≡◌, ℕ, suc, ◌+◌, ◌<◌, ◌≤◌, Bool, true, false, cond, inl, inr, List, [], ◌∷◌, ◌++◌, length, Option, Some, None, refl, sym, ap, subst, ◌∙◌, append_assoc, append-nil, length-append, arith}
-use Rattle.std.specs.List.{flat_map}
+use Rattle.std.proofs.Common.{◌≡◌, ℕ, ◌+◌, ◌≤◌, Bool, true, false, ◌⊎◌, inl, inr, List, [], ◌∷◌, ◌++◌, length, Option, Some, None, refl, sym, ap, subst, ◌∙◌, append-nil, length-append, arith}
 use Rattle.ei_spec.specs.Interface.{ObjectView, Known}
 use Rattle.ei_spec.specs.Rows.{Row}
 use Rattle.ei_spec.specs.Message.{Raw, Front, Short, Unlawful, Whole, front, size}
 use Rattle.ei_spec.specs.Piece.{Piece}
 use Rattle.ei_backend.specs.Table.{TableView, found, own_end, own_limit}
-use Rattle.ei_backend.specs.Backend.{BackendView, Gone, Message, of_target, of_front, next}
+use Rattle.ei_backend.specs.Backend.{BackendView, Waits, Gone, Message, of_target, of_front, next}
 use Rattle.ei_ends.specs.Sent.{other, Sent, Got, Took, Missed, New, new_of, raw_of, bytes_in, handles_in, spelled}
 use Rattle.ei_ends.specs.Announced.{counts, next_own}
-use Rattle.ei_ends.specs.Agree.{Agree, oldest, next_got, all_got, HaveNoHandles}
+use Rattle.ei_ends.specs.Agree.{Agree, oldest, next_got, all_got, after_of, IsTaken, NeedNoHandles, afters, dropped}
 use Rattle.ei_ends.specs.Way.{onto, HasNextId, End, Cut, Tied}
-use Rattle.ei_ends.specs.Steps.{HasId, after_call, after_calls, with_taken, stored, after_read, after_reads}
-use Rattle.ei_ends.specs.Joined.{Joined, IsCallOf, IsListedCall, AreCalls, AreListedCalls}
+use Rattle.ei_ends.specs.Steps.{HasId, after_call, with_taken, stored, after_read, after_reads}
+use Rattle.ei_ends.specs.Joined.{AllDelivered, Joined, IsCallOf, IsListedCall, AreCalls, AreListedCalls}
 use Rattle.ei_ends.proofs.Known.{next_more}
-use Rattle.ei_ends.proofs.Agreeing.{twice}
+use Rattle.ei_ends.proofs.Agreeing.{twice, agree_length}
 use Rattle.ei_ends.proofs.InTime.{bytes_length}
 use Rattle.ei_ends.proofs.Flowing.{alike_handles}
 use Rattle.ei_ends.proofs.ReadsNext.{Misses, Takes}
-use Rattle.ei_ends.proofs.Reading.{reads_whole}
+use Rattle.ei_ends.proofs.Reading.{reads_whole, reads}
 use Rattle.ei_ends.proofs.EqualHandles.{nothing, same_message}
 use Rattle.ei_ends.proofs.Knowing.{oldest_onto, onto_length}
 use Rattle.ei_ends.proofs.JoinedSteps.{call, same_answer, same_read, past_is}
@@ -43,16 +42,10 @@ next_keeps events b = front_keeps events b (front b.unread)
 
 -- ---- one message after another
 
--- all that is on its way is unread
-record IsAllThere (x y : End) (to_y : Piece) : Type 0 where
-  opened : y.backend.closed ≡ false
-  none : to_y.bytes ≡ []
-  unsent : x.backend.unsent ≡ []
-
-still_there : (events : Bool) (x y : End) (to_y : Piece) (b : BackendView) (g : Got) → b ≡ (next events y.backend).1 → IsAllThere x y to_y → IsAllThere x (with_taken b g y) to_y
+still_there : (events : Bool) (x y : End) (to_y : Piece) (b : BackendView) (g : Got) → b ≡ (next events y.backend).1 → AllDelivered x y to_y → AllDelivered x (with_taken b g y) to_y
 still_there events x y to_y b g is h = record { opened = ap (λ (c : BackendView). c.closed) is ∙ (next_keeps events y.backend).closed ∙ h.opened; none = h.none; unsent = h.unsent }
 
-whole_there : (events : Bool) (x y : End) (to_y to_x rest : Piece) (past ms : List Sent) (cy : Cut) (m : Sent) → Tied events x y to_y to_x (record { past = past; flight = m ∷ ms; rest = rest }) cy → IsAllThere x y to_y → size (raw_of m) ≤ length y.backend.unread
+whole_there : (events : Bool) (x y : End) (to_y to_x rest : Piece) (past ms : List Sent) (cy : Cut) (m : Sent) → Tied events x y to_y to_x (record { past = past; flight = m ∷ ms; rest = rest }) cy → AllDelivered x y to_y → size (raw_of m) ≤ length y.backend.unread
 whole_there events x y to_y to_x rest past ms cy m h all =
     let flows = h.there.flows in
     let none : rest.bytes ≡ [] = flows.open_bytes all.opened ∙ ap (λ l. l ++ x.backend.unsent) all.none ∙ all.unsent in
@@ -99,24 +92,67 @@ one_took events x y to_y to_x rest past ms cy m after target is e tied =
       tied = subst (λ (g : Got). Tied events x (with_taken after g y) to_y to_x (record { past = m ∷ past; flight = ms; rest = rest }) cy) (sym got) tied;
     }
 
-takes_one : (events : Bool) (x y : End) (to_y to_x rest : Piece) (past ms : List Sent) (cy : Cut) (m : Sent) → Tied events x y to_y to_x (record { past = past; flight = m ∷ ms; rest = rest }) cy → IsAllThere x y to_y → handles_in m ≡ [] → TakesOne events x y to_y to_x past ms rest cy m
+took_plain : (events : Bool) (x y : End) (to_y to_x rest : Piece) (past ms : List Sent) (cy : Cut) (m : Sent) → handles_in m ≡ [] → Takes events x y to_y to_x (record { past = past; flight = m ∷ ms; rest = rest }) cy → TakesOne events x y to_y to_x past ms rest cy m
+took_plain events x y to_y to_x rest past ms cy m none take =
+    let same = cut_is past ms take.flight rest m take.message take.first in
+    let no_handle : handles_in take.message ≡ [] = ap (λ (k : Sent). handles_in k) same.0 ∙ none in
+    let read_none : handles_in take.read ≡ [] = nothing (handles_in take.read) (alike_handles take.read.values take.message.values take.alike.values ∙ ap length no_handle) in
+    let read : take.read ≡ m = same_message take.message take.read take.alike (read_none ∙ sym no_handle) ∙ same.0 in
+    one_took events x y to_y to_x rest past ms cy m take.after take.target (take.target_is ∙ ap (λ (k : Sent). let o : ObjectView = record { id = k.target; interface = Known k.interface; version = k.version; client_side = events } in o) read)
+    (take.next_is ∙ ap (λ (k : Sent). (Message take.target k.opcode k.values, take.after)) read)
+    (subst (λ (fs : List Sent). Tied events x (with_taken take.after (Took m (length y.sent)) y) to_y to_x (record { past = m ∷ past; flight = fs; rest = rest }) cy) same.1
+    (subst (λ (k : Sent). Tied events x (with_taken take.after (Took k (length y.sent)) y) to_y to_x (record { past = m ∷ past; flight = take.flight; rest = rest }) cy) read
+    (subst (λ (k : Sent). Tied events x (with_taken take.after (Took take.read (length y.sent)) y) to_y to_x (record { past = k ∷ past; flight = take.flight; rest = rest }) cy) same.0 take.tied)))
+
+not_dropped : (events : Bool) (x y : End) (to_y to_x rest : Piece) (past ms : List Sent) (cy : Cut) (m : Sent) → dropped events y.sent past (afters y.taken) (length y.sent) m.target ≡ true → Takes events x y to_y to_x (record { past = past; flight = m ∷ ms; rest = rest }) cy → ⊥
+unfolding Agree
+not_dropped events x y to_y to_x rest past ms cy m out take =
+    let same = cut_is past ms take.flight rest m take.message take.first in
+    let there : dropped events y.sent past (afters y.taken) (length y.sent) take.message.target ≡ false = take.tied.there.agree.0.1 in
+    let both : true ≡ false = sym out ∙ ap (λ (k : Sent). dropped events y.sent past (afters y.taken) (length y.sent) k.target) (sym same.0) ∙ there in
+    cc
+
+takes_one : (events : Bool) (x y : End) (to_y to_x rest : Piece) (past ms : List Sent) (cy : Cut) (m : Sent) → Tied events x y to_y to_x (record { past = past; flight = m ∷ ms; rest = rest }) cy → AllDelivered x y to_y → (handles_in m ≡ []) ⊎ (dropped events y.sent past (afters y.taken) (length y.sent) m.target ≡ true) → TakesOne events x y to_y to_x past ms rest cy m
 takes_one events x y to_y to_x rest past ms cy m h all none = elim (reads_whole events x y to_y to_x (record { past = past; flight = m ∷ ms; rest = rest }) cy m ms h refl (whole_there events x y to_y to_x rest past ms cy m h all)) [
   | inl miss ↦
       let same = cut_is past ms miss.flight rest m miss.message miss.first in
       one_missed events x y to_y to_x rest past ms cy m miss.after (miss.next_is ∙ ap (λ (k : Sent). (Gone k.target, miss.after)) same.0)
-        (subst (λ (fs : List Sent). Tied events x (with_taken miss.after (Missed m.target (length y.sent)) y) to_y to_x (record { past = m ∷ past; flight = fs; rest = rest }) cy) same.1
-          (subst (λ (k : Sent). Tied events x (with_taken miss.after (Missed k.target (length y.sent)) y) to_y to_x (record { past = k ∷ past; flight = miss.flight; rest = rest }) cy) same.0 miss.tied))
-  | inr take ↦
-      let same = cut_is past ms take.flight rest m take.message take.first in
-      let no_handle : handles_in take.message ≡ [] = ap (λ (k : Sent). handles_in k) same.0 ∙ none in
-      let read_none : handles_in take.read ≡ [] = nothing (handles_in take.read) (alike_handles take.read.values take.message.values take.alike.values ∙ ap length no_handle) in
-      let read : take.read ≡ m = same_message take.message take.read take.alike (read_none ∙ sym no_handle) ∙ same.0 in
-      one_took events x y to_y to_x rest past ms cy m take.after take.target (take.target_is ∙ ap (λ (k : Sent). let o : ObjectView = record { id = k.target; interface = Known k.interface; version = k.version; client_side = events } in o) read)
-        (take.next_is ∙ ap (λ (k : Sent). (Message take.target k.opcode k.values, take.after)) read)
-        (subst (λ (fs : List Sent). Tied events x (with_taken take.after (Took m (length y.sent)) y) to_y to_x (record { past = m ∷ past; flight = fs; rest = rest }) cy) same.1
-          (subst (λ (k : Sent). Tied events x (with_taken take.after (Took k (length y.sent)) y) to_y to_x (record { past = m ∷ past; flight = take.flight; rest = rest }) cy) read
-            (subst (λ (k : Sent). Tied events x (with_taken take.after (Took take.read (length y.sent)) y) to_y to_x (record { past = k ∷ past; flight = take.flight; rest = rest }) cy) same.0 take.tied)))
+      (subst (λ (fs : List Sent). Tied events x (with_taken miss.after (Missed m.target (length y.sent)) y) to_y to_x (record { past = m ∷ past; flight = fs; rest = rest }) cy) same.1
+      (subst (λ (k : Sent). Tied events x (with_taken miss.after (Missed k.target (length y.sent)) y) to_y to_x (record { past = k ∷ past; flight = miss.flight; rest = rest }) cy) same.0 miss.tied))
+  | inr take ↦ elim none [
+    | inl plain ↦ took_plain events x y to_y to_x rest past ms cy m plain take
+    | inr out ↦ absurd (not_dropped events x y to_y to_x rest past ms cy m out take)
+  ]
 ]
+
+-- the next message is taken in some way
+pub record TakesAny (events : Bool) (y : End) (past : List Sent) (m : Sent) : Type 0 where
+  pub got : Got
+  pub taken : (after_read events y).taken ≡ got ∷ y.taken
+  pub is : IsTaken events y.sent past y.taken m got
+  pub after : after_of got ≡ length y.sent
+
+any_at : (events : Bool) (x y : End) (to_y to_x : Piece) (past ms : List Sent) (rest : Piece) (cy : Cut) (m : Sent) → Misses events x y to_y to_x (record { past = past; flight = m ∷ ms; rest = rest }) cy ⊎ Takes events x y to_y to_x (record { past = past; flight = m ∷ ms; rest = rest }) cy → TakesAny events y past m
+unfolding Agree
+any_at events x y to_y to_x past ms rest cy m (inl miss) =
+    let same = cut_is past ms miss.flight rest m miss.message miss.first in
+    record {
+      got = Missed miss.message.target (length y.sent);
+      taken = ap (λ (e : End). e.taken) (same_answer events y (Gone miss.message.target) miss.after miss.next_is);
+      is = subst (λ (k : Sent). IsTaken events y.sent past y.taken k (Missed miss.message.target (length y.sent))) same.0 miss.tied.there.agree.0;
+      after = refl;
+    }
+any_at events x y to_y to_x past ms rest cy m (inr take) =
+    let same = cut_is past ms take.flight rest m take.message take.first in
+    let known : take.target.interface ≡ Known take.read.interface = ap (λ (o : ObjectView). o.interface) take.target_is in
+    let read : stored take.target take.read.interface take.read.opcode take.read.values ≡ take.read = rw take.target_is refl in
+    record {
+      got = Took take.read (length y.sent);
+      taken = ap (λ (e : End). e.taken) (same_answer events y (Message take.target take.read.opcode take.read.values) take.after take.next_is ∙ same_read take.target take.target.interface take.read.interface take.read.opcode take.read.values take.after y known)
+          ∙ ap (λ (k : Sent). Took k (length y.sent) ∷ y.taken) read;
+      is = subst (λ (k : Sent). IsTaken events y.sent past y.taken k (Took take.read (length y.sent))) same.0 take.tied.there.agree.0;
+      after = refl;
+    }
 
 -- what all reads leave
 pub record TakesAll (events : Bool) (x y : End) (to_y : Piece) (past ms : List Sent) : Type 0 where
@@ -125,7 +161,7 @@ pub record TakesAll (events : Bool) (x y : End) (to_y : Piece) (past ms : List S
   pub closed : (after_reads (length ms) events y).backend.closed ≡ false
   pub unsent : (after_reads (length ms) events y).backend.unsent ≡ y.backend.unsent
 
-takes_all : (events : Bool) (x y : End) (to_y to_x rest : Piece) (past ms : List Sent) (cy : Cut) → Tied events x y to_y to_x (record { past = past; flight = ms; rest = rest }) cy → IsAllThere x y to_y → HaveNoHandles ms → TakesAll events x y to_y past ms
+takes_all : (events : Bool) (x y : End) (to_y to_x rest : Piece) (past ms : List Sent) (cy : Cut) → Tied events x y to_y to_x (record { past = past; flight = ms; rest = rest }) cy → AllDelivered x y to_y → NeedNoHandles events y.sent past y.taken ms → TakesAll events x y to_y past ms
 takes_all events x y to_y to_x rest past [] cy h all none = record { taken = refl; sent = refl; closed = all.opened; unsent = refl }
 takes_all events x y to_y to_x rest past (m ∷ ms) cy h all none =
     let one = takes_one events x y to_y to_x rest past ms cy m h all none.0 in
@@ -150,9 +186,8 @@ onto_same (m ∷ ms) (f ∷ flight) past before e l =
     let rest = onto_same ms flight (m ∷ past) (f ∷ before) e (omega (arith, l)) in
     (cc, cc)
 
--- once all was delivered, the messages on their way are taken as the lists say
-pub takes_as_listed : (events : Bool) (x y : End) (to_y to_x : Piece) (past ms : List Sent) → Joined events x y to_y to_x → y.backend.closed ≡ false → to_y.bytes ≡ [] → x.backend.unsent ≡ [] → x.sent ≡ onto ms past → length past ≡ length y.taken → HaveNoHandles ms → TakesAll events x y to_y past ms
-takes_as_listed events x y to_y to_x past ms j opened none sent is long no_handles =
+cut_same : (events : Bool) (x y : End) (to_y to_x : Piece) (past ms : List Sent) (j : Joined events x y to_y to_x) → x.sent ≡ onto ms past → length past ≡ length y.taken → Tied events x y to_y to_x (record { past = past; flight = ms; rest = j.there.rest }) j.back
+cut_same events x y to_y to_x past ms j is long =
     let before : oldest (length y.taken) x.sent ≡ past = ap (λ n. oldest n x.sent) (sym long) ∙ ap (oldest (length past)) is ∙ oldest_onto ms past in
     let past_same : j.there.past ≡ past = sym (past_is events x y to_y to_x j) ∙ before in
     let both : onto ms past ≡ onto j.there.flight j.there.past = sym is ∙ j.tied.there.sent_is in
@@ -160,7 +195,30 @@ takes_as_listed events x y to_y to_x past ms j opened none sent is long no_handl
     let flight_same = (onto_same ms j.there.flight past j.there.past both lengths).0 in
     let cut : Cut = record { past = past; flight = ms; rest = j.there.rest } in
     let same : j.there ≡ cut = ap (λ (p : List Sent). let c : Cut = record { past = p; flight = j.there.flight; rest = j.there.rest } in c) past_same ∙ ap (λ (f : List Sent). let c : Cut = record { past = past; flight = f; rest = j.there.rest } in c) (sym flight_same) in
-    takes_all events x y to_y to_x j.there.rest past ms j.back (subst (λ (c : Cut). Tied events x y to_y to_x c j.back) same j.tied) (record { opened = opened; none = none; unsent = sent }) no_handles
+    subst (λ (c : Cut). Tied events x y to_y to_x c j.back) same j.tied
+
+-- once all was delivered, the messages on their way are taken as the lists say
+pub takes_as_listed : (events : Bool) (x y : End) (to_y to_x : Piece) (past ms : List Sent) → Joined events x y to_y to_x → AllDelivered x y to_y → x.sent ≡ onto ms past → length past ≡ length y.taken → NeedNoHandles events y.sent past y.taken ms → TakesAll events x y to_y past ms
+takes_as_listed events x y to_y to_x past ms j all is long no_handles =
+    takes_all events x y to_y to_x j.there.rest past ms j.back (cut_same events x y to_y to_x past ms j is long) all no_handles
+
+pub takes_any : (events : Bool) (x y : End) (to_y to_x : Piece) (past ms : List Sent) (m : Sent) → Joined events x y to_y to_x → AllDelivered x y to_y → x.sent ≡ onto (m ∷ ms) past → length past ≡ length y.taken → TakesAny events y past m
+takes_any events x y to_y to_x past ms m j all is long =
+    let h = cut_same events x y to_y to_x past (m ∷ ms) j is long in
+    let there = whole_there events x y to_y to_x j.there.rest past ms j.back m h all in
+    any_at events x y to_y to_x past ms j.there.rest j.back m (reads_whole events x y to_y to_x (record { past = past; flight = m ∷ ms; rest = j.there.rest }) j.back m ms h refl there)
+
+-- where all was taken, no message waits
+pub waits_for_more : (events : Bool) (x y : End) (to_y to_x : Piece) → Joined events x y to_y to_x → length y.taken ≡ length x.sent → next events y.backend ≡ (Waits, y.backend)
+waits_for_more events x y to_y to_x j all =
+    let none : length j.there.flight ≡ 0 = omega (arith, all, agree_length events y.sent j.there.past y.taken j.tied.there.agree, ap length j.tied.there.sent_is, onto_length j.there.flight j.there.past) in
+    elim (reads events x y to_y to_x j.there j.back j.tied) [
+      | inl w ↦ w
+      | inr m ↦ elim m [
+        | inl miss ↦ absurd (omega (arith, none, ap length miss.first))
+        | inr take ↦ absurd (omega (arith, none, ap length take.first))
+      ]
+    ]
 
 -- ---- what an end may send, by the lists alone
 

@@ -1,5 +1,5 @@
 -- Which messages are dropped, and the agreement of what one end took with what the other sent. Lists have the newest first.
-use Rattle.std.specs.Prelude.{◌≡◌, ℕ, ◌-◌, ◌≤◌, Bool, true, false, ◌||◌, ◌&&◌, List, [], ◌∷◌, ◌++◌, length, drop, map, if◌then◌else◌}
+use Rattle.std.specs.Prelude.{◌≡◌, ℕ, ◌-◌, ◌≤◌, ◌⊎◌, Bool, true, false, ◌||◌, ◌&&◌, List, [], ◌∷◌, ◌++◌, length, drop, map, if◌then◌else◌}
 use Rattle.ei_spec.specs.declared.handle.Handle.{Handle}
 use Rattle.ei_ends.specs.Sent.{other, Sent, Got, Took, Missed, new_of, handles_in, IsAlike}
 use Rattle.ei_ends.specs.Announced.{is_named, destroyed}
@@ -18,6 +18,11 @@ after_of (Missed id after) = after
 -- the same of all that it took
 abbrev pub afters : List Got → List ℕ
 afters gots = map after_of gots
+
+-- an end had sent no fewer messages when it took one than when it took the one before, and has sent this many now
+unfoldable pub AreTimes : ℕ → List Got → Type 0
+AreTimes now [] = Unit {0}
+AreTimes now (g ∷ gots) = (after_of g ≤ now) × AreTimes (after_of g) gots
 
 -- Whether the message that announced the object of that id was itself dropped: the reader had destroyed its target by one
 -- of the first so many that it sent (`own`), or the message that announced that target was dropped.
@@ -57,10 +62,12 @@ abbrev pub all_got : Bool → List Sent → List Sent → List Got → List Sent
 all_got events own past gots [] = gots
 all_got events own past gots (m ∷ ms) = all_got events own (m ∷ past) (next_got events own past gots m ∷ gots) ms
 
--- each of these messages has no handle
-abbrev pub HaveNoHandles : List Sent → Type 0
-HaveNoHandles [] = Unit {0}
-HaveNoHandles (m ∷ ms) = (handles_in m ≡ []) × HaveNoHandles ms
+-- each of these messages has no handle, or is dropped
+abbrev pub NeedNoHandles : Bool → List Sent → List Sent → List Got → List Sent → Type 0
+NeedNoHandles events own past gots [] = Unit {0}
+NeedNoHandles events own past gots (m ∷ ms) =
+    ((handles_in m ≡ []) ⊎ (dropped events own past (afters gots) (length own) m.target ≡ true))
+    × NeedNoHandles events own (m ∷ past) (next_got events own past gots m ∷ gots) ms
 
 -- ---- handles
 

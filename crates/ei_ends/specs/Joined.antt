@@ -25,6 +25,12 @@ pub record Joined (events : Bool) (x y : End) (to_y to_x : Piece) : Type 0 where
 abbrev pub AgreeSoFar : Bool → End → End → Type 0
 AgreeSoFar events x y = (length y.taken ≤ length x.sent) × Agree events y.sent (oldest (length y.taken) x.sent) y.taken
 
+-- all that the first end sent is unread at the second, which is open: nothing waits with the sender or lies between them
+pub record AllDelivered (x y : End) (to_y : Piece) : Type 0 where
+  pub opened : y.backend.closed ≡ false
+  pub none : to_y.bytes ≡ []
+  pub unsent : x.backend.unsent ≡ []
+
 -- ---- what an end knows by its own lists
 
 -- the object of that id that the messages which were taken announced: the first one

@@ -8,7 +8,7 @@ use Rattle.ei_backend.specs.Table.{TableView, found, own_end}
 use Rattle.ei_backend.specs.Backend.{BackendView, unsent_of}
 use Rattle.ei_ends.specs.Sent.{other, Sent, Got, Took, Missed, New, new_of, spelled, handles_in, raw_of, IsCall}
 use Rattle.ei_ends.specs.Announced.{is_named, known_by, destroyed, next_own}
-use Rattle.ei_ends.specs.Agree.{Agree, handles_sent, handles_got}
+use Rattle.ei_ends.specs.Agree.{Agree, AreTimes, handles_sent, handles_got}
 
 -- these messages, the oldest first, sent after those, the newest first
 abbrev pub onto : List Sent → List Sent → List Sent
@@ -92,6 +92,7 @@ pub record Way (events : Bool) (sent : List Sent) (unsent link : Piece) (own : L
     (past flight : List Sent) (rest : Piece) : Type 0 where
   pub sent_is : sent ≡ onto flight past
   pub agree : Agree events own past taken
+  pub times : AreTimes (length own) taken
   pub flows : Flows reader.closed (unread_of reader) link unsent sent flight taken rest
   pub objects : HasObjects events own past taken reader.table
 

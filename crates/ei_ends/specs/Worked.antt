@@ -102,9 +102,13 @@ talk_keyboard = server_says
     silence
 
 -- The client ends the connection. The server hasn't heard of it when it announces a second seat, device and keyboard,
--- and sends a keymap to the second and then to the first keyboard.
-unfoldable pub talk_keymaps : Handle → Handle → Talk
-talk_keymaps dropped next = server_says
+-- and sends a keymap to that keyboard.
+unfoldable pub talk_keymap : Handle → Talk
+talk_keymap handle = server_says
     (seat 0xff00000000000004 ∷ device 0xff00000000000004 0xff00000000000005 ∷ keyboard 0xff00000000000005 0xff00000000000006
-    ∷ keymap 0xff00000000000006 dropped ∷ keymap 0xff00000000000003 next ∷ [])
+    ∷ keymap 0xff00000000000006 handle ∷ [])
     (client_writes (disconnect ∷ []) talk_keyboard)
+
+-- then it sends a keymap to the first keyboard
+unfoldable pub talk_keymaps : Handle → Handle → Talk
+talk_keymaps dropped next = server_says (keymap 0xff00000000000003 next ∷ []) (talk_keymap dropped)

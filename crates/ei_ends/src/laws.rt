@@ -16,13 +16,13 @@ ghost use Rattle.ei_backend.specs.Table.{found};
 ghost use Rattle.ei_backend.specs.Backend.{BackendView, Waits, Refused, Gone, Message, next, unsent_of, sent, sent_new, removed, after_row, after_new};
 ghost use Rattle.ei_ends.specs.Sent.{other, Sent, Got, Took, Missed, New, new_of, row_of, raw_of};
 ghost use Rattle.ei_ends.specs.Announced.{next_own};
-ghost use Rattle.ei_ends.specs.Agree.{oldest, handles_sent, handles_got, IsTaken, Agree, KeepsHandles, AllEqual};
-ghost use Rattle.ei_ends.specs.Way.{End, alive};
-ghost use Rattle.ei_ends.specs.Steps.{behind, no_piece, called, with_sent, after_call, after_calls, flushed, delivered, closed_end, with_taken, stored, after_read, ringed, roomy, IsPiece, handed, left_over};
-ghost use Rattle.ei_ends.specs.Joined.{new_end, Joined, IsCallOf, AgreeSoFar, AreCalls, ArePlain, IsSame};
+ghost use Rattle.ei_ends.specs.Agree.{oldest, handles_sent, handles_got, IsTaken, Agree, AreTimes, KeepsHandles, AllEqual, NeedNoHandles, all_got};
+ghost use Rattle.ei_ends.specs.Way.{End, alive, onto};
+ghost use Rattle.ei_ends.specs.Steps.{called, with_sent, after_call, after_calls, after_read, after_reads, with_taken, stored};
+ghost use Rattle.ei_ends.specs.Steps.{behind, no_piece, flushed, delivered, closed_end, ringed, roomy, IsPiece, handed, left_over};
+ghost use Rattle.ei_ends.specs.Joined.{new_end, Joined, IsCallOf, AgreeSoFar, AllDelivered, AreCalls, AreListedCalls, ArePlain, IsSame};
 
-/// Two new ends are joined, and each step keeps them so, whichever end makes it. What a refused call, a read of
-/// nothing and the ring of unread bytes leave is the same in all that matters.
+/// Two new ends are joined, and each step keeps them so, whichever end makes it.
 pub fn steps()
     ensures begins { (events : Bool) → Joined events (new_end (other events)) (new_end events) no_piece no_piece }
     ensures turned { (events : Bool) (x y : End) (to_y to_x : Piece) → Joined events x y to_y to_x → Joined (other events) y x to_x to_y }
@@ -92,6 +92,7 @@ pub fn ends()
     ensures agrees { (events : Bool) (x y : End) (to_y to_x : Piece) → Joined events x y to_y to_x → AgreeSoFar events x y }
     ensures each { (events : Bool) (own a b : List Sent) (m : Sent) (c d : List Got) (g : Got) → length a ≡ length c →
         Agree events own (a ++ (m ∷ b)) (c ++ (g ∷ d)) → IsTaken events own b d m g × Agree events own b d }
+    ensures times { (events : Bool) (x y : End) (to_y to_x : Piece) → Joined events x y to_y to_x → AreTimes (length y.sent) y.taken }
     ensures never_refused { (events : Bool) (x y : End) (to_y to_x : Piece) (f : Fault) (b : BackendView) →
         Joined events x y to_y to_x → next events y.backend ≡ (Refused f, b) → ⊥ }
     // handles come in their order, and with their message up to where a message with a handle was dropped
@@ -102,16 +103,28 @@ pub fn ends()
     ensures few_handles { (events : Bool) (x y : End) (to_y to_x p left : Piece) → Joined events x y to_y to_x → y.backend.closed ≡ false →
         IsPiece p left to_y → length (handles_sent x.sent) ≤ 4096 → length y.backend.handles + length p.handles ≤ 4096 }
     // where nothing is on its way any more, all was taken
-    ensures all { (events : Bool) (x y : End) (to_y to_x : Piece) → Joined events x y to_y to_x → y.backend.closed ≡ false →
-        to_y.bytes ≡ [] → x.backend.unsent ≡ [] → next events y.backend ≡ (Waits, y.backend) → length y.taken ≡ length x.sent }
-    // objects, by the lists alone; one that is at both ends is the same, but for the side
-    ensures objects { (events : Bool) (x y : End) (to_y to_x : Piece) (id : ℕ) → Joined events x y to_y to_x →
-        found y.backend.table id ≡ alive events y.sent (oldest (length y.taken) x.sent) y.taken id }
-    ensures next_id { (events : Bool) (x y : End) (to_y to_x : Piece) → Joined events x y to_y to_x → x.backend.table.next_own ≡ next_own events x.sent }
+    ensures all { (events : Bool) (x y : End) (to_y to_x : Piece) → Joined events x y to_y to_x → AllDelivered x y to_y →
+        next events y.backend ≡ (Waits, y.backend) → length y.taken ≡ length x.sent }
+    // an object that is at both ends is the same, but for the side
     ensures same { (events : Bool) (x y : End) (to_y to_x : Piece) (id : ℕ) (o p : ObjectView) → Joined events x y to_y to_x →
         found x.backend.table id ≡ Some o → found y.backend.table id ≡ Some p → IsSame o p }
     // who took a message to an object that it announced itself was heard up to the message that announced it
     ensures answered { (events : Bool) (x y : End) (to_y to_x : Piece) (a b : List Sent) (m : Sent) (n : New) (p q : List Got) (r : Sent) (after : ℕ) →
         Joined events x y to_y to_x → y.sent ≡ a ++ (m ∷ b) → new_of (other events) m ≡ Some n →
         y.taken ≡ p ++ (Took r after ∷ q) → r.target ≡ n.id → length b < length x.taken }
+{}
+
+/// What an end may send, has and takes, by the lists of what both ends sent and took alone.
+pub fn by_the_lists()
+    ensures may_send { (events : Bool) (ms : List Sent) (x y : End) (to_y to_x : Piece) →
+        Joined events x y to_y to_x → AreListedCalls events ms x.sent x.taken → AreCalls events ms x }
+    ensures next_id { (events : Bool) (x y : End) (to_y to_x : Piece) → Joined events x y to_y to_x → x.backend.table.next_own ≡ next_own events x.sent }
+    ensures objects { (events : Bool) (x y : End) (to_y to_x : Piece) (id : ℕ) → Joined events x y to_y to_x →
+        found y.backend.table id ≡ alive events y.sent (oldest (length y.taken) x.sent) y.taken id }
+    // `past` was taken, and `ms` behind it is there
+    ensures takes { (events : Bool) (x y : End) (to_y to_x : Piece) (past ms : List Sent) → Joined events x y to_y to_x → AllDelivered x y to_y →
+        x.sent ≡ onto ms past → length past ≡ length y.taken → NeedNoHandles events y.sent past y.taken ms →
+        (after_reads (length ms) events y).taken ≡ all_got events y.sent past y.taken ms }
+    ensures waits { (events : Bool) (x y : End) (to_y to_x : Piece) → Joined events x y to_y to_x → length y.taken ≡ length x.sent →
+        next events y.backend ≡ (Waits, y.backend) }
 {}

@@ -6,5 +6,7 @@
 #![tactic(auto)]
 
 mod laws;
+mod worked;
 
-pub use laws::{calls, calls_of_rows, ends, in_turn, steps};
+pub use laws::{by_the_lists, calls, calls_of_rows, ends, in_turn, steps};
+pub use worked::{a_dropped_handle, an_ended_connection};
