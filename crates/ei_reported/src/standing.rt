@@ -8,7 +8,7 @@ ghost use Rattle.ei_reported.specs.Said.{DeviceDone, DeviceGoes, Goes};
 ghost use Rattle.ei_reported.specs.Standing.{seat_pending, seat_added, seat_of, device_pending, device_typed};
 ghost use Rattle.ei_reported.specs.Standing.{device_added, Offer, offer, interface, holder, is_in_setup};
 ghost use Rattle.ei_reported.specs.Changes.{moves_seat, moves_device, moves_interface, unless_of, unless_named};
-ghost use Rattle.ei_reported.specs.Changes.{brought, NewIdsDiffer};
+ghost use Rattle.ei_reported.specs.Changes.{brings, brought, NewIdsDiffer};
 
 /// The seats after an event of each kind.
 pub fn seats_after()
@@ -130,12 +130,18 @@ pub fn holders()
         device_pending before o.device || device_added before o.device ≡ true }
     ensures added { (before : List Said) (id d : ℕ) → holder before id ≡ Some d → device_added before d ≡ true }
     ensures none { (before : List Said) (id : ℕ) → interface before id ≡ None → holder before id ≡ None }
+    ensures held { (before : List Said) (id : ℕ) (o : Offer) → interface before id ≡ Some o →
+        holder before id ≡ (if device_added before o.device then Some o.device else None) }
+    ensures none_in_setup { (before : List Said) (id : ℕ) → interface before id ≡ None →
+        is_in_setup before id ≡ false }
     ensures in_setup { (before : List Said) (id : ℕ) (o : Offer) → interface before id ≡ Some o →
         is_in_setup before id ≡ device_pending before o.device }
 {}
 
 /// An id that no event brought is that of nothing.
 pub fn new_ids()
+    ensures more { (before : List Said) (m : Said) (id : ℕ) →
+        brought (m ∷ before) id ≡ (brings id m || brought before id) }
     ensures seat_pending { (before : List Said) (id : ℕ) → brought before id ≡ false → seat_pending before id ≡ false }
     ensures seat_added { (before : List Said) (id : ℕ) → brought before id ≡ false → seat_added before id ≡ false }
     ensures device_pending { (before : List Said) (id : ℕ) → brought before id ≡ false →
