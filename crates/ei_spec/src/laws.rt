@@ -8,8 +8,8 @@ ghost use Rattle.ei_spec.specs.Value.{Kind, U32, Choice, Value, Word, IsOf};
 ghost use Rattle.ei_spec.specs.Reading.{Unread, Fault, InvalidVariant, read, all_at};
 ghost use Rattle.ei_spec.specs.Spelling.{Begins, Follows, AllBegin};
 ghost use Rattle.ei_spec.specs.Table.{table, opcodes, names, count, the_thirteen};
-ghost use Rattle.ei_spec.specs.Groups.{Slot, Given, Input, Frame, Other, Free, group, gives, grouped, frames_made};
 ghost use Rattle.ei_spec.specs.History.{lasts, HasLasted};
+ghost use Rattle.ei_spec.specs.Groups.{Slot, Given, Input, Frame, Other, Free, group, gives, grouped, frames_made};
 ghost use Rattle.ei_spec.specs.Message.{Raw, IsLawful, IsBytes, bytes_of, front, Whole};
 
 /// What is spelled is read, whatever follows it, and what is refused isn't spelled.
