@@ -49,7 +49,7 @@ adds_at before seat m true e = rw (e, adds_seat) refl
 adds_at before seat m false e = rw (e, adds_seat) refl
 
 -- a seat is added where it is done while it is pending
-adds : (before : List Said) (seat : ℕ) (m : Said) → adds_seat seat before m ≡ (seat_done seat m && seat_pending before seat)
+pub adds : (before : List Said) (seat : ℕ) (m : Said) → adds_seat seat before m ≡ (seat_done seat m && seat_pending before seat)
 adds before seat m = adds_at before seat m (seat_done seat m) refl
 
 pub added_after : (before : List Said) (m : Said) (seat : ℕ) → seat_added (m ∷ before) seat ≡ ((seat_done seat m && seat_pending before seat) || (not (seat_goes seat m) && seat_added before seat))
@@ -97,7 +97,7 @@ other_seat_added before m seat h = added_after before m seat
 
 -- ---- devices
 
-comes_at : (before : List Said) (seat d device : ℕ) (b : Bool) → eqb d device ≡ b → device_comes device before (DeviceComes seat d) ≡ (b && seat_added before seat)
+pub comes_at : (before : List Said) (seat d device : ℕ) (b : Bool) → eqb d device ≡ b → device_comes device before (DeviceComes seat d) ≡ (b && seat_added before seat)
 unfolding device_comes announces
 comes_at before seat d device true e = by (seat_added before seat) refl
   where
@@ -333,13 +333,13 @@ left_if before m id o b h = rw h refl
 
 -- ---- an interface is given to a device
 
-gets_at : (before : List Said) (d i : ℕ) (name : List ℕ) (version id : ℕ) (b p : Bool) → eqb i id ≡ b → device_pending before d ≡ p → offers id before (DeviceGets d i name version) ≡ cond (b && p) (Some (offer d name version)) None
+pub gets_at : (before : List Said) (d i : ℕ) (name : List ℕ) (version id : ℕ) (b p : Bool) → eqb i id ≡ b → device_pending before d ≡ p → offers id before (DeviceGets d i name version) ≡ cond (b && p) (Some (offer d name version)) None
 unfolding offers
 gets_at before d i name version id true true e h = rw (e, h, offers) refl
 gets_at before d i name version id true false e h = rw (e, h, offers) refl
 gets_at before d i name version id false p e h = rw (e, offers) refl
 
-named_at : (before : List Said) (d i : ℕ) (name : List ℕ) (version id : ℕ) (o : Offer) (b p : Bool) → (eqb d o.device && bytes_eq name o.name) ≡ b → device_pending before d ≡ p → takes id o before (DeviceGets d i name version) ≡ (b && p)
+pub named_at : (before : List Said) (d i : ℕ) (name : List ℕ) (version id : ℕ) (o : Offer) (b p : Bool) → (eqb d o.device && bytes_eq name o.name) ≡ b → device_pending before d ≡ p → takes id o before (DeviceGets d i name version) ≡ (b && p)
 unfolding takes
 named_at before d i name version id o true p e h = rw (e, takes) h
 named_at before d i name version id o false p e h = rw (e, takes) refl
@@ -427,7 +427,7 @@ interface_not_pending before d id h = interface_same before (DeviceDone d) id re
 
 -- ---- an interface goes
 
-goes_at : (before : List Said) (k : KnownInterface) (i serial id : ℕ) (o : Offer) (b : Bool) → eqb i id ≡ b → takes id o before (Goes k i serial) ≡ (b && device_added before o.device)
+pub goes_at : (before : List Said) (k : KnownInterface) (i serial id : ℕ) (o : Offer) (b : Bool) → eqb i id ≡ b → takes id o before (Goes k i serial) ≡ (b && device_added before o.device)
 unfolding takes
 goes_at before k i serial id o true e = rw (e, takes) refl
 goes_at before k i serial id o false e = rw (e, takes) refl

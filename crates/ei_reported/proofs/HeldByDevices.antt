@@ -1,5 +1,5 @@
 -- An interface is one of a device that is there.
-use Rattle.std.proofs.Common.{◌≡◌, ℕ, Bool, true, false, not, ◌&&◌, ◌||◌, eqb, List, [], ◌∷◌, Option, Some, None, refl, sym, ap, ◌∙◌}
+use Rattle.std.proofs.Common.{◌≡◌, ℕ, Bool, true, false, not, ◌&&◌, ◌||◌, cond, eqb, List, [], ◌∷◌, Option, Some, None, refl, sym, ap, ◌∙◌}
 use Rattle.std.specs.Prelude.{unwrap_or}
 use Rattle.ei_spec.specs.History.{last_said}
 use Rattle.ei_reported.specs.Said.{Said, DeviceGets, DeviceDone, DeviceGoes}
@@ -95,3 +95,11 @@ holder_none before id h = ap (if_added before) h
 pub setup_pending : (before : List Said) (id : ℕ) (o : Offer) → interface before id ≡ Some o → is_in_setup before id ≡ device_pending before o.device
 unfolding is_in_setup
 setup_pending before id o h = ap (if_pending before) h
+
+pub holder_held : (before : List Said) (id : ℕ) (o : Offer) → interface before id ≡ Some o → holder before id ≡ cond (device_added before o.device) (Some o.device) None
+unfolding holder
+holder_held before id o h = ap (if_added before) h
+
+pub setup_none : (before : List Said) (id : ℕ) → interface before id ≡ None → is_in_setup before id ≡ false
+unfolding is_in_setup
+setup_none before id h = ap (if_pending before) h

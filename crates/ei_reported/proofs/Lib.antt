@@ -1,6 +1,7 @@
 pub mod AllOpen
 pub mod OneMoreEvent
 pub mod AfterEachKind
+pub mod ByPositions
 pub mod NeverBrought
 pub mod HeldByDevices
 pub mod OneThing

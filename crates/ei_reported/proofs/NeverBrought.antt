@@ -1,7 +1,7 @@
 -- What no event brought isn't there.
 use Rattle.std.proofs.Common.{◌≡◌, ℕ, Bool, true, false, not, ◌&&◌, ◌||◌, eqb, List, [], ◌∷◌, None, refl, sym, ap, ◌∙◌}
 use Rattle.ei_spec.specs.History.{occurs, last_said, lasts}
-use Rattle.ei_spec.proofs.HistoryLaws.{said_before, occurs_before, occurs_none, lasts_unless}
+use Rattle.ei_spec.proofs.HistoryLaws.{said_before, occurs_or, occurs_before, occurs_none, lasts_unless}
 use Rattle.ei_reported.specs.Said.{Said, SeatComes, DeviceComes, DeviceGets}
 use Rattle.ei_reported.specs.Standing.{seat_comes, seat_done, seat_goes, seat_pending, seat_added, announces, device_comes, seat_of}
 use Rattle.ei_reported.specs.Standing.{device_done, device_goes, device_pending, device_typed, device_added, offers, if_held, interface}
@@ -144,3 +144,7 @@ new_seat_of before id h = no_seat_of before id (new_device before id h)
 
 pub new_interface : (before : List Said) (id : ℕ) → brought before id ≡ false → interface before id ≡ None
 new_interface before id h = no_interface before id (new_one before id h)
+
+pub brought_more : (before : List Said) (m : Said) (id : ℕ) → brought (m ∷ before) id ≡ (brings id m || brought before id)
+unfolding brought
+brought_more before m id = occurs_or (λ b m. brings id m) before m

@@ -20,7 +20,8 @@ pub use rows::{
     serials,
 };
 pub use standing::{
-    devices_after, holders, interfaces_after, new_ids, one_thing, seats_after, seats_of_devices,
+    by_positions, devices_after, holders, interfaces_after, new_ids, one_thing, seats_after,
+    seats_of_devices, starts_and_ends,
 };
 pub use worked::{
     a_device, a_pending_device_goes, all_gone, all_inputs, connection, device_after_done,

@@ -1,14 +1,56 @@
 //! The laws of what stands: seats, devices and interfaces. Each function does nothing: its clauses are the laws.
 
 ghost use Rattle.std.specs.Prelude.{◌≡◌, ℕ, List, ◌∷◌, ◌==◌, ◌&&◌, ◌||◌, true, false, Some, None};
-ghost use Rattle.std.specs.Prelude.{is_some, if◌then◌else◌};
+ghost use Rattle.std.specs.Prelude.{◌↔◌, not, is_some, if◌then◌else◌};
+ghost use Rattle.std.specs.Str.{bytes_eq};
+ghost use Rattle.ei_spec.specs.History.{HasLasted};
 ghost use Rattle.ei_spec.specs.declared.interface.KnownInterface.{KnownInterface};
 ghost use Rattle.ei_reported.specs.Said.{Said, SeatComes, SeatDone, SeatGoes, DeviceComes, DeviceHasType, DeviceGets};
 ghost use Rattle.ei_reported.specs.Said.{DeviceDone, DeviceGoes, Goes};
+ghost use Rattle.ei_reported.specs.Standing.{seat_comes, seat_done, seat_goes, device_typed_by, device_done};
+ghost use Rattle.ei_reported.specs.Standing.{device_goes, adds_seat, device_comes, completes, offers, takes, is_held};
 ghost use Rattle.ei_reported.specs.Standing.{seat_pending, seat_added, seat_of, device_pending, device_typed};
 ghost use Rattle.ei_reported.specs.Standing.{device_added, Offer, offer, interface, holder, is_in_setup};
 ghost use Rattle.ei_reported.specs.Changes.{moves_seat, moves_device, moves_interface, unless_of, unless_named};
-ghost use Rattle.ei_reported.specs.Changes.{brought, NewIdsDiffer};
+ghost use Rattle.ei_reported.specs.Changes.{brings, brought, NewIdsDiffer};
+
+/// What stands, told by positions: one started it, and none since ended it.
+pub fn by_positions()
+    ensures seat_pending { (before : List Said) (seat : ℕ) → (seat_pending before seat ≡ true) ↔
+        HasLasted (λ b m. seat_comes seat m) (λ b m. seat_done seat m || seat_goes seat m) before }
+    ensures seat_added { (before : List Said) (seat : ℕ) → (seat_added before seat ≡ true) ↔
+        HasLasted (adds_seat seat) (λ b m. seat_goes seat m) before }
+    ensures device_pending { (before : List Said) (device : ℕ) → (device_pending before device ≡ true) ↔
+        HasLasted (device_comes device) (λ b m. device_done device m || device_goes device m) before }
+    ensures device_typed { (before : List Said) (device : ℕ) → (device_typed before device ≡ true) ↔
+        HasLasted (λ b m. device_typed_by device m) (device_comes device) before }
+    ensures device_added { (before : List Said) (device : ℕ) → (device_added before device ≡ true) ↔
+        HasLasted (completes true device) (λ b m. device_goes device m) before }
+    ensures is_held { (before : List Said) (id : ℕ) (o : Offer) → (is_held id o before ≡ true) ↔
+        HasLasted (λ b m. is_some (offers id b m)) (takes id o) before }
+{}
+
+/// What starts and ends: the events of these words.
+pub fn starts_and_ends()
+    ensures adds_seat { (before : List Said) (m : Said) (seat : ℕ) →
+        adds_seat seat before m ≡ (seat_done seat m && seat_pending before seat) }
+    ensures device_comes { (before : List Said) (seat d device : ℕ) →
+        device_comes device before (DeviceComes seat d) ≡ ((d == device) && seat_added before seat) }
+    ensures completes { (before : List Said) (m : Said) (device : ℕ) → completes true device before m ≡
+        (device_done device m && (device_pending before device && device_typed before device)) }
+    ensures offers { (before : List Said) (d i : ℕ) (name : List ℕ) (version id : ℕ) →
+        offers id before (DeviceGets d i name version) ≡
+        (if (i == id) && device_pending before d then Some (offer d name version) else None) }
+    ensures another { (before : List Said) (d i : ℕ) (name : List ℕ) (version id : ℕ) (o : Offer) →
+        takes id o before (DeviceGets d i name version) ≡
+        (((d == o.device) && bytes_eq name o.name) && device_pending before d) }
+    ensures device_goes { (before : List Said) (d serial id : ℕ) (o : Offer) →
+        takes id o before (DeviceGoes d serial) ≡ d == o.device }
+    ensures dropped { (before : List Said) (d id : ℕ) (o : Offer) → takes id o before (DeviceDone d) ≡
+        ((d == o.device) && (device_pending before d && not (device_typed before d))) }
+    ensures goes { (before : List Said) (k : KnownInterface) (i serial id : ℕ) (o : Offer) →
+        takes id o before (Goes k i serial) ≡ ((i == id) && device_added before o.device) }
+{}
 
 /// The seats after an event of each kind.
 pub fn seats_after()
@@ -130,12 +172,18 @@ pub fn holders()
         device_pending before o.device || device_added before o.device ≡ true }
     ensures added { (before : List Said) (id d : ℕ) → holder before id ≡ Some d → device_added before d ≡ true }
     ensures none { (before : List Said) (id : ℕ) → interface before id ≡ None → holder before id ≡ None }
+    ensures held { (before : List Said) (id : ℕ) (o : Offer) → interface before id ≡ Some o →
+        holder before id ≡ (if device_added before o.device then Some o.device else None) }
+    ensures none_in_setup { (before : List Said) (id : ℕ) → interface before id ≡ None →
+        is_in_setup before id ≡ false }
     ensures in_setup { (before : List Said) (id : ℕ) (o : Offer) → interface before id ≡ Some o →
         is_in_setup before id ≡ device_pending before o.device }
 {}
 
 /// An id that no event brought is that of nothing.
 pub fn new_ids()
+    ensures more { (before : List Said) (m : Said) (id : ℕ) →
+        brought (m ∷ before) id ≡ (brings id m || brought before id) }
     ensures seat_pending { (before : List Said) (id : ℕ) → brought before id ≡ false → seat_pending before id ≡ false }
     ensures seat_added { (before : List Said) (id : ℕ) → brought before id ≡ false → seat_added before id ≡ false }
     ensures device_pending { (before : List Said) (id : ℕ) → brought before id ≡ false →
