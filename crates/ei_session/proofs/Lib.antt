@@ -42,3 +42,4 @@ pub mod KeptByRequests
 pub mod BeforeTheFinish
 pub mod GivenByItem
 pub mod RunsOut
+pub mod AnsweredMeans
