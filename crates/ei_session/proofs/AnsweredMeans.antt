@@ -1,7 +1,6 @@
 -- What answers a request to what is there, by what it asks; and what comes and goes with it.
-use Rattle.std.proofs.Common.{◌≡◌, ◌≢◌, ℕ, ◌+◌, Bool, true, false, cond, ◌&&◌, eqb, List, [], ◌∷◌, ◌++◌, length, Option, Some, None, refl, sym, ap, ◌∙◌, arith}
-use Rattle.std.specs.Prelude.{is_some, codes}
-use Rattle.std.proofs.lemmas.Bool.{eqb-true}
+use Rattle.std.proofs.Common.{◌≡◌, ◌≢◌, ℕ, ◌+◌, Bool, true, false, cond, eqb, List, [], ◌∷◌, length, Option, Some, None, refl, sym, ap, ◌∙◌, arith}
+use Rattle.std.specs.Prelude.{is_some}
 use Rattle.std.proofs.lemmas.List.{length-append}
 use Rattle.std.proofs.lemmas.Bool.Decides.{nat_tests}
 use Rattle.ei_spec.specs.declared.interface.KnownInterface.{KnownInterface}
@@ -9,17 +8,17 @@ use Rattle.ei_spec.specs.declared.interface.KnownInterface.TheVariants as known
 use Rattle.ei_spec.specs.Value.{Value}
 use Rattle.ei_spec.specs.Message.{Raw}
 use Rattle.ei_session.specs.Setup.{Setup, connection_id, seat_id}
-use Rattle.ei_session.specs.Handshake.{connected, is_the_finish}
-use Rattle.ei_session.specs.Meaning.{Meaning, Syncs, ReleasesSeat, Binds, RequestsDevice, Closes, Releases, Asks, Greeting, Sync, Disconnect, Bind, RequestDevice, meaning}
+use Rattle.ei_session.specs.Handshake.{connected}
+use Rattle.ei_session.specs.Meaning.{Meaning, Syncs, ReleasesSeat, Binds, RequestsDevice, Closes, Releases, Asks, Greeting, Sync, Bind, RequestDevice, meaning}
 use Rattle.ei_session.specs.Devices.{seat_is_open, asked_mask, not_empty, made, exhausts}
-use Rattle.ei_session.specs.Objects.{Entry, introduced, is_release, object, interfaces_left, going, gone_with, gone}
-use Rattle.ei_session.specs.Serial.{steps_of, steps, serial}
+use Rattle.ei_session.specs.Objects.{Entry, introduced, is_release, object, interfaces_left, going, gone}
+use Rattle.ei_session.specs.Serial.{steps_of, steps}
 use Rattle.ei_session.specs.Refusals.{synced}
 use Rattle.ei_session.specs.Events.{reply_by, reply}
 use Rattle.ei_session.specs.ByMeaning.{releases, mask_in, callback_in}
 use Rattle.ei_session.specs.Kept.{home}
 use Rattle.ei_session.specs.AnsweredByMeaning.{gone_for, steps_for, device_reply, reply_for}
-use Rattle.ei_session.proofs.Choices.{none_some, some_is, not_both}
+use Rattle.ei_session.proofs.Choices.{some_is, not_both}
 use Rattle.ei_session.proofs.ReadsMean.{means_row}
 use Rattle.ei_session.proofs.AskedMeans.{release_asked, mask_asked, callback_asked}
 use Rattle.ei_session.proofs.ObjectLaws.{object_is_introduced, makes_nothing}
@@ -62,13 +61,10 @@ no_mask : (k : KnownInterface) (m : Raw) (o : Option Meaning) → is_seat k ≡ 
 no_mask k m None s h = refl
 no_mask k m (Some x) s h = let w = means_row k m x h in no_mask_row k m.opcode w.0 x w.1.1 s
 
-same_id : (x y : ℕ) → Some x ≡ Some y → x ≡ y
-same_id x y h = some_is x y h
-
 seat_at : (past : List Raw) (m : Raw) (e : Entry) → object past m.id ≡ Some e → e.interface ≡ known.Seat → m.id ≡ seat_id
 seat_at past m e k i =
     let p = object_placed past m.id e k in
-    let h : home known.Seat ≡ Some m.id = ap home (sym i) ∙ p.at_home (rw i refl) in sym (same_id seat_id m.id h)
+    let h : home known.Seat ≡ Some m.id = ap home (sym i) ∙ p.at_home (rw i refl) in sym (some_is seat_id m.id h)
 
 made_open : (past : List Raw) (m : Raw) → seat_is_open past ≡ true → m.id ≡ seat_id → made past m ≡ not_empty (asked_mask m)
 unfolding made
@@ -115,7 +111,7 @@ no_callback k m (Some x) s h = let w = means_row k m x h in no_callback_row k m.
 connection_at : (past : List Raw) (m : Raw) (e : Entry) → object past m.id ≡ Some e → e.interface ≡ known.Connection → m.id ≡ connection_id
 connection_at past m e k i =
     let p = object_placed past m.id e k in
-    let h : home known.Connection ≡ Some m.id = ap home (sym i) ∙ p.at_home (rw i refl) in sym (same_id connection_id m.id h)
+    let h : home known.Connection ≡ Some m.id = ap home (sym i) ∙ p.at_home (rw i refl) in sym (some_is connection_id m.id h)
 
 not_the_connection : (past : List Raw) (m : Raw) (e : Entry) → connected past ≡ true → object past m.id ≡ Some e → is_connection e.interface ≡ false → m.id ≢ connection_id
 not_the_connection past m e on k s at =
