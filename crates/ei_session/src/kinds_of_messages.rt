@@ -33,6 +33,9 @@ pub fn plain_requests()
         object before m.id ≡ None → Plainly setup before m }
     ensures connected { (before : List Raw) (id : ℕ) (e : Entry) (d : ℕ) → object before id ≡ Some e →
         e.device ≡ Some d → connected before ≡ true }
+    ensures no_finish { (before : List Raw) (m : Raw) → connected before ≡ true → is_the_finish before m ≡ false }
+    ensures stays { (before : List Raw) (m : Raw) → connected before ≡ true → connected (m ∷ before) ≡ true }
+    ensures makes { (before : List Raw) (m : Raw) (mask : ℕ) → made before m ≡ Some mask → connected before ≡ true }
     ensures versions { (before : List Raw) (m : Raw) → connected before ≡ true → KeepsVersions before m }
     ensures next_id { (before : List Raw) (m : Raw) → made before m ≡ None → next_id (m ∷ before) ≡ next_id before }
 {}
