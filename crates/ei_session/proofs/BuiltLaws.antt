@@ -1,10 +1,10 @@
 -- What today's server takes, the server of all requests takes too.
-use Rattle.std.proofs.Common.{◌≡◌, ℕ, Bool, true, false, cond, not, ◌&&◌, ◌||◌, eqb, List, [], ◌∷◌, ◌++◌, length, Option, Some, None, Ok, Err, refl, sym, ap, ◌∙◌, ◌⊎◌, inl, inr}
+use Rattle.std.proofs.Common.{◌≡◌, ℕ, Bool, true, false, cond, not, ◌&&◌, ◌||◌, eqb, List, [], ◌∷◌, ◌++◌, length, Option, Some, None, refl, sym, ap, ◌∙◌, ◌⊎◌, inl, inr}
 use Rattle.std.specs.Prelude.{is_some, codes}
 use Rattle.std.proofs.lemmas.Bool.{eqb-true}
 use Rattle.ei_spec.specs.declared.interface.KnownInterface.TheVariants as known
 use Rattle.ei_spec.specs.Value.{Value, Text, U32}
-use Rattle.ei_spec.specs.Reading.{Unread, all_at}
+use Rattle.ei_spec.specs.Reading.{all_at}
 use Rattle.ei_spec.specs.Rows.{row, destructor, row_at}
 use Rattle.ei_spec.specs.Table.{table}
 use Rattle.ei_spec.specs.Message.{Raw}
@@ -19,7 +19,7 @@ use Rattle.ei_session.proofs.OneMore.{judged_before, judged_after}
 use Rattle.ei_session.specs.Devices.{made, exhausts}
 use Rattle.ei_session.specs.Objects.{object}
 use Rattle.ei_session.specs.Touches.{input}
-use Rattle.ei_session.specs.Refusals.{Arguments, refused_row, refused_at, refusal, is_disconnect, judge}
+use Rattle.ei_session.specs.Refusals.{refused_row, refused_at, refusal, is_disconnect, judge}
 use Rattle.ei_session.proofs.Choices.{chosen, none_some, and_left, and_right}
 use Rattle.ei_session.proofs.AskedRows.{whole_left}
 use Rattle.ei_session.proofs.ItemLaws.{no_args}

@@ -1,5 +1,5 @@
 -- Where the ids run out with a device, nothing is answered, and the stream ends.
-use Rattle.std.proofs.Common.{◌≡◌, ℕ, Bool, true, false, ◌||◌, eqb, List, [], Some, None, refl, arith}
+use Rattle.std.proofs.Common.{◌≡◌, ℕ, true, eqb, List, [], Some, None, refl, arith}
 use Rattle.std.proofs.lemmas.Bool.{eqb-true}
 use Rattle.ei_spec.specs.Message.{Raw}
 use Rattle.ei_spec.specs.Stream.{Final}
