@@ -52,15 +52,17 @@ abbrev pub callback_in : Option Meaning → Option ℕ
 callback_in (Some (Syncs callback version)) = Some callback
 callback_in asked = None
 
--- whether the handshake is finished, or the client's context or name is told
+-- whether the handshake is to end
 abbrev pub finishes : Option Meaning → Bool
 finishes (Some (Shakes Finishes)) = true
 finishes asked = false
 
+-- whether it tells what the client is
 abbrev pub tells_context : Option Meaning → Bool
 tells_context (Some (Shakes (TellsContext context))) = true
 tells_context asked = false
 
+-- whether it tells the client's name
 abbrev pub tells_name : Option Meaning → Bool
 tells_name (Some (Shakes (TellsName name))) = true
 tells_name asked = false
