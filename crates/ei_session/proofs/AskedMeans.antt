@@ -1,5 +1,5 @@
 -- What the definitions say of a request, by what it asks.
-use Rattle.std.proofs.Common.{◌≡◌, ℕ, Bool, true, false, eqb, List, [], ◌∷◌, length, Option, Some, None, refl, sym, ap, ◌∙◌}
+use Rattle.std.proofs.Common.{◌≡◌, ℕ, List, Option, Some, None, refl, sym, ap, ◌∙◌}
 use Rattle.std.specs.Prelude.{codes, is_some}
 use Rattle.ei_spec.specs.declared.interface.KnownInterface.{KnownInterface}
 use Rattle.ei_spec.specs.declared.interface.KnownInterface.TheVariants as known
@@ -7,11 +7,11 @@ use Rattle.ei_spec.specs.Value.{Value}
 use Rattle.ei_spec.specs.Message.{Raw}
 use Rattle.ei_session.specs.Arguments.{row_args, request_args}
 use Rattle.ei_session.specs.Asked.{asked, asks}
-use Rattle.ei_session.specs.Inputs.{Input, input_to}
-use Rattle.ei_session.specs.Meaning.{Meaning, Asks, Greeting, Finish, ContextType, Name, InterfaceVersion, Sync, Disconnect, Pong, SeatRelease, Bind, RequestDevice, DeviceRelease, Start, Stop, Frame, Ready, PointerRelease, MotionRelative, PointerAbsoluteRelease, MotionAbsolute, ScrollRelease, Scroll, Discrete, ScrollStop, ButtonRelease, Button, KeyboardRelease, Key, TouchscreenRelease, Down, Motion, Up, Cancel, TextRelease, Keysym, Utf8, meaning}
+use Rattle.ei_session.specs.Inputs.{input_to}
+use Rattle.ei_session.specs.Meaning.{Meaning, Asks, Greeting, Finish, ContextType, Name, InterfaceVersion, Sync, Disconnect, Pong, SeatRelease, Bind, RequestDevice, DeviceRelease, PointerRelease, MotionRelative, PointerAbsoluteRelease, MotionAbsolute, ScrollRelease, Scroll, Discrete, ScrollStop, ButtonRelease, Button, KeyboardRelease, Key, TouchscreenRelease, Down, Motion, Up, Cancel, TextRelease, Keysym, Utf8, meaning}
 use Rattle.ei_session.specs.Devices.{asked_mask}
 use Rattle.ei_session.specs.Refusals.{callback_of}
-use Rattle.ei_session.specs.ByMeaning.{releases, input_in, mask_in, callback_in}
+use Rattle.ei_session.specs.ByMeaning.{releases, input_in, mask_in, callback_in, finishes, tells_context, tells_name}
 use Rattle.ei_session.proofs.ItemLaws.{no_input}
 use Rattle.ei_session.proofs.AskedRows.{unread_asked}
 use Rattle.ei_session.proofs.RowsMean.{at_row, asks_means}
@@ -108,3 +108,42 @@ callback_row m n values w Disconnect o a = rw o refl
 
 pub callback_asked : (m : Raw) → callback_of (asked known.Connection (codes "sync") m) ≡ callback_in (meaning known.Connection m)
 callback_asked m = by_asked known.Connection m callback_in (callback_of (asked known.Connection (codes "sync") m)) (request_args known.Connection m) refl (λ u. rw (unread_asked known.Connection (codes "sync") m u) refl) (λ values x a h. callback_row m m.opcode values x a refl h)
+
+-- ---- the handshake
+
+module _ (m : Raw) where
+  finish_row : (n : ℕ) (values : List Value) (x : Meaning) → Asks known.Handshake n values x → m.opcode ≡ n → request_args known.Handshake m ≡ Some values → asks known.Handshake (codes "finish") m ≡ finishes (Some x)
+  unfolding asks asked row_args
+  finish_row n values w (Greeting version) o a = rw o refl
+  finish_row n values w Finish o a = rw (o, at_row known.Handshake m 1 _ o a) refl
+  finish_row n values w (ContextType context) o a = rw o refl
+  finish_row n values w (Name name) o a = rw o refl
+  finish_row n values w (InterfaceVersion name version) o a = rw o refl
+
+  pub finish_asked : asks known.Handshake (codes "finish") m ≡ finishes (meaning known.Handshake m)
+  unfolding asks
+  finish_asked = by_asked known.Handshake m finishes (asks known.Handshake (codes "finish") m) (request_args known.Handshake m) refl (λ u. ap is_some (unread_asked known.Handshake (codes "finish") m u)) (λ values x a h. finish_row m.opcode values x a refl h)
+
+  context_row : (n : ℕ) (values : List Value) (x : Meaning) → Asks known.Handshake n values x → m.opcode ≡ n → request_args known.Handshake m ≡ Some values → asks known.Handshake (codes "context_type") m ≡ tells_context (Some x)
+  unfolding asks asked row_args
+  context_row n values w (Greeting version) o a = rw o refl
+  context_row n values w Finish o a = rw o refl
+  context_row n values w (ContextType context) o a = rw (o, at_row known.Handshake m 2 _ o a) refl
+  context_row n values w (Name name) o a = rw o refl
+  context_row n values w (InterfaceVersion name version) o a = rw o refl
+
+  pub context_asked : asks known.Handshake (codes "context_type") m ≡ tells_context (meaning known.Handshake m)
+  unfolding asks
+  context_asked = by_asked known.Handshake m tells_context (asks known.Handshake (codes "context_type") m) (request_args known.Handshake m) refl (λ u. ap is_some (unread_asked known.Handshake (codes "context_type") m u)) (λ values x a h. context_row m.opcode values x a refl h)
+
+  name_row : (n : ℕ) (values : List Value) (x : Meaning) → Asks known.Handshake n values x → m.opcode ≡ n → request_args known.Handshake m ≡ Some values → asks known.Handshake (codes "name") m ≡ tells_name (Some x)
+  unfolding asks asked row_args
+  name_row n values w (Greeting version) o a = rw o refl
+  name_row n values w Finish o a = rw o refl
+  name_row n values w (ContextType context) o a = rw o refl
+  name_row n values w (Name name) o a = rw (o, at_row known.Handshake m 3 _ o a) refl
+  name_row n values w (InterfaceVersion name version) o a = rw o refl
+
+  pub name_asked : asks known.Handshake (codes "name") m ≡ tells_name (meaning known.Handshake m)
+  unfolding asks
+  name_asked = by_asked known.Handshake m tells_name (asks known.Handshake (codes "name") m) (request_args known.Handshake m) refl (λ u. ap is_some (unread_asked known.Handshake (codes "name") m u)) (λ values x a h. name_row m.opcode values x a refl h)

@@ -1,20 +1,19 @@
 -- Messages before the finish, and the finish.
-use Rattle.std.proofs.Common.{◌≡◌, ℕ, ◌+◌, Bool, true, false, cond, ◌&&◌, ◌||◌, eqb, List, [], ◌∷◌, Option, Some, None, refl, sym, ap, ◌∙◌, arith}
-use Rattle.std.specs.Prelude.{codes}
+use Rattle.std.proofs.Common.{◌≡◌, ℕ, ◌+◌, Bool, true, false, cond, ◌&&◌, ◌||◌, eqb, List, [], ◌∷◌, Option, Some, None, refl, sym, ap, ◌∙◌}
 use Rattle.std.proofs.lemmas.Bool.{eqb-true}
 use Rattle.ei_spec.specs.declared.interface.KnownInterface.{KnownInterface}
 use Rattle.ei_spec.specs.declared.interface.KnownInterface.TheVariants as known
 use Rattle.ei_spec.specs.Interface.{name_of}
 use Rattle.ei_spec.specs.Message.{Raw}
-use Rattle.ei_spec.specs.History.{last_said, occurs, total}
+use Rattle.ei_spec.specs.History.{last_said, total}
 use Rattle.ei_spec.proofs.HistoryLaws.{said_before, occurs_or}
 use Rattle.ei_session.specs.Setup.{Setup, seat_id}
 use Rattle.ei_session.specs.Arguments.{request_args}
 use Rattle.ei_session.specs.Asked.{asks}
 use Rattle.ei_session.specs.Handshake.{is_finish, connected, is_the_finish, announced_by, announced, announces, version_if, settled, version}
-use Rattle.ei_session.specs.Meaning.{Meaning, Shake, shaking, meaning}
-use Rattle.ei_session.specs.Devices.{next_id, made, device_interfaces}
-use Rattle.ei_session.specs.Objects.{Entry, at_first, is_release, object, interfaces_left, gone}
+use Rattle.ei_session.specs.Meaning.{Shake, shaking, meaning}
+use Rattle.ei_session.specs.Devices.{next_id, device_interfaces}
+use Rattle.ei_session.specs.Objects.{Entry, is_release, object, interfaces_left, gone}
 use Rattle.ei_session.specs.Serial.{steps, serial}
 use Rattle.ei_session.specs.Touches.{input}
 use Rattle.ei_session.specs.Refusals.{synced, came}
@@ -23,7 +22,7 @@ use Rattle.ei_session.specs.Events.{reply}
 use Rattle.ei_session.specs.ByMeaning.{item_for}
 use Rattle.ei_session.specs.Kept.{Keeps, KeepsVersions}
 use Rattle.ei_session.proofs.Choices.{and_left, and_right}
-use Rattle.ei_session.proofs.ObjectShape.{at_finish, same_connected, next_id_more}
+use Rattle.ei_session.proofs.ObjectShape.{at_finish, same_connected}
 use Rattle.ei_session.proofs.FirstObjects.{the_handshake, never_released, shut_makes_nothing, not_the_finish, object_first}
 use Rattle.ei_session.proofs.DeviceRange.{interfaces_kept, left_plain}
 use Rattle.ei_session.proofs.SerialLaws.{gone_unknown, gone_plain, steps_quiet}

@@ -1,10 +1,10 @@
 -- What today's server takes, the server of all requests takes too.
-use Rattle.std.proofs.Common.{◌≡◌, ℕ, Bool, true, false, cond, not, ◌&&◌, ◌||◌, eqb, List, [], ◌∷◌, ◌++◌, length, Option, Some, None, Ok, Err, refl, sym, ap, ◌∙◌, ◌⊎◌, inl, inr}
+use Rattle.std.proofs.Common.{◌≡◌, ℕ, Bool, true, false, cond, not, ◌&&◌, ◌||◌, eqb, List, [], ◌∷◌, ◌++◌, length, Option, Some, None, refl, sym, ap, ◌∙◌, ◌⊎◌, inl, inr}
 use Rattle.std.specs.Prelude.{is_some, codes}
 use Rattle.std.proofs.lemmas.Bool.{eqb-true}
 use Rattle.ei_spec.specs.declared.interface.KnownInterface.TheVariants as known
 use Rattle.ei_spec.specs.Value.{Value, Text, U32}
-use Rattle.ei_spec.specs.Reading.{Unread, all_at}
+use Rattle.ei_spec.specs.Reading.{all_at}
 use Rattle.ei_spec.specs.Rows.{row, destructor, row_at}
 use Rattle.ei_spec.specs.Table.{table}
 use Rattle.ei_spec.specs.Message.{Raw}
@@ -19,8 +19,9 @@ use Rattle.ei_session.proofs.OneMore.{judged_before, judged_after}
 use Rattle.ei_session.specs.Devices.{made, exhausts}
 use Rattle.ei_session.specs.Objects.{object}
 use Rattle.ei_session.specs.Touches.{input}
-use Rattle.ei_session.specs.Refusals.{Arguments, refused_row, refused_at, refusal, is_disconnect, judge}
+use Rattle.ei_session.specs.Refusals.{refused_row, refused_at, refusal, is_disconnect, judge}
 use Rattle.ei_session.proofs.Choices.{chosen, none_some, and_left, and_right}
+use Rattle.ei_session.proofs.AskedRows.{whole_left}
 use Rattle.ei_session.proofs.ItemLaws.{no_args}
 use Rattle.ei_session.proofs.FirstObjects.{object_first, object_connection, the_handshake, the_connection, shut_makes_nothing}
 use Rattle.ei_spec.specs.History.{joined}
@@ -49,11 +50,6 @@ module _ (m : Raw) (j : ℕ) (o : m.opcode ≡ j) where
   no_finish : eqb j 1 ≡ false → asks known.Handshake (codes "finish") m ≡ false
   unfolding asks asked
   no_finish f = ap is_some (no_args 1 j _ m o f)
-
-whole_left : (r : Arguments) (args : List Value) → whole r ≡ Some args → (xs : List Value) × ((u : Unread) × ((r ≡ Ok (xs, u)) × (eqb (length u.bytes) 0 ≡ true)))
-unfolding whole
-whole_left (Ok x) args h = elim (chosen (eqb (length x.1.bytes) 0) _ _ _ h) [ inl a ↦ (x.0, (x.1, (refl, a.0))) | inr b ↦ absurd (none_some args b.1) ]
-whole_left (Err e) args h = absurd (none_some args h)
 
 no_input_yet : (before : List Raw) (m : Raw) → object before m.id ≡ Some the_handshake → input before m ≡ None
 unfolding input

@@ -1,5 +1,5 @@
 -- Nothing waits on an id that isn't given yet, and no touch is down there.
-use Rattle.std.proofs.Common.{◌≡◌, ◌≢◌, ℕ, ◌<◌, ◌≤◌, Bool, true, false, cond, eqb, List, [], ◌∷◌, ◌++◌, Option, Some, None, refl, sym, ap, ◌∙◌, arith}
+use Rattle.std.proofs.Common.{◌≡◌, ◌≢◌, ℕ, ◌<◌, ◌≤◌, Bool, true, false, cond, eqb, List, [], ◌∷◌, Option, Some, None, refl, sym, ap, ◌∙◌, arith}
 use Rattle.std.specs.Prelude.{unwrap_or}
 use Rattle.std.proofs.lemmas.Bool.Decides.{nat_tests}
 use Rattle.ei_spec.specs.Message.{Raw}
@@ -12,7 +12,7 @@ use Rattle.ei_session.specs.Meaning.{Meaning, Inputs, meaning}
 use Rattle.ei_session.specs.Devices.{next_id}
 use Rattle.ei_session.specs.Objects.{Entry, object}
 use Rattle.ei_session.specs.Touches.{of_device, input, said_of, touches, is_down}
-use Rattle.ei_session.specs.Requests.{Asking, is_heard, item_at, item, slot}
+use Rattle.ei_session.specs.Requests.{Asking, is_heard, item, slot}
 use Rattle.ei_session.specs.ByMeaning.{input_in, item_for}
 use Rattle.ei_session.proofs.Choices.{none_some}
 use Rattle.ei_session.proofs.ItemLaws.{item_unknown}

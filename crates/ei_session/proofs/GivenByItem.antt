@@ -1,5 +1,5 @@
 -- What one more message gives, and how many frames are made, by its item; and what touches an input leaves.
-use Rattle.std.proofs.Common.{◌≡◌, ℕ, ◌+◌, Bool, true, false, cond, eqb, List, [], ◌∷◌, ◌++◌, length, Option, Some, None, refl, sym, ap, ◌∙◌, arith}
+use Rattle.std.proofs.Common.{◌≡◌, ℕ, ◌+◌, Bool, true, false, cond, eqb, List, [], ◌∷◌, ◌++◌, Option, Some, None, refl, ap, ◌∙◌, arith}
 use Rattle.std.specs.Prelude.{unwrap_or, slice_index}
 use Rattle.ei_spec.specs.Message.{Raw}
 use Rattle.ei_spec.specs.History.{each}

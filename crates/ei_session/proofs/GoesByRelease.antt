@@ -1,6 +1,6 @@
 -- What a release takes away is what it names to go, and nothing else.
-use Rattle.std.proofs.Common.{◌≡◌, ◌≢◌, ℕ, Bool, true, false, cond, ◌&&◌, ◌||◌, eqb, List, [], ◌∷◌, ◌++◌, Option, Some, None, refl, sym, ap, ◌∙◌, arith, eq-eqb}
-use Rattle.std.specs.Prelude.{nat_eq, codes}
+use Rattle.std.proofs.Common.{◌≡◌, ℕ, Bool, true, false, cond, ◌&&◌, ◌||◌, eqb, List, [], ◌∷◌, Option, Some, None, refl, sym, ap, ◌∙◌, arith, eq-eqb}
+use Rattle.std.specs.Prelude.{nat_eq}
 use Rattle.std.specs.List.{list_any}
 use Rattle.std.proofs.lemmas.Bool.{eqb-true}
 use Rattle.std.proofs.lemmas.Bool.Decides.{nat_tests}
@@ -8,11 +8,10 @@ use Rattle.std.proofs.lemmas.List.Folds.{list_any-append}
 use Rattle.ei_spec.specs.declared.interface.KnownInterface.{KnownInterface}
 use Rattle.ei_spec.specs.declared.interface.KnownInterface.TheVariants as known
 use Rattle.ei_spec.specs.Message.{Raw}
-use Rattle.ei_session.specs.Asked.{asks}
 use Rattle.ei_session.specs.Handshake.{is_the_finish}
 use Rattle.ei_session.specs.Devices.{made}
 use Rattle.ei_session.specs.Objects.{Entry, is_release, is_device, is_same, is_of, introduced, removes, object, interfaces_left, gone, given}
-use Rattle.ei_session.proofs.Choices.{not_both}
+use Rattle.ei_session.proofs.Choices.{not_both, or_true}
 use Rattle.ei_session.proofs.Opcodes.{release_opcode}
 use Rattle.ei_session.proofs.ObjectLaws.{object_at, object_is_introduced, object_keeps, given_by, released, if_removed, without, object_device_release}
 use Rattle.ei_session.proofs.ObjectShape.{release_makes_nothing, object_unknown}
@@ -23,10 +22,6 @@ use Rattle.ei_session.proofs.LeftInterfaces.{is_left}
 is_same_some : (d : ℕ) (o : Option ℕ) → is_same d o ≡ true → o ≡ Some d
 is_same_some d None h = absurd cc
 is_same_some d (Some x) h = ap Some (eqb-true x d h)
-
-or_true : (b : Bool) → (b || (true || false)) ≡ true
-or_true true = refl
-or_true false = refl
 
 or_no : (b : Bool) → (b || false) ≡ b
 or_no true = refl

@@ -8,12 +8,12 @@ use Rattle.ei_spec.specs.Message.{Raw}
 use Rattle.ei_spec.specs.History.{last_said, occurs}
 use Rattle.ei_spec.proofs.HistoryLaws.{occurs_or}
 use Rattle.ei_session.specs.Setup.{connection_id, seat_id}
-use Rattle.ei_session.specs.Handshake.{connected, is_the_finish, version}
-use Rattle.ei_session.specs.Devices.{seat_is_open, made, interfaces_of, ids_given, next_id}
-use Rattle.ei_session.specs.Objects.{Entry, given, handed_over, introduces, at_first, introduced, is_release, was_device, is_of, removes, object}
+use Rattle.ei_session.specs.Handshake.{is_the_finish}
+use Rattle.ei_session.specs.Devices.{made, ids_given, next_id}
+use Rattle.ei_session.specs.Objects.{Entry, handed_over, introduces, at_first, introduced, is_release, was_device, is_of, removes, object}
 use Rattle.ei_session.specs.Kept.{is_removed}
-use Rattle.ei_session.proofs.Choices.{chosen, none_some, and_false, and_right}
-use Rattle.ei_session.proofs.ObjectLaws.{changed, object_more, introduced_now, introduced_before, next_above, given_by}
+use Rattle.ei_session.proofs.Choices.{chosen, none_some, and_false}
+use Rattle.ei_session.proofs.ObjectLaws.{object_more, introduced_now, introduced_before, next_above, given_by}
 use Rattle.ei_session.proofs.ObjectShape.{at_finish, given_range, next_id_more}
 use Rattle.ei_session.proofs.FirstObjects.{handshake_was, introduced_first}
 

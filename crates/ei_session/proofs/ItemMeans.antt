@@ -1,15 +1,14 @@
 -- What a request gives, by what it asks.
-use Rattle.std.proofs.Common.{◌≡◌, ℕ, List, [], ◌∷◌, Option, Some, None, refl, sym, ap, ◌∙◌}
+use Rattle.std.proofs.Common.{◌≡◌, ℕ, List, Option, Some, None, refl, ap, ◌∙◌}
 use Rattle.std.specs.Prelude.{codes}
 use Rattle.ei_spec.specs.declared.interface.KnownInterface.{KnownInterface}
 use Rattle.ei_spec.specs.declared.interface.KnownInterface.TheVariants as known
 use Rattle.ei_spec.specs.Value.{Value}
-use Rattle.ei_spec.specs.Groups.{Free}
 use Rattle.ei_spec.specs.Message.{Raw}
 use Rattle.ei_session.specs.Arguments.{row_args, request_args}
-use Rattle.ei_session.specs.Asked.{asked, none}
-use Rattle.ei_session.specs.Inputs.{Input, input_to}
-use Rattle.ei_session.specs.Meaning.{Meaning, Inputs, Asks, Greeting, Finish, ContextType, Name, InterfaceVersion, Sync, Disconnect, Pong, SeatRelease, Bind, RequestDevice, DeviceRelease, Start, Stop, Frame, Ready, PointerRelease, MotionRelative, PointerAbsoluteRelease, MotionAbsolute, ScrollRelease, Scroll, Discrete, ScrollStop, ButtonRelease, Button, KeyboardRelease, Key, TouchscreenRelease, Down, Motion, Up, Cancel, TextRelease, Keysym, Utf8, meaning}
+use Rattle.ei_session.specs.Asked.{asked}
+use Rattle.ei_session.specs.Inputs.{Input}
+use Rattle.ei_session.specs.Meaning.{Meaning, Inputs, Asks, Greeting, Finish, ContextType, Name, InterfaceVersion, Sync, Disconnect, Pong, SeatRelease, Bind, RequestDevice, DeviceRelease, Start, Stop, Frame, Ready, PointerRelease, PointerAbsoluteRelease, ScrollRelease, ButtonRelease, KeyboardRelease, TouchscreenRelease, TextRelease, meaning}
 use Rattle.ei_session.specs.Objects.{Entry, object}
 use Rattle.ei_session.specs.Touches.{of_device, input}
 use Rattle.ei_session.specs.Requests.{input_item, item_to, item}

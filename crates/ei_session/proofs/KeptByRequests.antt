@@ -1,25 +1,25 @@
 -- What requests after the finish keep as it was.
-use Rattle.std.proofs.Common.{◌≡◌, ℕ, ◌+◌, ◌%◌, ◌^◌, ◌<◌, Bool, true, false, cond, not, ◌&&◌, ◌||◌, eqb, List, [], ◌∷◌, Option, Some, None, refl, sym, ap, ◌∙◌, arith}
+use Rattle.std.proofs.Common.{◌≡◌, ℕ, ◌+◌, ◌%◌, ◌^◌, ◌<◌, Bool, true, false, cond, not, eqb, List, [], ◌∷◌, Option, Some, None, refl, sym, ap, ◌∙◌, arith}
 use Rattle.std.specs.Prelude.{is_some, codes}
 use Rattle.std.proofs.lemmas.Bool.Decides.{nat_tests}
 use Rattle.ei_spec.specs.declared.interface.KnownInterface.{KnownInterface}
 use Rattle.ei_spec.specs.declared.interface.KnownInterface.TheVariants as known
 use Rattle.ei_spec.specs.Message.{Raw}
 use Rattle.ei_spec.specs.History.{total, occurs}
-use Rattle.ei_session.specs.Setup.{Setup, connection_id, seat_id}
+use Rattle.ei_session.specs.Setup.{Setup, seat_id}
 use Rattle.ei_session.specs.Asked.{asks}
-use Rattle.ei_session.specs.Handshake.{connected, is_the_finish}
-use Rattle.ei_session.specs.Devices.{releases_seat, seat_is_open, made, ids_given, next_id, device_interfaces}
+use Rattle.ei_session.specs.Handshake.{connected}
+use Rattle.ei_session.specs.Devices.{releases_seat, seat_is_open, made, ids_given, next_id}
 use Rattle.ei_session.specs.Objects.{Entry, is_release, is_device, object, interfaces_left, gone}
 use Rattle.ei_session.specs.Serial.{steps, serial}
 use Rattle.ei_session.specs.Events.{destroyed_event, destroyed_events, reply}
-use Rattle.ei_session.specs.Kept.{Keeps, KeepsVersions, Plainly}
+use Rattle.ei_session.specs.Kept.{KeepsVersions, Plainly}
 use Rattle.ei_session.proofs.Choices.{none_some, some_is, and_left}
-use Rattle.ei_session.proofs.ObjectLaws.{object_is_introduced, device_above, above_makes_nothing, object_keeps, not_finish}
+use Rattle.ei_session.proofs.ObjectLaws.{object_is_introduced, device_above, above_makes_nothing, object_keeps, made_is}
 use Rattle.ei_session.proofs.ObjectShape.{seat_was, same_connected, next_id_more, object_seat, object_seat_release, object_unknown, release_makes_nothing, unknown_makes_nothing}
 use Rattle.ei_session.proofs.FirstObjects.{object_first}
 use Rattle.ei_session.proofs.GoneLaws.{no_finish_again, some_entry}
-use Rattle.ei_session.proofs.DeviceRange.{Lies, lies, interfaces_kept, left_same, left_plain}
+use Rattle.ei_session.proofs.DeviceRange.{lies, interfaces_kept, left_same, left_plain}
 use Rattle.ei_session.proofs.SerialLaws.{serial_more, gone_plain, gone_unknown, gone_one, steps_quiet, steps_one, settled_fixed, version_fixed}
 use Rattle.ei_session.proofs.ReplyLaws.{reply_release}
 
@@ -38,6 +38,17 @@ same_next_id past m n = let none = no_ids past m n in next_id_more past m ∙ om
 
 pub fixed_versions : (past : List Raw) (m : Raw) → connected past ≡ true → KeepsVersions past m
 fixed_versions past m on = record { same_settled = λ i. settled_fixed past m i on; same_version = λ i. version_fixed past m i on }
+
+-- ---- the finish comes once, and before all devices
+
+pub stays_connected : (past : List Raw) (m : Raw) → connected past ≡ true → connected (m ∷ past) ≡ true
+stays_connected past m on = same_connected past m (no_finish_again past m on) ∙ on
+
+pub made_connected : (past : List Raw) (m : Raw) (mask : ℕ) → made past m ≡ Some mask → connected past ≡ true
+unfolding seat_is_open
+made_connected past m mask h =
+    let open_is = and_left (seat_is_open past) (eqb m.id seat_id) (made_is past m mask h).0 in
+    and_left (connected past) (not (occurs releases_seat past)) open_is
 
 -- ---- requests that give nothing and take nothing away
 

@@ -1,5 +1,5 @@
 -- The interfaces that a device has left are just the objects of it, but for itself.
-use Rattle.std.proofs.Common.{◌≡◌, ◌≢◌, ℕ, zero, suc, ◌+◌, ◌-◌, ◌<◌, ◌≤◌, Bool, true, false, cond, eqb, ltb, List, [], ◌∷◌, length, Option, Some, None, refl, sym, ap, ◌∙◌, arith, inl, inr, ◌||◌}
+use Rattle.std.proofs.Common.{◌≡◌, ◌≢◌, ℕ, zero, suc, ◌+◌, ◌-◌, ◌<◌, ◌≤◌, Bool, true, false, cond, eqb, ltb, List, [], ◌∷◌, length, Option, Some, None, refl, sym, ap, ◌∙◌, arith, inl, inr}
 use Rattle.std.specs.Prelude.{is_some, slice_get, filter, nat_eq}
 use Rattle.std.specs.List.{list_any, range_with_len}
 use Rattle.std.proofs.lemmas.Bool.{eqb-true}
@@ -10,7 +10,7 @@ use Rattle.ei_spec.specs.Message.{Raw}
 use Rattle.ei_spec.specs.History.{last_said}
 use Rattle.ei_session.specs.Devices.{made, next_id, interfaces_of, device_interfaces}
 use Rattle.ei_session.specs.Objects.{Entry, interface_entry, new_device, given, introduces, removes, object, interfaces_left}
-use Rattle.ei_session.proofs.Choices.{chosen, none_some}
+use Rattle.ei_session.proofs.Choices.{chosen, some_is, none_some, or_true}
 use Rattle.ei_session.proofs.ObjectLaws.{changed, object_is_introduced, object_at, no_device, by_making}
 use Rattle.ei_session.proofs.ObjectShape as shape
 use Rattle.ei_session.proofs.DeviceRange.{interfaces_kept, interfaces_new, interfaces_other, range_owner}
@@ -20,18 +20,15 @@ pub record Within (past : List Raw) (d id : ℕ) : Type 0 where
   pub low : d ≤ id
   pub high : id ≤ d + length (device_interfaces past d)
 
-same_some : (x y : ℕ) → Some x ≡ Some y → x ≡ y
-same_some x y e = cc
-
 of_entry : (past : List Raw) (device d id : ℕ) (e : Entry) (is : List KnownInterface) (o : Option KnownInterface) → slice_get is (id - device - 1) ≡ o → interface_entry past device o ≡ Some e → e.device ≡ Some d → (device ≡ d) × (id - device - 1 < length is)
 of_entry past device d id e is None g h p = absurd (none_some e h)
-of_entry past device d id e is (Some i) g h p = (same_some device d cc, slice_get_within is (id - device - 1) i g)
+of_entry past device d id e is (Some i) g h p = (some_is device d cc, slice_get_within is (id - device - 1) i g)
 
 pub new_range : (past : List Raw) (device d id : ℕ) (e : Entry) (is : List KnownInterface) → new_device past device is id ≡ Some e → e.device ≡ Some d → (device ≡ d) × (device ≤ id) × (id ≤ device + length is)
 unfolding new_device
 new_range past device d id e is h p =
     elim (chosen (eqb id device) _ _ _ h) [
-      | inl a ↦ (same_some device d (let q = a.1 in cc), omega (arith, eqb-true id device a.0), omega (arith, eqb-true id device a.0))
+      | inl a ↦ (some_is device d (let q = a.1 in cc), omega (arith, eqb-true id device a.0), omega (arith, eqb-true id device a.0))
       | inr b ↦ elim (chosen (ltb device id) _ _ _ b.1) [
         | inl a ↦ let w = of_entry past device d id e is (slice_get is (id - device - 1)) refl a.1 p in
             let above : device < id = grind (arith, nat_tests, a.0) in (w.0, omega arith, omega (arith, w.1))
@@ -79,10 +76,6 @@ in_range [] id e d k p =
 in_range (m ∷ past) id e d k p = range_step past m d id e (introduces past m id) refl k p (λ old. in_range past id e d old p)
 
 -- ---- membership
-
-or_true : (b : Bool) → (b || true) ≡ true
-or_true true = refl
-or_true false = refl
 
 in_either : (b : Bool) (id a : ℕ) (xs : List ℕ) → list_any (nat_eq id) xs ≡ true → list_any (nat_eq id) (cond b (a ∷ xs) xs) ≡ true
 in_either true id a xs h = rw h (or_true (nat_eq id a))

@@ -51,3 +51,4 @@ pub mod TellingAnswers
 pub mod Completing
 pub mod NextLaws
 pub mod SettledMapLaws
+pub mod AnsweredMeans

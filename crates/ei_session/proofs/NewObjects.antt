@@ -1,5 +1,5 @@
 -- The objects that come with a new device, by their ids.
-use Rattle.std.proofs.Common.{◌≡◌, ℕ, ◌+◌, ◌-◌, ◌<◌, ◌≤◌, Bool, true, false, cond, eqb, ltb, List, [], ◌∷◌, Option, Some, None, refl, sym, ap, ◌∙◌, arith, eq-eqb}
+use Rattle.std.proofs.Common.{◌≡◌, ℕ, ◌+◌, ◌-◌, ◌<◌, true, false, eqb, ltb, List, ◌∷◌, Option, Some, None, refl, ◌∙◌, arith, eq-eqb}
 use Rattle.std.specs.Prelude.{slice_get}
 use Rattle.std.specs.Option.{option_or}
 use Rattle.std.proofs.lemmas.Bool.Decides.{nat_tests}
@@ -8,7 +8,7 @@ use Rattle.ei_spec.specs.declared.interface.KnownInterface.TheVariants as known
 use Rattle.ei_spec.specs.Message.{Raw}
 use Rattle.ei_session.specs.Handshake.{version}
 use Rattle.ei_session.specs.Devices.{made, interfaces_of, next_id}
-use Rattle.ei_session.specs.Objects.{Entry, interface_entry, new_device, object}
+use Rattle.ei_session.specs.Objects.{Entry, new_device, object}
 use Rattle.ei_session.proofs.ObjectLaws.{object_new}
 use Rattle.ei_session.proofs.ObjectShape.{given_range}
 

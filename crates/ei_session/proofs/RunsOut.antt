@@ -1,19 +1,14 @@
 -- Where the ids run out with a device, nothing is answered, and the stream ends.
-use Rattle.std.proofs.Common.{◌≡◌, ℕ, Bool, true, false, ◌||◌, ◌&&◌, eqb, List, [], Some, None, refl, arith}
+use Rattle.std.proofs.Common.{◌≡◌, ℕ, true, eqb, List, [], Some, None, refl, arith}
 use Rattle.std.proofs.lemmas.Bool.{eqb-true}
 use Rattle.ei_spec.specs.Message.{Raw}
 use Rattle.ei_spec.specs.Stream.{Final}
 use Rattle.ei_session.specs.Setup.{Setup, seat_id}
-use Rattle.ei_session.specs.Handshake.{is_the_finish}
 use Rattle.ei_session.specs.Devices.{seat_is_open, made, exhausts}
 use Rattle.ei_session.specs.Refusals.{refusal, is_disconnect, judge}
 use Rattle.ei_session.specs.Events.{reply}
-use Rattle.ei_session.proofs.Choices.{and_right}
+use Rattle.ei_session.proofs.Choices.{and_right, or_true}
 use Rattle.ei_session.proofs.ObjectLaws.{made_is, not_finish}
-
-or_true : (b : Bool) → (b || true) ≡ true
-or_true true = refl
-or_true false = refl
 
 pub exhausting_reply : (setup : Setup) (past : List Raw) (m : Raw) (mask : ℕ) → made past m ≡ Some mask → exhausts past m ≡ true → reply setup past m ≡ []
 unfolding reply

@@ -1,5 +1,6 @@
 -- The definitions by what a request asks: its item, its refusal, and the words on the way to them.
 use Rattle.std.specs.Prelude.{ℕ, Bool, true, false, List, Option, Some, None, ◌==◌, if◌then◌else◌, codes}
+use Rattle.ei_spec.specs.declared.interface.KnownInterface.{KnownInterface}
 use Rattle.ei_spec.specs.declared.interface.KnownInterface.TheVariants as known
 use Rattle.ei_types.specs.declared.error.HandshakeError.TheVariants as handshake
 use Rattle.ei_spec.specs.Interface.{name_of}
@@ -9,11 +10,24 @@ use Rattle.ei_spec.specs.Groups.{Frame, Other, Free}
 use Rattle.ei_session.specs.Setup.{Setup}
 use Rattle.ei_session.specs.Built.{all_settled}
 use Rattle.ei_session.specs.Inputs.{Input, TextUtf8}
-use Rattle.ei_session.specs.Meaning.{Shake, Finishes, TellsContext, TellsName, Meaning, Shakes, Syncs, Disconnects, ReleasesSeat, Binds, RequestsDevice, Closes, Starts, Stops, Frames, Readies, Releases, Inputs}
+use Rattle.ei_session.specs.Meaning.{Shake, Finishes, TellsContext, TellsName, Meaning, Shakes, Syncs, Disconnects, Pongs, ReleasesSeat, Binds, RequestsDevice, Closes, Starts, Stops, Frames, Readies, Releases, Inputs}
 use Rattle.ei_session.specs.Objects.{Entry}
 use Rattle.ei_session.specs.Touches.{of_device}
 use Rattle.ei_session.specs.Refusals.{Refusal, Parse, Handshake, InvalidInterfaceVersion, may_give, came, bad_mask, bad_touch, bad_letters}
 use Rattle.ei_session.specs.Requests.{Bind, RequestDevice, Ready, DeviceClosed, DeviceStartEmulating, DeviceStopEmulating, Disconnect, Asking, input_item}
+
+-- the interface of which it is asked, where that is one alone; else it is one of the seven of a device
+abbrev pub of_interface : Meaning → Option KnownInterface
+of_interface (Shakes shake) = Some known.Handshake
+of_interface (Syncs callback version) = Some known.Connection
+of_interface Disconnects = Some known.Connection
+of_interface (Pongs callback_data) = Some known.Pingpong
+of_interface ReleasesSeat = Some known.Seat
+of_interface (Binds mask) = Some known.Seat
+of_interface (RequestsDevice mask) = Some known.Seat
+of_interface Releases = None
+of_interface (Inputs input) = None
+of_interface asked = Some known.Device
 
 -- whether the target is to go
 abbrev pub releases : Option Meaning → Bool
@@ -38,10 +52,20 @@ abbrev pub callback_in : Option Meaning → Option ℕ
 callback_in (Some (Syncs callback version)) = Some callback
 callback_in asked = None
 
--- the message of the handshake
-abbrev pub shake_in : Option Meaning → Option Shake
-shake_in (Some (Shakes shake)) = Some shake
-shake_in asked = None
+-- whether the handshake is to end
+abbrev pub finishes : Option Meaning → Bool
+finishes (Some (Shakes Finishes)) = true
+finishes asked = false
+
+-- whether it tells what the client is
+abbrev pub tells_context : Option Meaning → Bool
+tells_context (Some (Shakes (TellsContext context))) = true
+tells_context asked = false
+
+-- whether it tells the client's name
+abbrev pub tells_name : Option Meaning → Bool
+tells_name (Some (Shakes (TellsName name))) = true
+tells_name asked = false
 
 -- what a request to the object of that id, or to an interface of that device, gives
 abbrev pub item_for : List Raw → ℕ → Option ℕ → Option Meaning → Option Asking

@@ -6,7 +6,6 @@ use Rattle.ei_spec.specs.Message.{Raw}
 use Rattle.ei_spec.specs.History.{occurs}
 use Rattle.ei_session.specs.Setup.{Setup, connection_id, seat_id}
 use Rattle.ei_session.specs.Handshake.{connected, settled, version}
-use Rattle.ei_session.specs.Inputs.{Input}
 use Rattle.ei_session.specs.Devices.{next_id}
 use Rattle.ei_session.specs.Objects.{removes, object, interfaces_left}
 use Rattle.ei_session.specs.Serial.{serial}
@@ -32,7 +31,7 @@ home known.Seat = Some seat_id
 home interface = None
 
 -- how many frames the end of a group makes
-abbrev pub frames_for : List Input → ℕ
+abbrev pub frames_for : {X : Type 0} → List X → ℕ
 frames_for [] = 0
 frames_for (x ∷ xs) = 1
 

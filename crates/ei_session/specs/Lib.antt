@@ -16,6 +16,7 @@ pub mod Refusals
 pub mod Requests
 pub mod ByMeaning
 pub mod Events
+pub mod AnsweredByMeaning
 pub mod Kept
 pub mod Served
 pub mod Told

@@ -75,27 +75,32 @@ pub data Asks : KnownInterface → ℕ → List Value → Meaning → Type 0 whe
 
 -- ---- by names
 
+-- a name and a version
 abbrev pub telling : Option (List Value) → Option Shake
 telling (Some (Letters name ∷ Word version ∷ [])) = Some (TellsInterface name version)
 telling values = None
 
+-- a message of the handshake, if it is one
 abbrev pub shaking : Option Shake → Option Meaning
 shaking None = None
 shaking (Some shake) = Some (Shakes shake)
 
+-- a callback and its version
 abbrev pub syncing : Option (List Value) → Option Meaning
 syncing (Some (Long callback ∷ Word version ∷ [])) = Some (Syncs callback version)
 syncing values = None
 
+-- a serial and a time
 abbrev pub framing : Option (List Value) → Option Meaning
 framing (Some (Word last_serial ∷ Long time ∷ [])) = Some (Frames last_serial time)
 framing values = None
 
+-- an input, if it is one
 abbrev pub inputting : Option Input → Option Meaning
 inputting None = None
 inputting (Some input) = Some (Inputs input)
 
--- what a message to the handshake says
+-- what a message to the handshake says, by the names of the five
 abbrev pub shake : Raw → Option Shake
 shake m = first
     (one Greets (asked known.Handshake (codes "handshake_version") m)
@@ -109,7 +114,7 @@ shake m = first
 abbrev pub to_interface : KnownInterface → Raw → Option Meaning
 to_interface interface m = first (none Releases (asked interface (codes "release") m) ∷ inputting (input_to interface m) ∷ [])
 
--- what a message to an object of the interface asks
+-- what a message to an object of the interface asks: of the requests by their names, the one that it is
 unfoldable pub meaning : KnownInterface → Raw → Option Meaning
 meaning known.Handshake m = shaking (shake m)
 meaning known.Connection m = first

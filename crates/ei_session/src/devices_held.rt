@@ -12,14 +12,17 @@ ghost use Rattle.ei_session.specs.Requests.{slot};
 
 /// On an id that isn't given yet nothing waits, and no touch is down.
 pub fn fresh_devices()
-    ensures group { (setup : Setup) (before : List Raw) (id : ℕ) → next_id before ≤ id → group id (each (slot setup) before) ≡ [] }
+    ensures group { (setup : Setup) (before : List Raw) (id : ℕ) → next_id before ≤ id →
+        group id (each (slot setup) before) ≡ [] }
     ensures touches { (before : List Raw) (id touch : ℕ) → next_id before ≤ id → is_down before id touch ≡ false }
 {}
 
 /// The touches that are down are listed each once, and no others; so a list of just those, each once, is as long.
 pub fn touch_counts()
     ensures distinct { (before : List Raw) (device : ℕ) → IsDistinct nat_eq (touches_down before device) }
-    ensures members { (before : List Raw) (device touch : ℕ) → list_any (nat_eq touch) (touches_down before device) ≡ is_down before device touch }
-    ensures count { (before : List Raw) (device : ℕ) (held : List ℕ) → IsDistinct nat_eq held → ((touch : ℕ) → list_any (nat_eq touch) held ≡ is_down before device touch) →
+    ensures members { (before : List Raw) (device touch : ℕ) →
+        list_any (nat_eq touch) (touches_down before device) ≡ is_down before device touch }
+    ensures count { (before : List Raw) (device : ℕ) (held : List ℕ) → IsDistinct nat_eq held →
+        ((touch : ℕ) → list_any (nat_eq touch) held ≡ is_down before device touch) →
         length held ≡ length (touches_down before device) }
 {}

@@ -33,7 +33,8 @@ pub use kinds_of_messages::{
     other_inputs, plain_requests, seat_released,
 };
 pub use meanings::{
-    asked_by_meaning, asked_rows, refused_by_meaning, requests_ask, words_by_meaning,
+    answered_by_meaning, asked_by_meaning, asked_rows, refused_by_meaning, requests_ask,
+    words_by_meaning,
 };
 pub use next::{own_ids, peer_ids};
 pub use objects_by_id::{

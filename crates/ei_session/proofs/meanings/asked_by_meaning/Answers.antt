@@ -1,4 +1,4 @@
-use Rattle.ei_session.proofs.AskedByMeaning.{greeting_asked, finish_asked, context_type_asked, name_asked, interface_version_asked, sync_asked, disconnect_asked, pong_asked, seat_release_asked, bind_asked, request_device_asked, device_release_asked, start_asked, stop_asked, frame_asked, ready_asked, no_device_release, no_device_input}
+use Rattle.ei_session.proofs.AskedByMeaning.{greeting_asked, finish_asked, context_type_asked, name_asked, interface_version_asked, sync_asked, disconnect_asked, pong_asked, seat_release_asked, bind_asked, request_device_asked, device_release_asked, start_asked, stop_asked, frame_asked, ready_asked, its_interface, one_of_seven}
 use Rattle.ei_session.proofs.meanings.asked_by_meaning.Goals as goal
 
 pub returns : goal.returns
@@ -19,6 +19,7 @@ returns c = record {
   stop = stop_asked;
   frame = frame_asked;
   ready = ready_asked;
-  interface_release = no_device_release;
-  input = no_device_input;
+  interface = λ k i m x h o. its_interface k m x i h o;
+  no_device = λ k m x h o. (one_of_seven k m x h o).0;
+  owned = λ k m x h o. (one_of_seven k m x h o).1;
 }

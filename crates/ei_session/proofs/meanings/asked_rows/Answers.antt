@@ -1,4 +1,4 @@
-use Rattle.ei_session.proofs.AskedRows.{asked_row, asked_other, asked_nothing, unread_asked, reads_as}
+use Rattle.ei_session.proofs.AskedRows.{asked_row, asked_other, asked_nothing, unread_asked}
 use Rattle.ei_session.proofs.meanings.asked_rows.Goals as goal
 
 pub returns : goal.returns
