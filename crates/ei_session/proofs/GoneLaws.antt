@@ -70,7 +70,7 @@ given_owned : (before : List Raw) (mask : Option ℕ) (id : ℕ) (e : Entry) →
 given_owned before None id e n h = none_some e h
 given_owned before (Some mask) id e n h = owned before (next_id before) (interfaces_of mask) id e n h
 
-handed_low : (before : List Raw) (id : ℕ) (e : Entry) → handed_over before id ≡ Some e → id ≤ seat_id
+pub handed_low : (before : List Raw) (id : ℕ) (e : Entry) → handed_over before id ≡ Some e → id ≤ seat_id
 unfolding handed_over
 handed_low before id e h =
     elim (chosen (eqb id connection_id) _ _ _ h) [

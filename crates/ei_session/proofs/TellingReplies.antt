@@ -24,7 +24,7 @@ use Rattle.ei_session.proofs.Choices.{some_is, none_some, and_false}
 use Rattle.ei_session.proofs.ObjectLaws.{object_is_introduced, introduced_now, introduced_before, given_by}
 use Rattle.ei_session.proofs.GoneLaws.{Dead, dead_more}
 use Rattle.ei_session.proofs.EventRows.{reads_settled, connection_row, reads_connection, seat_row, reads_seat, reads_capability, reads_done}
-use Rattle.ei_session.proofs.Telling.{or_assoc, told_more, gone_more, interface_at, is_told, onto, onto_append, AreTold, both_told, Same, Quiet, AllQuiet, quiet_told}
+use Rattle.ei_session.proofs.Telling.{started, or_assoc, told_more, gone_more, interface_at, is_told, onto, onto_append, AreTold, both_told, Same, Quiet, AllQuiet, quiet_told}
 
 -- ---- what is told is what was introduced
 
@@ -183,9 +183,9 @@ pub record Finishes (setup : Setup) (past before earlier : List Raw) : Type 0 wh
   pub told : (id : ℕ) → told (onto (finish_events setup before) earlier) id ≡ option_or (handed_kind id) (told earlier id)
   pub gone : (id : ℕ) → occurs (destroys id) (onto (finish_events setup before) earlier) ≡ ((eqb 0 id && true) || occurs (destroys id) earlier)
 
-pub finish_told : (setup : Setup) (past before earlier : List Raw) → setup.serial < 2 ^ 32 → told earlier 0 ≡ Some known.Handshake → ((id : ℕ) → occurs (destroys id) earlier ≡ false) → Finishes setup past before earlier
+pub finish_told : (setup : Setup) (past before earlier : List Raw) → setup.serial < 2 ^ 32 → told earlier 0 ≡ Some known.Handshake → ((id : ℕ) → occurs (destroys id) earlier ≡ false) → told earlier connection_id ≡ None → told earlier seat_id ≡ None → Finishes setup past before earlier
 unfolding finish_events
-finish_told setup past before earlier small h none =
+finish_told setup past before earlier small h none free_connection free_seat =
     let A = settled_events 0 (settled before) in
     let B = capability_events seat_id setup.capabilities (λ i. is_some (settled before i)) in
     let c = connection_event 0 setup.serial connection_id in
@@ -197,13 +197,13 @@ finish_told setup past before earlier small h none =
     let h1 : told e1 0 ≡ Some known.Handshake = a.1.told 0 ∙ h in
     let rc = reads_connection setup.serial small in
     let at1 = interface_at e1 c 0 known.Handshake refl h1 in
-    let c_told = is_told setup past e1 c 0 known.Handshake connection_row _ refl h1 (a.1.gone 0 ∙ none 0) rc in
+    let c_told = is_told setup past e1 c 0 known.Handshake connection_row _ refl h1 (a.1.gone 0 ∙ none 0) (λ id k q. ap (λ (n : ℕ). told e1 n) (sym (started id connection_id (Some known.Connection) k q)) ∙ a.1.told connection_id ∙ free_connection) rc in
     let t2 : (id : ℕ) → told (c ∷ e1) id ≡ option_or (cond (eqb connection_id id) (Some known.Connection) None) (told e1 id) = λ id. told_more e1 c known.Handshake connection_row _ id at1 rc in
     let g2 : (id : ℕ) → occurs (destroys id) (c ∷ e1) ≡ ((eqb 0 id && true) || occurs (destroys id) e1) = λ id. gone_more e1 c known.Handshake connection_row _ id at1 rc in
     let h2 : told (c ∷ e1) connection_id ≡ Some known.Connection = t2 connection_id in
     let rs = reads_seat v (version_small before known.Seat) in
     let at2 = interface_at (c ∷ e1) s connection_id known.Connection refl h2 in
-    let s_told = is_told setup past (c ∷ e1) s connection_id known.Connection seat_row _ refl h2 (g2 connection_id ∙ a.1.gone connection_id ∙ none connection_id) rs in
+    let s_told = is_told setup past (c ∷ e1) s connection_id known.Connection seat_row _ refl h2 (g2 connection_id ∙ a.1.gone connection_id ∙ none connection_id) (λ id k q. ap (λ (n : ℕ). told (c ∷ e1) n) (sym (started id seat_id (Some known.Seat) k q)) ∙ t2 seat_id ∙ a.1.told seat_id ∙ free_seat) rs in
     let t3 : (id : ℕ) → told (s ∷ (c ∷ e1)) id ≡ option_or (cond (eqb seat_id id) (Some known.Seat) None) (told (c ∷ e1) id) = λ id. told_more (c ∷ e1) s known.Connection seat_row _ id at2 rs in
     let g3 : (id : ℕ) → occurs (destroys id) (s ∷ (c ∷ e1)) ≡ ((eqb connection_id id && false) || occurs (destroys id) (c ∷ e1)) = λ id. gone_more (c ∷ e1) s known.Connection seat_row _ id at2 rs in
     let e3 = s ∷ (c ∷ e1) in

@@ -21,3 +21,4 @@ pub mod NextIds
 pub mod SettledMap
 pub mod Worked
 pub mod WorkedWhole
+pub mod WorkedTold

@@ -9,7 +9,6 @@ use Rattle.ei_spec.specs.Value.{Kind, Value, IsOf}
 use Rattle.ei_spec.specs.Rows.{Announces, Nothing, Fixed, Named, Row, row_at, new_id, name_in}
 use Rattle.ei_spec.specs.Table.{table}
 use Rattle.ei_spec.specs.Message.{Raw, IsBytes}
-use Rattle.ei_spec.specs.History.{occurs}
 use Rattle.ei_session.specs.Setup.{Setup}
 use Rattle.ei_session.specs.Arguments.{row_args}
 use Rattle.ei_session.specs.Refusals.{synced}
@@ -77,17 +76,17 @@ pub record Calls (setup : Setup) (past earlier : List Raw) (event : Raw) : Type 
   pub callback : synced before sync ≡ Some event.id
   pub first : reverse earlier ≡ replies setup before
 
+-- One of the earlier events announces the id.
+pub record IsAnnounced (earlier : List Raw) (id : ℕ) : Type 0 where
+  pub later : List Raw
+  pub event : Raw
+  pub before : List Raw
+  pub place : earlier ≡ later ++ (event ∷ before)
+  pub announced : is_some (announces (interface_of before event) event id) ≡ true
+
 -- the target is object 0, or an earlier event announced it, or it is the callback of the `sync` answered
 abbrev pub HasTarget : Setup → List Raw → List Raw → Raw → Type 0
-HasTarget setup past earlier event = (is_some (told earlier event.id) ≡ true) ⊎ Calls setup past earlier event
-
--- what holds of an event behind the earlier ones: it has a target, which no earlier event destroyed, and it reads as a row
-pub record IsTold (setup : Setup) (past earlier : List Raw) (event : Raw) : Type 0 where
-  pub target : HasTarget setup past earlier event
-  pub there : occurs (destroys event.id) earlier ≡ false
-  pub row : Row
-  pub values : List Value
-  pub reads : ReadsAs (interface_of earlier event) event row values
+HasTarget setup past earlier event = (event.id ≡ 0) ⊎ (IsAnnounced earlier event.id ⊎ Calls setup past earlier event)
 
 -- In the replies to the messages of the stream the event comes right behind the earlier ones; the first serial is of four bytes.
 pub record IsReply (setup : Setup) (stream : List ℕ) (earlier : List Raw) (event : Raw) : Type 0 where
