@@ -51,7 +51,7 @@ pub fn needed_pieces()
 
 /// The versions that are settled, by their names.
 pub fn settled_names()
-    ensures touchscreen { finite.get (versions (touchscreen_announced ∷ shaken ∷ [])) (codes "ei_touchscreen") ≡ Some 2 }
+    ensures touch { finite.get (versions (touchscreen_announced ∷ shaken ∷ [])) (codes "ei_touchscreen") ≡ Some 2 }
     ensures callback { finite.get (versions (touchscreen_announced ∷ shaken ∷ [])) (codes "ei_callback") ≡ Some 1 }
     ensures seat { finite.get (versions (touchscreen_announced ∷ shaken ∷ [])) (codes "ei_seat") ≡ None }
     ensures late { finite.get (versions (shaken ∷ touchscreen_announced ∷ [])) (codes "ei_touchscreen") ≡ None }

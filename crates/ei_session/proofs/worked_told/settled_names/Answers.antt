@@ -5,7 +5,7 @@ use Rattle.ei_session.proofs.worked_told.settled_names.Goals as goal
 pub returns : goal.returns
 unfolding all_open
 returns c = record {
-  touchscreen = get_settled _ _;
+  touch = get_settled _ _;
   callback = get_settled _ _;
   seat = get_settled _ _;
   late = get_settled _ _;
