@@ -17,7 +17,7 @@ use Rattle.ei_spec.specs.History.{occurs}
 use Rattle.ei_spec.proofs.HistoryLaws.{occurs_or}
 use Rattle.ei_session.specs.Setup.{Setup}
 use Rattle.ei_session.specs.Events.{interface_event, interface_events, destroyed_event, destroyed_events}
-use Rattle.ei_session.specs.Told.{row_of, announced_as, announced_by, announces, told, interface_of, has_mark, destroys, ReadsAs, Calls, IsAnnounced, HasTarget}
+use Rattle.ei_session.specs.Told.{row_of, told_as, told_by, tells, told, interface_of, has_mark, destroys, ReadsAs, Calls, IsAnnounced, HasTarget}
 use Rattle.ei_session.proofs.Choices.{none_some, and_false, not_both}
 use Rattle.ei_session.proofs.EventRows.{known_again, interface_row, reads_interface, is_mortal, reads_destroyed}
 
@@ -35,17 +35,17 @@ no_choice : (b : Bool) (o : Option KnownInterface) → o ≡ None → cond b o N
 no_choice true o e = e
 no_choice false o e = refl
 
-pub announced_nothing : (id : ℕ) (row : Row) (values : List Value) → row.announces ≡ Nothing → announced_by id (Some row) (Some values) ≡ None
-announced_nothing id row values n = no_choice (eqb (new_id row.kinds values) id) (announced_as row.announces values) (rw n refl)
+pub announced_nothing : (id : ℕ) (row : Row) (values : List Value) → row.announces ≡ Nothing → told_by id (Some row) (Some values) ≡ None
+announced_nothing id row values n = no_choice (eqb (new_id row.kinds values) id) (told_as row.announces values) (rw n refl)
 
-pub announces_by : (k : KnownInterface) (event : Raw) (row : Row) (values : List Value) (id : ℕ) → ReadsAs k event row values → announces k event id ≡ announced_by id (Some row) (Some values)
+pub announces_by : (k : KnownInterface) (event : Raw) (row : Row) (values : List Value) (id : ℕ) → ReadsAs k event row values → tells k event id ≡ told_by id (Some row) (Some values)
 announces_by k event row values id r = rw (r.is_row, r.reads) refl
 
 pub told_more : (earlier : List Raw) (event : Raw) (k : KnownInterface) (row : Row) (values : List Value) (id : ℕ) → interface_of earlier event ≡ k → ReadsAs k event row values →
-    told (event ∷ earlier) id ≡ option_or (announced_by id (Some row) (Some values)) (told earlier id)
+    told (event ∷ earlier) id ≡ option_or (told_by id (Some row) (Some values)) (told earlier id)
 unfolding told
 told_more earlier event k row values id at r =
-    ap (λ (x : KnownInterface). option_or (announces x event id) (told earlier id)) at ∙ ap (λ (o : Option KnownInterface). option_or o (told earlier id)) (announces_by k event row values id r)
+    ap (λ (x : KnownInterface). option_or (tells x event id) (told earlier id)) at ∙ ap (λ (o : Option KnownInterface). option_or o (told earlier id)) (announces_by k event row values id r)
 
 pub gone_more : (earlier : List Raw) (event : Raw) (k : KnownInterface) (row : Row) (values : List Value) (id : ℕ) → interface_of earlier event ≡ k → ReadsAs k event row values →
     occurs (destroys id) (event ∷ earlier) ≡ ((eqb event.id id && row.destroys) || occurs (destroys id) earlier)
@@ -61,7 +61,7 @@ interface_at earlier event t k at h = ap (λ (n : ℕ). unwrap_or (told earlier 
 pub record IsTold (setup : Setup) (past earlier : List Raw) (event : Raw) : Type 0 where
   pub target : HasTarget setup past earlier event
   pub there : occurs (destroys event.id) earlier ≡ false
-  pub new : (id : ℕ) (k : KnownInterface) → announces (interface_of earlier event) event id ≡ Some k → told earlier id ≡ None
+  pub new : (id : ℕ) (k : KnownInterface) → tells (interface_of earlier event) event id ≡ Some k → told earlier id ≡ None
   pub row : Row
   pub values : List Value
   pub reads : ReadsAs (interface_of earlier event) event row values
@@ -69,7 +69,7 @@ pub record IsTold (setup : Setup) (past earlier : List Raw) (event : Raw) : Type
 later_announced : (x : Raw) (earlier : List Raw) (id : ℕ) → IsAnnounced earlier id → IsAnnounced (x ∷ earlier) id
 later_announced x earlier id a = record { later = x ∷ a.later; event = a.event; before = a.before; place = ap (λ (l : List Raw). x ∷ l) a.place; announced = a.announced }
 
-told_step : (x : Raw) (earlier : List Raw) (id : ℕ) (o : Option KnownInterface) → announces (interface_of earlier x) x id ≡ o → is_some (option_or o (told earlier id)) ≡ true → (is_some (told earlier id) ≡ true → (id ≡ 0) ⊎ IsAnnounced earlier id) → (id ≡ 0) ⊎ IsAnnounced (x ∷ earlier) id
+told_step : (x : Raw) (earlier : List Raw) (id : ℕ) (o : Option KnownInterface) → tells (interface_of earlier x) x id ≡ o → is_some (option_or o (told earlier id)) ≡ true → (is_some (told earlier id) ≡ true → (id ≡ 0) ⊎ IsAnnounced earlier id) → (id ≡ 0) ⊎ IsAnnounced (x ∷ earlier) id
 told_step x earlier id (Some k) e h next = inr (record { later = []; event = x; before = earlier; place = refl; announced = ap is_some e })
 told_step x earlier id None e h next = elim (next h) [ inl z ↦ inl z | inr a ↦ inr (later_announced x earlier id a) ]
 
@@ -81,7 +81,7 @@ told_announced [] id h = by (eqb id 0) refl h
     by : (b : Bool) → eqb id 0 ≡ b → is_some (cond b (Some known.Handshake) None) ≡ true → (id ≡ 0) ⊎ IsAnnounced [] id
     by true e h = inl (eqb-true id 0 e)
     by false e h = absurd cc
-told_announced (x ∷ earlier) id h = told_step x earlier id (announces (interface_of earlier x) x id) refl h (told_announced earlier id)
+told_announced (x ∷ earlier) id h = told_step x earlier id (tells (interface_of earlier x) x id) refl h (told_announced earlier id)
 
 target_by : (setup : Setup) (past earlier : List Raw) (event : Raw) → (event.id ≡ 0) ⊎ IsAnnounced earlier event.id → HasTarget setup past earlier event
 target_by setup past earlier event (inl z) = inl z
@@ -89,7 +89,7 @@ target_by setup past earlier event (inr a) = inr (inl a)
 
 -- what the row announces by the arguments wasn't told before
 abbrev pub IsNewBy : List Raw → Row → List Value → Type 0
-IsNewBy earlier row values = (id : ℕ) (k : KnownInterface) → announced_by id (Some row) (Some values) ≡ Some k → told earlier id ≡ None
+IsNewBy earlier row values = (id : ℕ) (k : KnownInterface) → told_by id (Some row) (Some values) ≡ Some k → told earlier id ≡ None
 
 new_nothing : (earlier : List Raw) (row : Row) (values : List Value) → row.announces ≡ Nothing → IsNewBy earlier row values
 new_nothing earlier row values n id k h = absurd (none_some k (sym (announced_nothing id row values n) ∙ h))

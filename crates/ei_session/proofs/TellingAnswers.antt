@@ -23,7 +23,7 @@ use Rattle.ei_session.specs.Serial.{serial}
 use Rattle.ei_session.specs.Refusals.{Refusal, synced, is_at_most, refusal, judge}
 use Rattle.ei_session.specs.Events.{invalid_object_event, callback_event, device_event, device_type_event, device_done_event, resumed_event, interface_events, device_events, destroyed_events, callback_events, reply_by, reply, replies}
 use Rattle.ei_session.specs.Served.{reading_of, accepted}
-use Rattle.ei_session.specs.Told.{announces, told, interface_of, destroys, ReadsAs, IsReply}
+use Rattle.ei_session.specs.Told.{tells, told, interface_of, destroys, ReadsAs, IsReply}
 use Rattle.ei_session.proofs.Choices.{chosen, some_is, none_some, not_both, and_false, and_left, and_right}
 use Rattle.ei_session.proofs.AllParts.{replies_more}
 use Rattle.ei_session.proofs.ObjectLaws.{object_is_introduced, introduced_before, next_above, given_by, made_is, not_finish}
@@ -233,7 +233,7 @@ callback_step setup before m earlier c place on t f n s new =
       was = inr (occurs_or (λ b x. is_at_most c (synced b x)) before m ∙ rw s (by (leb c c) (grind (arith, nat_tests))));
     } in
     record {
-      told = (record { target = inr (inr (record { more = []; sync = m; before = before; place = refl; callback = s; first = place })); there = fresh; new = λ id k q. absurd (none_some k (sym (announced_nothing id called_row (Long 0 ∷ []) refl) ∙ sym (announces_by known.Callback x called_row (Long 0 ∷ []) id r) ∙ ap (λ (i : KnownInterface). announces i x id) (sym at) ∙ q)); row = called_row; values = Long 0 ∷ []; reads = subst (λ k. ReadsAs k x called_row (Long 0 ∷ [])) (sym at) r }, tt);
+      told = (record { target = inr (inr (record { more = []; sync = m; before = before; place = refl; callback = s; first = place })); there = fresh; new = λ id k q. absurd (none_some k (sym (announced_nothing id called_row (Long 0 ∷ []) refl) ∙ sym (announces_by known.Callback x called_row (Long 0 ∷ []) id r) ∙ ap (λ (i : KnownInterface). tells i x id) (sym at) ∙ q)); row = called_row; values = Long 0 ∷ []; reads = subst (λ k. ReadsAs k x called_row (Long 0 ∷ [])) (sym at) r }, tt);
       tells = λ _. record {
         told = λ id. told_more earlier x known.Callback called_row _ id at r ∙ ap (λ (o : Option KnownInterface). option_or o (told earlier id)) (announced_nothing id called_row (Long 0 ∷ []) refl) ∙ t.told id ∙ ap kind_of (sym (introduced_before before m id (none id)));
         gone = λ id g. elim (either (eqb c id && true) (occurs (destroys id) earlier) (sym (gone_more earlier x known.Callback called_row _ id at r) ∙ g)) [

@@ -8,7 +8,7 @@ ghost use Rattle.ei_spec.specs.Rows.{Row};
 ghost use Rattle.ei_spec.specs.Value.{Value};
 ghost use Rattle.ei_session.specs.Setup.{Setup};
 ghost use Rattle.ei_session.specs.Served.{accepted};
-ghost use Rattle.ei_session.specs.Told.{announces, told, interface_of, destroys};
+ghost use Rattle.ei_session.specs.Told.{tells, told, interface_of, destroys};
 ghost use Rattle.ei_session.specs.Told.{ReadsAs, HasTarget, IsReply};
 
 /// Each event of the replies goes to object 0, to an object that an earlier one announced, or to the callback of
@@ -20,7 +20,7 @@ pub fn reply_targets()
     ensures there { (setup : Setup) (stream : List ℕ) (earlier : List Raw) (event : Raw) →
         IsReply setup stream earlier event → occurs (destroys event.id) earlier ≡ false }
     ensures new { (setup : Setup) (stream : List ℕ) (earlier : List Raw) (event : Raw) (id : ℕ) (i : KnownInterface) →
-        IsReply setup stream earlier event → announces (interface_of earlier event) event id ≡ Some i →
+        IsReply setup stream earlier event → tells (interface_of earlier event) event id ≡ Some i →
         told earlier id ≡ None }
     ensures reads { (setup : Setup) (stream : List ℕ) (earlier : List Raw) (event : Raw) →
         IsReply setup stream earlier event →
