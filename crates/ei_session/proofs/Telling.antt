@@ -18,7 +18,7 @@ use Rattle.ei_spec.proofs.HistoryLaws.{occurs_or}
 use Rattle.ei_session.specs.Setup.{Setup}
 use Rattle.ei_session.specs.Events.{interface_event, interface_events, destroyed_event, destroyed_events}
 use Rattle.ei_session.specs.Told.{row_of, told_as, told_by, tells, told, interface_of, has_mark, destroys, ReadsAs, Calls, IsAnnounced, HasTarget}
-use Rattle.ei_session.proofs.Choices.{none_some, and_false, not_both}
+use Rattle.ei_session.proofs.Choices.{turned, none_some, and_false, not_both}
 use Rattle.ei_session.proofs.EventRows.{known_again, interface_row, reads_interface, is_mortal, reads_destroyed}
 
 -- ---- one event
@@ -277,9 +277,6 @@ went_bools true true c = refl
 went_bools true false c = refl
 went_bools false true c = refl
 went_bools false false c = refl
-
-turned : (id j : ℕ) → eqb id j ≡ nat_eq j id
-turned id j = grind (arith, nat_tests)
 
 module _ (setup : Setup) (past : List Raw) where
   pub going_told : (ids : List ℕ) (serial : ℕ) (earlier : List Raw) → Differ ids → ((id : ℕ) → list_any (nat_eq id) ids ≡ true → Mortal earlier id) →

@@ -20,7 +20,7 @@ use Rattle.ei_session.specs.Objects.{Entry, given, handed_over, introduces, intr
 use Rattle.ei_session.specs.Serial.{serial}
 use Rattle.ei_session.specs.Refusals.{synced, is_at_most}
 use Rattle.ei_session.specs.Told.{told, destroys}
-use Rattle.ei_session.proofs.Choices.{some_is, none_some, and_false}
+use Rattle.ei_session.proofs.Choices.{not_true, turned, some_is, none_some, and_false}
 use Rattle.ei_session.proofs.ObjectLaws.{object_is_introduced, introduced_now, introduced_before, given_by}
 use Rattle.ei_session.proofs.GoneLaws.{Dead, dead_more}
 use Rattle.ei_session.proofs.EventRows.{reads_settled, connection_row, reads_connection, seat_row, reads_seat, reads_capability, reads_done}
@@ -69,10 +69,6 @@ spent_more before m id s = record {
 pub record Tells (past earlier : List Raw) : Type 0 where
   pub told : (id : ℕ) → told earlier id ≡ kind_of (introduced past id)
   pub gone : (id : ℕ) → occurs (destroys id) earlier ≡ true → Spent past id
-
-pub not_true : (b : Bool) → (b ≡ true → ⊥) → b ≡ false
-not_true true h = absurd (h refl)
-not_true false h = refl
 
 pub there_told : (past earlier : List Raw) (id : ℕ) (e : Entry) → Tells past earlier → object past id ≡ Some e → told earlier id ≡ Some e.interface
 there_told past earlier id e t k = t.told id ∙ ap kind_of (object_is_introduced past id e k)
@@ -157,9 +153,6 @@ all_capabilities_quiet mask is_settled =
 -- what the finish tells of an id
 abbrev pub handed_kind : ℕ → Option KnownInterface
 handed_kind id = option_or (cond (eqb seat_id id) (Some known.Seat) None) (cond (eqb connection_id id) (Some known.Connection) None)
-
-pub turned : (a b : ℕ) → eqb a b ≡ eqb b a
-turned a b = grind (arith, nat_tests)
 
 handed_bools : (a b : Bool) (before : List Raw) → (a ≡ true → b ≡ false) →
     option_or (cond b (Some known.Seat) None) (cond a (Some known.Connection) None) ≡
