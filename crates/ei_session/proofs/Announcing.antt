@@ -1,14 +1,14 @@
 -- Each object that a server has was announced.
-use Rattle.std.proofs.Common.{◌≡◌, ◌≢◌, ℕ, zero, suc, ◌+◌, ◌-◌, Bool, true, false, cond, not, ltb, eqb, List, [], ◌∷◌, ◌++◌, Option, Some, None, refl, sym, ap, subst, ◌∙◌, arith, inl, inr}
+use Rattle.std.proofs.Common.{◌≡◌, ◌≢◌, ℕ, zero, suc, ◌+◌, ◌-◌, Bool, true, false, not, ltb, eqb, List, [], ◌∷◌, ◌++◌, Option, Some, None, refl, sym, ap, subst, ◌∙◌, arith, inl, inr}
 use Rattle.std.specs.Prelude.{slice_get}
-use Rattle.std.specs.List.{filter_map, list_any}
+use Rattle.std.specs.List.{list_any}
 use Rattle.std.proofs.lemmas.Bool.{eqb-true, ltb-true}
 use Rattle.ei_spec.specs.declared.interface.KnownInterface.{KnownInterface}
 use Rattle.ei_spec.specs.declared.interface.KnownInterface.TheVariants as known
 use Rattle.ei_spec.specs.Message.{Raw}
 use Rattle.ei_spec.specs.History.{last_said, occurs}
 use Rattle.ei_spec.proofs.HistoryLaws.{occurs_or}
-use Rattle.ei_types.specs.Capability.{capabilities, has_bit}
+use Rattle.ei_types.specs.Capability.{capabilities}
 use Rattle.ei_session.specs.Setup.{Setup, connection_id, seat_id}
 use Rattle.ei_session.specs.Handshake.{is_the_finish, settled, version}
 use Rattle.ei_session.specs.Replies.{settled_events, connection_event, seat_event, finish_events}
@@ -17,6 +17,7 @@ use Rattle.ei_session.specs.Objects.{Entry, interface_entry, new_device, given, 
 use Rattle.ei_session.specs.Serial.{serial}
 use Rattle.ei_session.specs.Events.{device_event, interface_event, interface_events, device_events, reply, replies, announced_as, announcement, IsAmong}
 use Rattle.ei_session.proofs.Choices.{chosen, some_is, none_some, or_none}
+use Rattle.ei_session.proofs.MaskLaws.{masked_none, place_none}
 use Rattle.ei_session.proofs.AllParts.{replies_more}
 use Rattle.ei_session.proofs.ObjectLaws.{object_is_introduced, introduced_now, introduced_before}
 use Rattle.ei_session.proofs.ReplyLaws.{reply_finish, reply_made}
@@ -66,17 +67,9 @@ is_part interface = true
 abbrev no_part : KnownInterface → Bool
 no_part interface = not (is_part interface)
 
-masked_parts : (mask : ℕ) (cs : List (ℕ × KnownInterface)) → list_any (λ c. no_part c.1) cs ≡ false → list_any no_part (filter_map (λ c. cond (has_bit mask c.0) (Some c.1) None) cs) ≡ false
-masked_parts mask [] h = refl
-masked_parts mask (c ∷ cs) h = by (has_bit mask c.0) refl (or_none (no_part c.1) (list_any (λ c. no_part c.1) cs) h) (masked_parts mask cs)
-  where
-    by : (b : Bool) → has_bit mask c.0 ≡ b → (no_part c.1 ≡ false) × (list_any (λ c. no_part c.1) cs ≡ false) → (list_any (λ c. no_part c.1) cs ≡ false → list_any no_part (filter_map (λ c. cond (has_bit mask c.0) (Some c.1) None) cs) ≡ false) → list_any no_part (filter_map (λ c. cond (has_bit mask c.0) (Some c.1) None) (c ∷ cs)) ≡ false
-    by true e t next = rw (e, t.0) (next t.1)
-    by false e t next = rw e (next t.1)
-
 mask_parts : (mask : ℕ) → list_any no_part (interfaces_of mask) ≡ false
 unfolding interfaces_of
-mask_parts mask = masked_parts mask capabilities refl
+mask_parts mask = masked_none no_part mask capabilities refl
 
 as_part : (setup : Setup) (id v d : ℕ) (i : KnownInterface) → no_part i ≡ false → announced_as setup id v (Some d) i ≡ interface_event d id i v
 as_part setup id v d known.Connection h = absurd cc
@@ -98,22 +91,12 @@ interface_told versions device start (x ∷ xs) (suc k) i h =
     let at : start + 1 + k ≡ start + suc k = omega arith in
     inr (subst (λ n. IsAmong (interface_event device n i (versions i)) (interface_events versions device (start + 1) xs)) at (interface_told versions device (start + 1) xs k i h))
 
-place_part : (is : List KnownInterface) (k : ℕ) (i : KnownInterface) → list_any no_part is ≡ false → slice_get is k ≡ Some i → no_part i ≡ false
-place_part [] k i h q = absurd cc
-place_part (x ∷ xs) zero i h q =
-    let same : x ≡ i = one x i q in
-    ap no_part (sym same) ∙ (or_none (no_part x) (list_any no_part xs) h).0
-  where
-    one : (a b : KnownInterface) → Some a ≡ Some b → a ≡ b
-    one a b e = cc
-place_part (x ∷ xs) (suc k) i h q = place_part xs k i (or_none (no_part x) (list_any no_part xs) h).1 q
-
 part_told : (setup : Setup) (before : List Raw) (device id k : ℕ) (is : List KnownInterface) (o : Option KnownInterface) (e : Entry) → device + 1 + k ≡ id → list_any no_part is ≡ false → slice_get is k ≡ o → interface_entry before device o ≡ Some e →
     IsAmong (announcement setup id e) (interface_events (version before) device (device + 1) is)
 part_told setup before device id k is None e at plain q h = absurd (none_some e h)
 part_told setup before device id k is (Some i) e at plain q h =
     let told = interface_told (version before) device (device + 1) is k i q in
-    let how = sym (as_part setup id (version before i) device i (place_part is k i plain q)) in
+    let how = sym (as_part setup id (version before i) device i (place_none no_part is k i plain q)) in
     subst (λ r. IsAmong r (interface_events (version before) device (device + 1) is)) (ap (λ (n : ℕ). interface_event device n i (version before i)) at ∙ how ∙ same_event setup id _ e h) told
 
 device_told : (setup : Setup) (before : List Raw) (device serial id : ℕ) (is : List KnownInterface) (e : Entry) → list_any no_part is ≡ false → new_device before device is id ≡ Some e → IsAmong (announcement setup id e) (device_events (version before) device is serial)

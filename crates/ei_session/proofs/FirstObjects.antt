@@ -89,7 +89,7 @@ connection_was_at : (before : List Raw) (m : Raw) (b : Bool) → introduced befo
 connection_was_at before m true next f = introduced_now before m connection_id the_connection (connection_handed before m f) ∙ rw (now_connected before m f) refl
 connection_was_at before m false next f = introduced_before before m connection_id (low_none before m connection_id (omega arith) f) ∙ next ∙ rw (same_connected before m f) refl
 
-connection_was : (before : List Raw) → introduced before connection_id ≡ cond (connected before) (Some the_connection) None
+pub connection_was : (before : List Raw) → introduced before connection_id ≡ cond (connected before) (Some the_connection) None
 unfolding introduced last_said connected occurs
 connection_was [] = refl
 connection_was (m ∷ before) = connection_was_at before m (is_the_finish before m) (connection_was before) refl

@@ -1,7 +1,7 @@
 -- What goes never comes back.
 use Rattle.std.proofs.Common.{◌≡◌, ℕ, zero, suc, ◌+◌, ◌-◌, ◌<◌, ◌≤◌, Bool, true, false, cond, not, ◌&&◌, ◌||◌, ltb, eqb, List, [], ◌∷◌, ◌++◌, length, Option, Some, None, refl, sym, ap, ◌∙◌, arith, eq-eqb, ◌⊎◌, inl, inr}
 use Rattle.std.specs.Prelude.{is_some, nat_eq, slice_get}
-use Rattle.std.specs.List.{filter, filter_map, range_with_len, list_any}
+use Rattle.std.specs.List.{filter, range_with_len, list_any}
 use Rattle.std.proofs.lemmas.Bool.{eqb-true}
 use Rattle.std.proofs.lemmas.Bool.Decides.{nat_tests}
 use Rattle.std.proofs.lemmas.List.Folds.{list_any-append}
@@ -13,8 +13,9 @@ use Rattle.ei_session.specs.Setup.{connection_id, seat_id}
 use Rattle.ei_session.specs.Handshake.{connected, is_finish, is_the_finish}
 use Rattle.ei_session.specs.Devices.{made, interfaces_of, next_id, device_interfaces}
 use Rattle.ei_session.specs.Objects.{Entry, interface_entry, new_device, given, handed_over, introduces, introduced, is_release, is_device, is_of, removes, object, interfaces_left, going, gone_with, gone}
-use Rattle.ei_types.specs.Capability.{capabilities, has_bit}
-use Rattle.ei_session.proofs.Choices.{chosen, some_is, none_some, not_both, or_none}
+use Rattle.ei_types.specs.Capability.{capabilities}
+use Rattle.ei_session.proofs.Choices.{chosen, some_is, none_some, not_both}
+use Rattle.ei_session.proofs.MaskLaws.{masked_none, place_none}
 use Rattle.ei_session.proofs.Opcodes.{release_opcode}
 use Rattle.ei_session.proofs.ObjectLaws.{object_at, object_is_introduced, introduced_now, introduced_before, next_above, given_by, released, object_device_gone, nothing_left}
 use Rattle.ei_session.proofs.ObjectShape.{next_id_more, object_below, same_connected, release_makes_nothing}
@@ -70,7 +71,7 @@ given_owned : (before : List Raw) (mask : Option ℕ) (id : ℕ) (e : Entry) →
 given_owned before None id e n h = none_some e h
 given_owned before (Some mask) id e n h = owned before (next_id before) (interfaces_of mask) id e n h
 
-handed_low : (before : List Raw) (id : ℕ) (e : Entry) → handed_over before id ≡ Some e → id ≤ seat_id
+pub handed_low : (before : List Raw) (id : ℕ) (e : Entry) → handed_over before id ≡ Some e → id ≤ seat_id
 unfolding handed_over
 handed_low before id e h =
     elim (chosen (eqb id connection_id) _ _ _ h) [
@@ -145,34 +146,16 @@ member_range p id a (suc n) h = by (p a) refl h (member_range p id (a + 1) n)
 
 -- ---- a device is its own device
 
-masked_plain : (mask : ℕ) (cs : List (ℕ × KnownInterface)) → list_any (λ c. is_device c.1) cs ≡ false → list_any is_device (filter_map (λ c. cond (has_bit mask c.0) (Some c.1) None) cs) ≡ false
-masked_plain mask [] h = refl
-masked_plain mask (c ∷ cs) h = by (has_bit mask c.0) refl (or_none (is_device c.1) (list_any (λ c. is_device c.1) cs) h) (masked_plain mask cs)
-  where
-    by : (b : Bool) → has_bit mask c.0 ≡ b → (is_device c.1 ≡ false) × (list_any (λ c. is_device c.1) cs ≡ false) → (list_any (λ c. is_device c.1) cs ≡ false → list_any is_device (filter_map (λ c. cond (has_bit mask c.0) (Some c.1) None) cs) ≡ false) → list_any is_device (filter_map (λ c. cond (has_bit mask c.0) (Some c.1) None) (c ∷ cs)) ≡ false
-    by true e t next = rw (e, t.0) (next t.1)
-    by false e t next = rw e (next t.1)
-
 mask_plain : (mask : ℕ) → list_any is_device (interfaces_of mask) ≡ false
 unfolding interfaces_of
-mask_plain mask = masked_plain mask capabilities refl
-
-place_plain : (is : List KnownInterface) (k : ℕ) (i : KnownInterface) → list_any is_device is ≡ false → slice_get is k ≡ Some i → is_device i ≡ false
-place_plain [] k i h q = absurd cc
-place_plain (x ∷ xs) zero i h q =
-    let same : x ≡ i = one x i q in
-    ap is_device (sym same) ∙ (or_none (is_device x) (list_any is_device xs) h).0
-  where
-    one : (a b : KnownInterface) → Some a ≡ Some b → a ≡ b
-    one a b e = cc
-place_plain (x ∷ xs) (suc k) i h q = place_plain xs k i (or_none (is_device x) (list_any is_device xs) h).1 q
+mask_plain mask = masked_none is_device mask capabilities refl
 
 no_device_kind : (x e : Entry) → is_device x.interface ≡ false → Some x ≡ Some e → is_device e.interface ≡ true → ⊥
 no_device_kind x e f h t = not_both (is_device e.interface) t (ap (λ (y : Entry). is_device y.interface) (sym (some_is x e h)) ∙ f)
 
 entry_plain : (before : List Raw) (device : ℕ) (is : List KnownInterface) (k : ℕ) (o : Option KnownInterface) (e : Entry) → list_any is_device is ≡ false → slice_get is k ≡ o → interface_entry before device o ≡ Some e → is_device e.interface ≡ true → ⊥
 entry_plain before device is k None e h q p t = none_some e p
-entry_plain before device is k (Some i) e h q p t = no_device_kind _ e (place_plain is k i h q) p t
+entry_plain before device is k (Some i) e h q p t = no_device_kind _ e (place_none is_device is k i h q) p t
 
 new_self : (before : List Raw) (device : ℕ) (is : List KnownInterface) (id : ℕ) (e : Entry) → list_any is_device is ≡ false → new_device before device is id ≡ Some e → is_device e.interface ≡ true → e.device ≡ Some id
 unfolding new_device

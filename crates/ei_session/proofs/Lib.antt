@@ -5,6 +5,7 @@ pub mod WorkedRows
 pub mod AllOpen
 pub mod AllParts
 pub mod Choices
+pub mod MaskLaws
 pub mod Opcodes
 pub mod ObjectLaws
 pub mod ObjectShape

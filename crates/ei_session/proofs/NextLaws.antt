@@ -162,18 +162,18 @@ above g id =
       | inr x ↦ let p : leb id g ≡ true = grind (arith, nat_tests, x) in let lt : id < g + 1 = omega (arith, x) in let q : leb (g + 1) id ≡ false = grind (arith, nat_tests, lt) in rw (p, q) refl
     ]
 
-turned : (a b : Bool) → (a && b) ≡ (b && a)
-turned true true = refl
-turned true false = refl
-turned false true = refl
-turned false false = refl
+and_turned : (a b : Bool) → (a && b) ≡ (b && a)
+and_turned true true = refl
+and_turned true false = refl
+and_turned false true = refl
+and_turned false false = refl
 
 pub may_give_by : (before : List Raw) (id : ℕ) → may_give before id ≡ (leb (next_peer before) id && ltb id connection_id)
 unfolding may_give next_peer
 may_give_by before id =
     elim (cases_lt 0 id) [
       | inl low ↦ let p : ltb 0 id ≡ true = grind (arith, nat_tests, low) in
-          rw p (ap (λ (b : Bool). ltb id connection_id && not b) (at_most_greatest before id low) ∙ ap (λ (b : Bool). ltb id connection_id && b) (above (greatest (callbacks before)) id) ∙ turned (ltb id connection_id) (leb (greatest (callbacks before) + 1) id))
+          rw p (ap (λ (b : Bool). ltb id connection_id && not b) (at_most_greatest before id low) ∙ ap (λ (b : Bool). ltb id connection_id && b) (above (greatest (callbacks before)) id) ∙ and_turned (ltb id connection_id) (leb (greatest (callbacks before) + 1) id))
       | inr ge ↦ let p : ltb 0 id ≡ false = grind (arith, nat_tests, ge) in
           let lt : id < greatest (callbacks before) + 1 = omega (arith, ge) in
           let q : leb (greatest (callbacks before) + 1) id ≡ false = grind (arith, nat_tests, lt) in

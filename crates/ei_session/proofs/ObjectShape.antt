@@ -78,7 +78,7 @@ seat_was_not_at : (before : List Raw) (m : Raw) (b : Bool) → (connected before
 seat_was_not_at before m true next f off = absurd (not_both _ (now_connected before m f) off)
 seat_was_not_at before m false next f off = introduced_before before m seat_id (low_none before m seat_id (omega arith) f) ∙ next (sym (same_connected before m f) ∙ off)
 
-seat_was_not : (before : List Raw) → connected before ≡ false → introduced before seat_id ≡ None
+pub seat_was_not : (before : List Raw) → connected before ≡ false → introduced before seat_id ≡ None
 unfolding introduced last_said
 seat_was_not [] off = refl
 seat_was_not (m ∷ before) off = seat_was_not_at before m (is_the_finish before m) (seat_was_not before) refl off

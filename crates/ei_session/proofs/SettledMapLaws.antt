@@ -99,7 +99,7 @@ unknown_found : (versions : KnownInterface → Option ℕ) (q : List ℕ) (is : 
 unknown_found versions q [] n = refl
 unknown_found versions q (i ∷ is) n = rw (no_key q i n) (unknown_found versions q is n)
 
-get_settled : (before : List Raw) (q : List ℕ) → finite.get (settled_map before) q ≡ found_in (settled before) q the_twelve
+pub get_settled : (before : List Raw) (q : List ℕ) → finite.get (settled_map before) q ≡ found_in (settled before) q the_twelve
 unfolding settled_map map_of
 get_settled before q = get_in before q the_twelve
 

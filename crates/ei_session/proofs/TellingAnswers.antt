@@ -1,5 +1,5 @@
 -- Each event that answers a message goes to what the client is told of: message by message, and for a whole stream.
-use Rattle.std.proofs.Common.{◌≡◌, ℕ, ◌+◌, ◌-◌, ◌<◌, ◌^◌, Bool, true, false, cond, ◌&&◌, ◌||◌, eqb, ltb, leb, List, [], ◌∷◌, ◌++◌, reverse, length, Option, Some, None, refl, sym, ap, subst, ◌∙◌, arith, eq-eqb, inl, inr, ◌⊎◌}
+use Rattle.std.proofs.Common.{◌≡◌, ℕ, ◌+◌, ◌-◌, ◌<◌, ◌≤◌, ◌^◌, Bool, true, false, cond, ◌&&◌, ◌||◌, eqb, ltb, leb, List, [], ◌∷◌, ◌++◌, reverse, length, Option, Some, None, refl, sym, ap, subst, ◌∙◌, arith, eq-eqb, inl, inr, ◌⊎◌}
 use Rattle.std.specs.Prelude.{is_some, unwrap_or, nat_eq, slice_get}
 use Rattle.std.specs.Option.{option_or}
 use Rattle.std.specs.List.{list_any}
@@ -23,19 +23,19 @@ use Rattle.ei_session.specs.Serial.{serial}
 use Rattle.ei_session.specs.Refusals.{Refusal, synced, is_at_most, refusal, judge}
 use Rattle.ei_session.specs.Events.{invalid_object_event, callback_event, device_event, device_type_event, device_done_event, resumed_event, interface_events, device_events, destroyed_events, callback_events, reply_by, reply, replies}
 use Rattle.ei_session.specs.Served.{reading_of, accepted}
-use Rattle.ei_session.specs.Told.{told, interface_of, destroys, ReadsAs, IsTold, IsReply}
-use Rattle.ei_session.proofs.Choices.{chosen, some_is, none_some, not_both, and_false, and_left, and_right}
+use Rattle.ei_session.specs.Told.{tells, told, interface_of, destroys, ReadsAs, IsReply}
+use Rattle.ei_session.proofs.Choices.{not_true, turned, chosen, some_is, none_some, not_both, and_false, and_left, and_right}
 use Rattle.ei_session.proofs.AllParts.{replies_more}
 use Rattle.ei_session.proofs.ObjectLaws.{object_is_introduced, introduced_before, next_above, given_by, made_is, not_finish}
-use Rattle.ei_session.proofs.ObjectShape.{at_finish, same_connected, now_connected, seat_was, low_none, object_seat}
-use Rattle.ei_session.proofs.FirstObjects.{the_connection, handshake_was, object_handshake, object_connection, connection_unreleased, never_released, object_first}
-use Rattle.ei_session.proofs.GoneLaws.{connected_by, goes, some_entry}
+use Rattle.ei_session.proofs.ObjectShape.{given_range, next_id_more, seat_was_not, at_finish, same_connected, now_connected, seat_was, low_none, object_seat}
+use Rattle.ei_session.proofs.FirstObjects.{connection_was, the_connection, handshake_was, object_handshake, object_connection, connection_unreleased, never_released, object_first}
+use Rattle.ei_session.proofs.GoneLaws.{handed_low, connected_by, goes, some_entry}
 use Rattle.ei_session.proofs.SerialLaws.{gone_plain}
 use Rattle.ei_session.proofs.NewCallbacks.{IsNew, callback_new}
 use Rattle.ei_session.proofs.AcceptedLaws.{accepted_so, ended_so, no_exhausting}
 use Rattle.ei_session.proofs.EventRows.{reads_greeting, reads_invalid, called_row, reads_callback, device_row, reads_device, reads_type, reads_described, reads_resumed}
-use Rattle.ei_session.proofs.Telling.{or_assoc, told_more, gone_more, is_told, onto, onto_append, onto_nothing, AreTold, both_told, told_at, told_later, quiet_told, interface_at, parts_at, parts_below, parts_slot, parts_told, Mortal, going_told, or_nothing, announced_nothing}
-use Rattle.ei_session.proofs.TellingReplies.{kind_of, kinds_or, introduced_more, Spent, spent_more, Tells, not_true, there_told, there_alive, Step, same_tells, no_events, gives_none, version_small, serial_small, handed_kinds, turned, finish_told}
+use Rattle.ei_session.proofs.Telling.{IsTold, announces_by, started, or_assoc, told_more, gone_more, is_told, onto, onto_append, onto_nothing, AreTold, both_told, told_at, told_later, quiet_told, interface_at, parts_at, parts_below, parts_slot, parts_told, Mortal, going_told, or_nothing, announced_nothing}
+use Rattle.ei_session.proofs.TellingReplies.{kind_of, kinds_or, introduced_more, Spent, spent_more, Tells, there_told, there_alive, Step, same_tells, no_events, gives_none, version_small, serial_small, handed_kinds, finish_told}
 use Rattle.ei_session.proofs.TellingGone.{gone_differ, gone_mortal}
 
 introduced_kinds : (before : List Raw) (m : Raw) (id : ℕ) → kind_of (introduced (m ∷ before) id) ≡ option_or (kind_of (introduces before m id)) (kind_of (introduced before id))
@@ -55,7 +55,8 @@ finish_step : (setup : Setup) (before : List Raw) (m : Raw) (earlier : List Raw)
 finish_step setup before m earlier small t f =
     let off = (at_finish before m f).1 in
     let none : (id : ℕ) → occurs (destroys id) earlier ≡ false = λ id. not_true _ (λ g. not_both (connected before) (t.gone id g).dead.on off) in
-    let fin = finish_told setup (m ∷ before) before earlier small (t.told 0 ∙ ap kind_of (handshake_was before)) none in
+    let no_connection : introduced before connection_id ≡ None = connection_was before ∙ rw off refl in
+    let fin = finish_told setup (m ∷ before) before earlier small (t.told 0 ∙ ap kind_of (handshake_was before)) none (t.told connection_id ∙ ap kind_of no_connection) (t.told seat_id ∙ ap kind_of (seat_was_not before off)) in
     let zero_spent : Spent (m ∷ before) 0 = record {
       dead = record { on = now_connected before m f; none = object_handshake (m ∷ before) ∙ rw (now_connected before m f) refl; low = omega (arith, next_above (m ∷ before)) };
       was = inl (ap is_some (handshake_was (m ∷ before)));
@@ -91,6 +92,28 @@ new_kinds before d is id =
     by true = refl
     by false = refl
 
+below_step : (before : List Raw) (m : Raw) (id : ℕ) (e : Entry) (o : Option Entry) (b : Bool) → (introduced before id ≡ Some e → id < next_id before) → introduces before m id ≡ o → is_the_finish before m ≡ b → introduced (m ∷ before) id ≡ Some e → id < next_id (m ∷ before)
+below_step before m id e (Some x) true next q f h = omega (arith, next_above (m ∷ before), handed_low before id x (sym (handed_by before m id f) ∙ q))
+below_step before m id e (Some x) false next q f h = omega (arith, next_id_more before m, (given_range before m (made before m) id x refl (sym (given_by before m id f) ∙ q)).1)
+below_step before m id e None b next q f h = omega (arith, next_id_more before m, next (sym (introduced_before before m id q) ∙ h))
+
+-- what was introduced has an id below the next
+introduced_below : (before : List Raw) (id : ℕ) (e : Entry) → introduced before id ≡ Some e → id < next_id before
+unfolding introduced last_said
+introduced_below [] id e h =
+    elim (chosen (eqb id 0) _ _ _ h) [
+      | inl a ↦ omega (arith, next_above [], eqb-true id 0 a.0)
+      | inr b ↦ absurd (none_some e b.1)
+    ]
+introduced_below (m ∷ before) id e h = below_step before m id e (introduces before m id) (is_the_finish before m) (introduced_below before id e) refl refl h
+
+none_above : (before : List Raw) (id : ℕ) → next_id before ≤ id → introduced before id ≡ None
+none_above before id le = by (introduced before id) refl
+  where
+    by : (o : Option Entry) → introduced before id ≡ o → o ≡ None
+    by None e = refl
+    by (Some x) e = absurd (omega (arith, le, introduced_below before id x e))
+
 room_at : (before : List Raw) (m : Raw) (mask : ℕ) → made before m ≡ Some mask → exhausts before m ≡ false → next_id before + length (interfaces_of mask) < 0xffffffffffffffff
 unfolding exhausts
 room_at before m mask h x =
@@ -122,8 +145,10 @@ device_step setup before m earlier mask last small t h x =
     let typed = device_type_event d ∷ [] in
     let y = quiet_told setup past known.Device d typed (v ∷ earlier) (record { at = refl; row = _; values = _; reads = reads_type d; nothing = refl; stays = refl }, tt) h1 (k1 d ∙ new) in
     let e2 = onto typed (v ∷ earlier) in
+    let free : (id : ℕ) → d ≤ id → told earlier id ≡ None = λ id le. t.told id ∙ ap kind_of (none_above before id le) in
+    let free_later : (id : ℕ) → d + 1 ≤ id → told e2 id ≡ None = λ id le. let other : eqb d id ≡ false = grind (arith, nat_tests, le) in y.1.told id ∙ t1 id ∙ rw other (free id (omega (arith, le))) in
     let parts = interface_events (version before) d (d + 1) is in
-    let p = parts_told setup past (version before) d (version_small before) is (d + 1) e2 (omega arith) (omega (arith, room)) (y.1.told d ∙ h1) (y.1.gone d ∙ k1 d ∙ new) in
+    let p = parts_told setup past (version before) d (version_small before) is (d + 1) e2 (omega arith) (omega (arith, room)) (y.1.told d ∙ h1) (y.1.gone d ∙ k1 d ∙ new) free_later in
     let e3 = onto parts e2 in
     let ends = device_done_event d ∷ (resumed_event d last ∷ []) in
     let z = quiet_told setup past known.Device d ends e3 (record { at = refl; row = _; values = _; reads = reads_described d; nothing = refl; stays = refl }, (record { at = refl; row = _; values = _; reads = reads_resumed d last small; nothing = refl; stays = refl }, tt))
@@ -132,7 +157,7 @@ device_step setup before m earlier mask last small t h x =
     let here : m.id ≡ seat_id = eqb-true m.id seat_id (and_right (seat_is_open before) (eqb m.id seat_id) open_seat) in
     let f = not_finish before m (omega (arith, here)) in
     record {
-      told = (is_told setup past earlier v seat_id known.Seat device_row _ refl h0 g0 r, (y.0.0, both_told setup past parts ends e2 p.0 z.0));
+      told = (is_told setup past earlier v seat_id known.Seat device_row _ refl h0 g0 (λ id k q. free id (omega (arith, started id d (Some known.Device) k q))) r, (y.0.0, both_told setup past parts ends e2 p.0 z.0));
       tells = λ _. record {
         told = λ id.
             let by_new : introduces before m id ≡ new_device before d is id = given_by before m id f ∙ ap (λ (o : Option ℕ). given before o id) h in
@@ -208,7 +233,7 @@ callback_step setup before m earlier c place on t f n s new =
       was = inr (occurs_or (λ b x. is_at_most c (synced b x)) before m ∙ rw s (by (leb c c) (grind (arith, nat_tests))));
     } in
     record {
-      told = (record { target = inr (record { more = []; sync = m; before = before; place = refl; callback = s; first = place }); there = fresh; row = called_row; values = Long 0 ∷ []; reads = subst (λ k. ReadsAs k x called_row (Long 0 ∷ [])) (sym at) r }, tt);
+      told = (record { target = inr (inr (record { more = []; sync = m; before = before; place = refl; callback = s; first = place })); there = fresh; new = λ id k q. absurd (none_some k (sym (announced_nothing id called_row (Long 0 ∷ []) refl) ∙ sym (announces_by known.Callback x called_row (Long 0 ∷ []) id r) ∙ ap (λ (i : KnownInterface). tells i x id) (sym at) ∙ q)); row = called_row; values = Long 0 ∷ []; reads = subst (λ k. ReadsAs k x called_row (Long 0 ∷ [])) (sym at) r }, tt);
       tells = λ _. record {
         told = λ id. told_more earlier x known.Callback called_row _ id at r ∙ ap (λ (o : Option KnownInterface). option_or o (told earlier id)) (announced_nothing id called_row (Long 0 ∷ []) refl) ∙ t.told id ∙ ap kind_of (sym (introduced_before before m id (none id)));
         gone = λ id g. elim (either (eqb c id && true) (occurs (destroys id) earlier) (sym (gone_more earlier x known.Callback called_row _ id at r) ∙ g)) [

@@ -1,39 +1,32 @@
 -- What goes, goes once, and by a row of its interface.
 use Rattle.std.proofs.Common.{◌≡◌, ℕ, zero, suc, ◌+◌, ◌-◌, Bool, true, false, cond, not, eqb, ltb, List, [], ◌∷◌, ◌++◌, length, Option, Some, None, refl, sym, ap, ◌∙◌, arith, inl, inr}
 use Rattle.std.specs.Prelude.{is_some, nat_eq, slice_get, codes}
-use Rattle.std.specs.List.{filter, filter_map, list_any, range_with_len}
-use Rattle.std.proofs.lemmas.Bool.Decides.{nat_tests}
+use Rattle.std.specs.List.{filter, list_any, range_with_len}
 use Rattle.std.proofs.lemmas.List.Folds.{list_any-append}
 use Rattle.ei_spec.specs.declared.interface.KnownInterface.{KnownInterface}
 use Rattle.ei_spec.specs.declared.interface.KnownInterface.TheVariants as known
 use Rattle.ei_spec.specs.Message.{Raw}
 use Rattle.ei_spec.specs.History.{last_said}
-use Rattle.ei_types.specs.Capability.{capabilities, has_bit}
+use Rattle.ei_types.specs.Capability.{capabilities}
 use Rattle.ei_session.specs.Asked.{asked, asks}
 use Rattle.ei_session.specs.Devices.{interfaces_of, made, next_id, device_interfaces}
 use Rattle.ei_session.specs.Objects.{Entry, interface_entry, new_device, given, introduces, introduced, is_release, object, interfaces_left, going, gone_with, gone}
-use Rattle.ei_session.proofs.Choices.{chosen, some_is, none_some, or_none}
+use Rattle.ei_session.proofs.Choices.{not_true, turned, chosen, some_is, none_some, or_none}
 use Rattle.ei_session.proofs.ObjectLaws.{object_is_introduced, introduced_now, introduced_before, by_making, no_device}
 use Rattle.ei_session.proofs.DeviceRange.{range_owner}
 use Rattle.ei_session.proofs.GoneLaws.{member_range, going_cases}
+use Rattle.ei_session.proofs.MaskLaws.{masked_none, place_none}
 use Rattle.ei_session.proofs.EventRows.{is_mortal}
 use Rattle.ei_session.proofs.Telling.{Differ}
 
 -- ---- no id goes twice
-
-false_by : (b : Bool) → (b ≡ true → ⊥) → b ≡ false
-false_by true h = absurd (h refl)
-false_by false h = refl
-
-turned : (a b : ℕ) → nat_eq a b ≡ nat_eq b a
-turned a b = grind (arith, nat_tests)
 
 differ_range : (p : ℕ → Bool) (a n : ℕ) → Differ (filter p (range_with_len a n))
 differ_range p a zero = tt
 differ_range p a (suc n) = by (p a) refl (differ_range p (a + 1) n)
   where
     by : (b : Bool) → p a ≡ b → Differ (filter p (range_with_len (a + 1) n)) → Differ (filter p (range_with_len a (suc n)))
-    by true e next = rw e (false_by _ (λ h. let w = member_range p a (a + 1) n h in omega (arith, w.1)), next)
+    by true e next = rw e (not_true _ (λ h. let w = member_range p a (a + 1) n h in omega (arith, w.1)), next)
     by false e next = rw e next
 
 last_apart : (x y : ℕ) (ys : List ℕ) → list_any (nat_eq y) ys ≡ false → nat_eq x y ≡ false → list_any (nat_eq y) (ys ++ (x ∷ [])) ≡ false
@@ -47,7 +40,7 @@ differ_going : (before : List Raw) (id : ℕ) (k : KnownInterface) → Differ (g
 unfolding interfaces_left
 differ_going before id known.Device =
     differ_last (interfaces_left before id) id (differ_range (λ x. is_some (object before x)) (id + 1) (length (device_interfaces before id)))
-    (false_by _ (λ h. let w = member_range (λ x. is_some (object before x)) id (id + 1) (length (device_interfaces before id)) h in omega (arith, w.1)))
+    (not_true _ (λ h. let w = member_range (λ x. is_some (object before x)) id (id + 1) (length (device_interfaces before id)) h in omega (arith, w.1)))
 differ_going before id k = (refl, tt)
 
 differ_with : (before : List Raw) (m : Raw) (o : Option Entry) → Differ (gone_with before m o)
@@ -74,22 +67,9 @@ mortal_by k h = by (is_mortal k) h
     by true e = refl
     by false e = absurd cc
 
-masked_none : (p : KnownInterface → Bool) (mask : ℕ) (cs : List (ℕ × KnownInterface)) → list_any (λ c. p c.1) cs ≡ false → list_any p (filter_map (λ c. cond (has_bit mask c.0) (Some c.1) None) cs) ≡ false
-masked_none p mask [] h = refl
-masked_none p mask (c ∷ cs) h = by (has_bit mask c.0) refl (or_none (p c.1) (list_any (λ c. p c.1) cs) h) (masked_none p mask cs)
-  where
-    by : (b : Bool) → has_bit mask c.0 ≡ b → (p c.1 ≡ false) × (list_any (λ c. p c.1) cs ≡ false) → (list_any (λ c. p c.1) cs ≡ false → list_any p (filter_map (λ c. cond (has_bit mask c.0) (Some c.1) None) cs) ≡ false) → list_any p (filter_map (λ c. cond (has_bit mask c.0) (Some c.1) None) (c ∷ cs)) ≡ false
-    by true e t next = rw (e, t.0) (next t.1)
-    by false e t next = rw e (next t.1)
-
 mask_mortal : (mask : ℕ) → list_any no_mortal (interfaces_of mask) ≡ false
 unfolding interfaces_of
 mask_mortal mask = masked_none no_mortal mask capabilities refl
-
-place_none : (p : KnownInterface → Bool) (is : List KnownInterface) (k : ℕ) (i : KnownInterface) → list_any p is ≡ false → slice_get is k ≡ Some i → p i ≡ false
-place_none p [] k i h q = absurd cc
-place_none p (x ∷ xs) zero i h q = ap p (sym (some_is x i q)) ∙ (or_none (p x) (list_any p xs) h).0
-place_none p (x ∷ xs) (suc k) i h q = place_none p xs k i (or_none (p x) (list_any p xs) h).1 q
 
 same_mortal : (x e : Entry) → Some x ≡ Some e → is_mortal x.interface ≡ true → is_mortal e.interface ≡ true
 same_mortal x e h m = ap (λ (y : Entry). is_mortal y.interface) (sym (some_is x e h)) ∙ m

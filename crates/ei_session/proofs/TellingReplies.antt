@@ -20,11 +20,11 @@ use Rattle.ei_session.specs.Objects.{Entry, given, handed_over, introduces, intr
 use Rattle.ei_session.specs.Serial.{serial}
 use Rattle.ei_session.specs.Refusals.{synced, is_at_most}
 use Rattle.ei_session.specs.Told.{told, destroys}
-use Rattle.ei_session.proofs.Choices.{some_is, none_some, and_false}
+use Rattle.ei_session.proofs.Choices.{not_true, turned, some_is, none_some, and_false}
 use Rattle.ei_session.proofs.ObjectLaws.{object_is_introduced, introduced_now, introduced_before, given_by}
 use Rattle.ei_session.proofs.GoneLaws.{Dead, dead_more}
 use Rattle.ei_session.proofs.EventRows.{reads_settled, connection_row, reads_connection, seat_row, reads_seat, reads_capability, reads_done}
-use Rattle.ei_session.proofs.Telling.{or_assoc, told_more, gone_more, interface_at, is_told, onto, onto_append, AreTold, both_told, Same, Quiet, AllQuiet, quiet_told}
+use Rattle.ei_session.proofs.Telling.{started, or_assoc, told_more, gone_more, interface_at, is_told, onto, onto_append, AreTold, both_told, Same, Quiet, AllQuiet, quiet_told}
 
 -- ---- what is told is what was introduced
 
@@ -69,10 +69,6 @@ spent_more before m id s = record {
 pub record Tells (past earlier : List Raw) : Type 0 where
   pub told : (id : ℕ) → told earlier id ≡ kind_of (introduced past id)
   pub gone : (id : ℕ) → occurs (destroys id) earlier ≡ true → Spent past id
-
-pub not_true : (b : Bool) → (b ≡ true → ⊥) → b ≡ false
-not_true true h = absurd (h refl)
-not_true false h = refl
 
 pub there_told : (past earlier : List Raw) (id : ℕ) (e : Entry) → Tells past earlier → object past id ≡ Some e → told earlier id ≡ Some e.interface
 there_told past earlier id e t k = t.told id ∙ ap kind_of (object_is_introduced past id e k)
@@ -158,9 +154,6 @@ all_capabilities_quiet mask is_settled =
 abbrev pub handed_kind : ℕ → Option KnownInterface
 handed_kind id = option_or (cond (eqb seat_id id) (Some known.Seat) None) (cond (eqb connection_id id) (Some known.Connection) None)
 
-pub turned : (a b : ℕ) → eqb a b ≡ eqb b a
-turned a b = grind (arith, nat_tests)
-
 handed_bools : (a b : Bool) (before : List Raw) → (a ≡ true → b ≡ false) →
     option_or (cond b (Some known.Seat) None) (cond a (Some known.Connection) None) ≡
     kind_of (cond a (Some (record { interface = known.Connection; version = 1; device = None })) (cond b (Some (record { interface = known.Seat; version = version before known.Seat; device = None })) None))
@@ -183,9 +176,9 @@ pub record Finishes (setup : Setup) (past before earlier : List Raw) : Type 0 wh
   pub told : (id : ℕ) → told (onto (finish_events setup before) earlier) id ≡ option_or (handed_kind id) (told earlier id)
   pub gone : (id : ℕ) → occurs (destroys id) (onto (finish_events setup before) earlier) ≡ ((eqb 0 id && true) || occurs (destroys id) earlier)
 
-pub finish_told : (setup : Setup) (past before earlier : List Raw) → setup.serial < 2 ^ 32 → told earlier 0 ≡ Some known.Handshake → ((id : ℕ) → occurs (destroys id) earlier ≡ false) → Finishes setup past before earlier
+pub finish_told : (setup : Setup) (past before earlier : List Raw) → setup.serial < 2 ^ 32 → told earlier 0 ≡ Some known.Handshake → ((id : ℕ) → occurs (destroys id) earlier ≡ false) → told earlier connection_id ≡ None → told earlier seat_id ≡ None → Finishes setup past before earlier
 unfolding finish_events
-finish_told setup past before earlier small h none =
+finish_told setup past before earlier small h none free_connection free_seat =
     let A = settled_events 0 (settled before) in
     let B = capability_events seat_id setup.capabilities (λ i. is_some (settled before i)) in
     let c = connection_event 0 setup.serial connection_id in
@@ -197,13 +190,13 @@ finish_told setup past before earlier small h none =
     let h1 : told e1 0 ≡ Some known.Handshake = a.1.told 0 ∙ h in
     let rc = reads_connection setup.serial small in
     let at1 = interface_at e1 c 0 known.Handshake refl h1 in
-    let c_told = is_told setup past e1 c 0 known.Handshake connection_row _ refl h1 (a.1.gone 0 ∙ none 0) rc in
+    let c_told = is_told setup past e1 c 0 known.Handshake connection_row _ refl h1 (a.1.gone 0 ∙ none 0) (λ id k q. ap (λ (n : ℕ). told e1 n) (sym (started id connection_id (Some known.Connection) k q)) ∙ a.1.told connection_id ∙ free_connection) rc in
     let t2 : (id : ℕ) → told (c ∷ e1) id ≡ option_or (cond (eqb connection_id id) (Some known.Connection) None) (told e1 id) = λ id. told_more e1 c known.Handshake connection_row _ id at1 rc in
     let g2 : (id : ℕ) → occurs (destroys id) (c ∷ e1) ≡ ((eqb 0 id && true) || occurs (destroys id) e1) = λ id. gone_more e1 c known.Handshake connection_row _ id at1 rc in
     let h2 : told (c ∷ e1) connection_id ≡ Some known.Connection = t2 connection_id in
     let rs = reads_seat v (version_small before known.Seat) in
     let at2 = interface_at (c ∷ e1) s connection_id known.Connection refl h2 in
-    let s_told = is_told setup past (c ∷ e1) s connection_id known.Connection seat_row _ refl h2 (g2 connection_id ∙ a.1.gone connection_id ∙ none connection_id) rs in
+    let s_told = is_told setup past (c ∷ e1) s connection_id known.Connection seat_row _ refl h2 (g2 connection_id ∙ a.1.gone connection_id ∙ none connection_id) (λ id k q. ap (λ (n : ℕ). told (c ∷ e1) n) (sym (started id seat_id (Some known.Seat) k q)) ∙ t2 seat_id ∙ a.1.told seat_id ∙ free_seat) rs in
     let t3 : (id : ℕ) → told (s ∷ (c ∷ e1)) id ≡ option_or (cond (eqb seat_id id) (Some known.Seat) None) (told (c ∷ e1) id) = λ id. told_more (c ∷ e1) s known.Connection seat_row _ id at2 rs in
     let g3 : (id : ℕ) → occurs (destroys id) (s ∷ (c ∷ e1)) ≡ ((eqb connection_id id && false) || occurs (destroys id) (c ∷ e1)) = λ id. gone_more (c ∷ e1) s known.Connection seat_row _ id at2 rs in
     let e3 = s ∷ (c ∷ e1) in

@@ -25,3 +25,4 @@ pub mod NextIds
 pub mod SettledMap
 pub mod Worked
 pub mod WorkedWhole
+pub mod WorkedTold

@@ -9,7 +9,6 @@ use Rattle.ei_spec.specs.Value.{Kind, Value, IsOf}
 use Rattle.ei_spec.specs.Rows.{Announces, Nothing, Fixed, Named, Row, row_at, new_id, name_in}
 use Rattle.ei_spec.specs.Table.{table}
 use Rattle.ei_spec.specs.Message.{Raw, IsBytes}
-use Rattle.ei_spec.specs.History.{occurs}
 use Rattle.ei_session.specs.Setup.{Setup}
 use Rattle.ei_session.specs.Arguments.{row_args}
 use Rattle.ei_session.specs.Refusals.{synced}
@@ -23,24 +22,24 @@ abbrev pub row_of : KnownInterface → Raw → Option Row
 row_of interface event = row_at event.opcode (table true interface)
 
 -- the interface of what a row announces by these arguments
-abbrev pub announced_as : Announces → List Value → Option KnownInterface
-announced_as Nothing values = None
-announced_as (Fixed interface) values = Some interface
-announced_as Named values = known_of (name_in values)
+abbrev pub told_as : Announces → List Value → Option KnownInterface
+told_as Nothing values = None
+told_as (Fixed interface) values = Some interface
+told_as Named values = known_of (name_in values)
 
 -- the interface of the id, where the row announces that id by these arguments
-abbrev pub announced_by : ℕ → Option Row → Option (List Value) → Option KnownInterface
-announced_by id (Some row) (Some values) = if new_id row.kinds values == id then announced_as row.announces values else None
-announced_by id row values = None
+abbrev pub told_by : ℕ → Option Row → Option (List Value) → Option KnownInterface
+told_by id (Some row) (Some values) = if new_id row.kinds values == id then told_as row.announces values else None
+told_by id row values = None
 
 -- the interface of the id, where the event announces it, as it goes to an object of this interface
-abbrev pub announces : KnownInterface → Raw → ℕ → Option KnownInterface
-announces interface event id = announced_by id (row_of interface event) (row_args (row_of interface event) event)
+abbrev pub tells : KnownInterface → Raw → ℕ → Option KnownInterface
+tells interface event id = told_by id (row_of interface event) (row_args (row_of interface event) event)
 
 -- the interface that the client is told of the id: object 0 is the handshake, and any other is what an event announced
 unfoldable pub told : List Raw → ℕ → Option KnownInterface
 told [] id = if id == 0 then Some known.Handshake else None
-told (event ∷ earlier) id = option_or (announces (unwrap_or (told earlier event.id) known.Callback) event id) (told earlier id)
+told (event ∷ earlier) id = option_or (tells (unwrap_or (told earlier event.id) known.Callback) event id) (told earlier id)
 
 -- the interface of the event's target: what no event announced is the client's own, a callback
 abbrev pub interface_of : List Raw → Raw → KnownInterface
@@ -77,17 +76,17 @@ pub record Calls (setup : Setup) (past earlier : List Raw) (event : Raw) : Type 
   pub callback : synced before sync ≡ Some event.id
   pub first : reverse earlier ≡ replies setup before
 
+-- One of the earlier events announces the id.
+pub record IsAnnounced (earlier : List Raw) (id : ℕ) : Type 0 where
+  pub later : List Raw
+  pub event : Raw
+  pub before : List Raw
+  pub place : earlier ≡ later ++ (event ∷ before)
+  pub announced : is_some (tells (interface_of before event) event id) ≡ true
+
 -- the target is object 0, or an earlier event announced it, or it is the callback of the `sync` answered
 abbrev pub HasTarget : Setup → List Raw → List Raw → Raw → Type 0
-HasTarget setup past earlier event = (is_some (told earlier event.id) ≡ true) ⊎ Calls setup past earlier event
-
--- what holds of an event behind the earlier ones: it has a target, which no earlier event destroyed, and it reads as a row
-pub record IsTold (setup : Setup) (past earlier : List Raw) (event : Raw) : Type 0 where
-  pub target : HasTarget setup past earlier event
-  pub there : occurs (destroys event.id) earlier ≡ false
-  pub row : Row
-  pub values : List Value
-  pub reads : ReadsAs (interface_of earlier event) event row values
+HasTarget setup past earlier event = (event.id ≡ 0) ⊎ (IsAnnounced earlier event.id ⊎ Calls setup past earlier event)
 
 -- In the replies to the messages of the stream the event comes right behind the earlier ones; the first serial is of four bytes.
 pub record IsReply (setup : Setup) (stream : List ℕ) (earlier : List Raw) (event : Raw) : Type 0 where

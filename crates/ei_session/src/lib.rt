@@ -20,6 +20,7 @@ mod theorems;
 mod told;
 mod versions;
 mod worked;
+mod worked_told;
 
 pub use all_requests::{
     all_one_more, all_prefixes, all_sessions, all_streams, answers, bounds, built_requests,
@@ -46,3 +47,4 @@ pub use versions::settled_versions;
 pub use worked::{
     callbacks, devices, first_messages, handshakes, strangers, texts, touches, whole_session,
 };
+pub use worked_told::{given_ids, needed_pieces, settled_names, told_objects};

@@ -1,6 +1,7 @@
 //! The ids that are given next. Each function does nothing: its clauses are the laws.
 
-ghost use Rattle.std.specs.Prelude.{◌≡◌, ◌≤◌, ◌<◌, ◌+◌, ◌==◌, ◌&&◌, ℕ, max, List, [], ◌∷◌, Bool, true, false, Option, Some, None, length, nat_le, nat_lt, codes, if◌then◌else◌};
+ghost use Rattle.std.specs.Prelude.{◌≡◌, ◌≤◌, ◌<◌, ◌+◌, ◌==◌, ◌&&◌, ℕ, max, nat_le, nat_lt, true, false};
+ghost use Rattle.std.specs.Prelude.{List, [], ◌∷◌, length, Some, None, codes, if◌then◌else◌};
 ghost use Rattle.ei_spec.specs.declared.interface.KnownInterface.TheVariants as known;
 ghost use Rattle.ei_spec.specs.Interface.{name_of};
 ghost use Rattle.ei_spec.specs.Value.{Word, Long};
@@ -19,18 +20,20 @@ ghost use Rattle.ei_session.specs.NextIds.{next_own, next_peer};
 pub fn own_ids()
     ensures first { (before : List Raw) → connected before ≡ false → next_own before ≡ connection_id }
     ensures connected { (before : List Raw) → connected before ≡ true → next_own before ≡ next_id before }
-    ensures finish { (before : List Raw) (m : Raw) → is_the_finish before m ≡ true → next_own (m ∷ before) ≡ seat_id + 1 }
+    ensures finish { (before : List Raw) (m : Raw) → is_the_finish before m ≡ true →
+        next_own (m ∷ before) ≡ seat_id + 1 }
     ensures device { (before : List Raw) (m : Raw) (mask : ℕ) → made before m ≡ Some mask →
         next_own (m ∷ before) ≡ next_own before + (1 + length (interfaces_of mask)) }
     ensures other { (before : List Raw) (m : Raw) → is_the_finish before m ≡ false → made before m ≡ None →
         next_own (m ∷ before) ≡ next_own before }
-    ensures made { (before : List Raw) (m : Raw) (mask : ℕ) → made before m ≡ Some mask → next_id before ≡ next_own before }
+    ensures made { (before : List Raw) (m : Raw) (mask : ℕ) → made before m ≡ Some mask →
+        next_id before ≡ next_own before }
     ensures exhausting { (before : List Raw) (m : Raw) (mask : ℕ) → made before m ≡ Some mask →
         exhausts before m ≡ nat_le 0xffffffffffffffff (next_own before + length (interfaces_of mask)) }
     ensures below { (before : List Raw) (id : ℕ) (e : Entry) → object before id ≡ Some e → id < next_own before }
 {}
 
-/// The least id that the client may give next, after a `sync` and any other message; and which ids are refused by it.
+/// The least id that the client may give next, after a `sync` and any other message; and which ids are refused.
 pub fn peer_ids()
     ensures first { next_peer [] ≡ 1 }
     ensures sync { (before : List Raw) (m : Raw) (callback : ℕ) → synced before m ≡ Some callback →
