@@ -7,6 +7,7 @@ use Rattle.ei_session.specs.Setup.{Setup}
 use Rattle.ei_session.specs.Refusals.{Refusal}
 use Rattle.ei_session.specs.Session.{least}
 use Rattle.ei_session.specs.Served.{ran_out, read_first, IsValid}
+use Rattle.ei_spec.specs.declared.limits.TheConstants.{MOST_UNREAD_HANDLES}
 
 -- whether reading stopped so at a disconnect of the client
 abbrev pub is_left : Stop Refusal → List Raw → Bool
@@ -25,4 +26,4 @@ needed setup pieces = unwrap_or (least (disconnects setup pieces) 1 (length piec
 pub record AreComplete (setup : Setup) (pieces : List Piece) : Type 0 where
   pub valid : IsValid setup (stream (take (needed setup pieces) pieces))
   pub few : needed setup pieces ≤ setup.pieces
-  pub handles : handle_count (take (needed setup pieces) pieces) ≤ 4096
+  pub handles : handle_count (take (needed setup pieces) pieces) ≤ MOST_UNREAD_HANDLES

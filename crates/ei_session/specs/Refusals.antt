@@ -23,6 +23,7 @@ use Rattle.ei_session.specs.Inputs.{TouchDown, TouchCancel, DeviceInput}
 use Rattle.ei_session.specs.Devices.{asked_mask, exhausts}
 use Rattle.ei_session.specs.Objects.{Entry, object}
 use Rattle.ei_session.specs.Touches.{input, is_down, touches_down}
+use Rattle.ei_spec.specs.declared.limits.TheConstants.{MOST_TOUCHES, MOST_TEXT_BYTES}
 
 -- why a message is refused
 pub data Refusal : Type 0 where
@@ -123,7 +124,7 @@ abbrev pub bad_touch : List Raw → ℕ → Option DeviceInput → Option Refusa
 bad_touch before version None = None
 bad_touch before version (Some i) = elim i.input [
   | TouchDown touch x y ↦
-      (if nat_le 16 (length (touches_down before i.device)) then Some (Request request.TooManyTouches)
+      (if nat_le MOST_TOUCHES (length (touches_down before i.device)) then Some (Request request.TooManyTouches)
       else (if is_down before i.device touch then Some (Request request.DuplicatedTouchDown) else None))
   | TouchCancel touch ↦ (if nat_lt version 2 then Some (InvalidInterfaceVersion (name_of known.Touchscreen) version) else None)
   | _ ↦ None
@@ -131,9 +132,9 @@ bad_touch before version (Some i) = elim i.input [
 
 abbrev pub bad_letters : Option (List ℕ) → Option Refusal
 bad_letters None = None
-bad_letters (Some letters) = if (length letters == 0) || nat_lt 254 (length letters) then Some (Request request.InvalidTextLength) else None
+bad_letters (Some letters) = if (length letters == 0) || nat_lt MOST_TEXT_BYTES (length letters) then Some (Request request.InvalidTextLength) else None
 
--- a text of no bytes, or of more than 254
+-- a text of no bytes, or of more than may be
 abbrev pub bad_text : Raw → KnownInterface → Option Refusal
 bad_text m known.Text = bad_letters (text (λ letters. letters) (asked known.Text (codes "utf8") m))
 bad_text m interface = None

@@ -6,6 +6,7 @@ use Rattle.ei_spec.specs.Piece.{Piece, stream, handle_count}
 use Rattle.ei_session.specs.Setup.{Setup}
 use Rattle.ei_session.specs.Handshake.{connected}
 use Rattle.ei_session.specs.Built.{Refusal, judge}
+use Rattle.ei_spec.specs.declared.limits.TheConstants.{MOST_UNREAD_HANDLES}
 
 -- the reading of a stream from its start
 unfoldable pub reading_of : List ℕ → Reading Refusal
@@ -34,7 +35,7 @@ is_waiting stop = false
 
 -- whether the first k pieces have more handles than may be unread
 unfoldable pub too_many_handles : List Piece → ℕ → Bool
-too_many_handles pieces k = nat_lt 4096 (handle_count (take k pieces))
+too_many_handles pieces k = nat_lt MOST_UNREAD_HANDLES (handle_count (take k pieces))
 
 -- whether the session is over with piece k
 unfoldable pub is_over : Setup → List Piece → ℕ → Bool

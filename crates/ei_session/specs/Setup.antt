@@ -1,5 +1,6 @@
 -- What a server is started with.
 use Rattle.std.specs.Prelude.{ℕ}
+use Rattle.ei_spec.specs.declared.limits.TheConstants.{FIRST_SERVER_ID}
 
 -- the serial of the connection, the bits of the seat's capabilities, and the most pieces that are taken
 pub record Setup : Type 0 where
@@ -9,7 +10,7 @@ pub record Setup : Type 0 where
 
 -- the first id that the server gives: the connection
 abbrev pub connection_id : ℕ
-connection_id = 0xff00000000000000
+connection_id = FIRST_SERVER_ID
 
 -- the id of the one seat
 abbrev pub seat_id : ℕ

@@ -28,6 +28,7 @@ ghost use Rattle.ei_session.specs.Requests.{Request, Plain, Bind, RequestDevice,
 ghost use Rattle.ei_session.specs.Replies.{finish_events, replies as replies_built};
 ghost use Rattle.ei_session.specs.Events.{invalid_object_event, callback_event, device_events, destroyed_event, destroyed_events, reply, replies, AreTargets, announcement, IsAmong};
 ghost use Rattle.ei_session.specs.Served.{AreUnrefused, accepted, reading_of, read_first, is_over, over_at, at_end, session};
+ghost use Rattle.ei_spec.specs.declared.limits.TheConstants.{MOST_MESSAGE_BYTES, MOST_TOUCHES};
 
 /// A stream has one reading, and it doesn't matter how the stream was cut.
 pub fn all_streams()
@@ -171,8 +172,8 @@ pub fn answers()
 /// How much there is at most: of touches, of unread bytes, of objects that go, of bytes that answer a message.
 pub fn bounds()
     ensures unrefused { (setup : Setup) (bytes : List ℕ) → IsBytes bytes → AreUnrefused setup (accepted setup bytes) }
-    ensures touches { (setup : Setup) (past : List Raw) (device : ℕ) → AreUnrefused setup past → length (touches_down past device) ≤ 16 }
-    ensures unread { (setup : Setup) (bytes : List ℕ) → IsBytes bytes → (reading_of setup bytes).stop ≡ Waiting → length (reading_of setup bytes).rest < 1048576 }
+    ensures touches { (setup : Setup) (past : List Raw) (device : ℕ) → AreUnrefused setup past → length (touches_down past device) ≤ MOST_TOUCHES }
+    ensures unread { (setup : Setup) (bytes : List ℕ) → IsBytes bytes → (reading_of setup bytes).stop ≡ Waiting → length (reading_of setup bytes).rest < MOST_MESSAGE_BYTES }
     ensures interfaces { (mask : ℕ) → length (interfaces_of mask) ≤ 7 }
     ensures gone { (before : List Raw) (m : Raw) → length (gone before m) ≤ 8 }
     ensures reply { (setup : Setup) (before : List Raw) (m : Raw) → length (all_bytes (reply setup before m)) ≤ 804 }
