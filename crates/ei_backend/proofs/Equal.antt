@@ -6,7 +6,7 @@ use Rattle.std.specs.Cmp.Lexicographic.{pointwise, pointwise_decides}
 use Rattle.ei_spec.specs.declared.interface.KnownInterface.{KnownInterface}
 use Rattle.ei_spec.specs.Interface.{Interface, Known, Other, ObjectView, name_of, known_of}
 use Rattle.ei_wire.proofs.InterfaceNames.{named}
-use Rattle.ei_backend.specs.Object.{same_name, same_object, same_object_equiv}
+use Rattle.ei_backend.specs.Object.{same_name, same_name_equiv, same_object, same_object_equiv}
 
 both : (a b : Bool) → (a && b) ≡ true → (a ≡ true) × (b ≡ true)
 both true true e = (refl, refl)
@@ -41,3 +41,6 @@ same_where_one o p e = ap (same_object o) (sym e) ∙ same_object_equiv.refl o
 
 pub decides : (o p : ObjectView) → Decides (same_object o p) (o ≡ p)
 decides o p = (one_object o p, same_where_one o p)
+
+pub decides_name : (i j : Interface) → Decides (same_name i j) (i ≡ j)
+decides_name i j = (one_interface i j, λ e. ap (same_name i) (sym e) ∙ same_name_equiv.refl i)

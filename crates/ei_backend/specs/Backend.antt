@@ -5,8 +5,8 @@ use Rattle.ei_spec.specs.declared.handle.Handle.{Handle}
 use Rattle.ei_spec.specs.Piece.{Piece}
 use Rattle.ei_spec.specs.Value.{Value, handles_of}
 use Rattle.ei_spec.specs.Reading.{Fault, HeaderLength, MessageLength, Stop}
-use Rattle.ei_spec.specs.Interface.{Interface, ObjectView}
-use Rattle.ei_spec.specs.Rows.{Row}
+use Rattle.ei_spec.specs.Interface.{Interface, Known, ObjectView, named}
+use Rattle.ei_spec.specs.Rows.{Row, Announces, Nothing, Fixed, Named, version_of, name_in}
 use Rattle.ei_spec.specs.Message.{Raw, message, bytes_of, Front, Short, Unlawful, Whole, front}
 use Rattle.ei_wire.specs.declared.error.ParseError.{ParseError}
 use Rattle.ei_wire.specs.declared.error.ParseError.TheVariants as error
@@ -153,15 +153,21 @@ with_object b interface version = record b { table = with_own b.table interface 
 abbrev pub sent_new : BackendView → ℕ → ℕ → List Value → Interface → ℕ → BackendView
 sent_new b id opcode values interface version = with_object (sent b id opcode values) interface version
 
--- the endpoint after a row was sent to a target
+-- the endpoint with the object in its table that a row announces with these values, if it announces one
+abbrev pub with_announced : Announces → List Value → BackendView → BackendView
+with_announced Nothing values b = b
+with_announced (Fixed k) values b = with_object b (Known k) (version_of values)
+with_announced Named values b = with_object b (named (name_in values)) (version_of values)
+
+-- the endpoint without the target, where a row destroys it
+abbrev pub without_target : Row → ObjectView → BackendView → BackendView
+without_target r target b = if r.destroys then removed b target.id else b
+
+-- the endpoint after a row was sent to a target: the message waits, the object that it announces is there, and a
+-- target that it destroys is not
 abbrev pub after_row : Option (ℕ × Row) → ObjectView → List Value → BackendView → BackendView
 after_row None target values b = b
-after_row (Some r) target values b = if r.1.destroys then removed (sent b target.id r.0 values) target.id else sent b target.id r.0 values
-
--- the same where the row announces an object
-abbrev pub after_new : Option (ℕ × Row) → ObjectView → List Value → Interface → ℕ → BackendView → BackendView
-after_new None target values interface version b = b
-after_new (Some r) target values interface version b = if r.1.destroys then removed (sent_new b target.id r.0 values interface version) target.id else sent_new b target.id r.0 values interface version
+after_row (Some r) target values b = without_target r.1 target (with_announced r.1.announces values (sent b target.id r.0 values))
 
 -- ---- flushing
 

@@ -1,12 +1,13 @@
 -- What a message is read as, with the first refusal.
-use Rattle.std.specs.Prelude.{◌≡◌, ℕ, Bool, List, Option, Some, None, Result, Ok, Err, IfSome}
+use Rattle.std.specs.Prelude.{ℕ, Bool, List, Option, Some, None, Result, Ok, Err}
 use Rattle.ei_spec.specs.Value.{Kind, Value}
 use Rattle.ei_spec.specs.Reading.{Fault, InvalidOpcode, InvalidInterface, Unread, Stop, ◌then◌, stopping, all_at}
 use Rattle.ei_spec.specs.Interface.{Interface, Known, Other, ObjectView, short_of, named}
 use Rattle.ei_spec.specs.Rows.{Row, Announces, Nothing, Fixed, Named, row_at, new_id, version_of, name_in}
+use Rattle.ei_spec.specs.declared.interface.KnownInterface.{KnownInterface}
 use Rattle.ei_spec.specs.Table.{table}
 use Rattle.ei_wire.specs.declared.error.ParseError.{ParseError}
-use Rattle.ei_wire.specs.Gives.{fault_of}
+use Rattle.ei_wire.specs.Rows.{Reads}
 use Rattle.ei_backend.specs.Table.{TableView, accept}
 
 -- the table that an announcement leaves
@@ -40,7 +41,7 @@ abbrev pub message_read : Bool → Interface → ℕ → Unread → TableView �
 message_read events (Known k) opcode s t = some_row (row_at opcode (table events k)) (short_of k) opcode s t
 message_read events (Other name) opcode s t = Err (InvalidInterface name, s.taken)
 
--- what a function returned, seen by view, with so many handles taken, is what reading gives, unless memory ran out
-abbrev pub Reads : {X Y : Type 0} → (X → Y) → ℕ → Result X ParseError → Result Y Stop → Type 0
-Reads view taken (Ok x) want = want ≡ Ok (view x)
-Reads view taken (Err e) want = IfSome (fault_of e) (λ f. want ≡ Err (f, taken))
+-- What reading a message of the opcode to an object of the interface returned, with what is left of the message and the
+-- table, before and after: the message's values, or the first refusal, unless memory ran out.
+abbrev pub ReadsRow : {M : Type 0} → (M → List Value) → Bool → KnownInterface → ℕ → Unread → Unread → TableView → TableView → Result M ParseError → Type 0
+ReadsRow values events interface opcode old new told tnew result = Reads (λ m. record { values = values m; table = tnew; unread = new }) new.taken result (message_read events (Known interface) opcode old told)

@@ -1,8 +1,9 @@
 -- The arguments of a message as they are shown: of an announced object its id alone.
-use Rattle.std.specs.Prelude.{ℕ, ℤ, ◌-◌, Bool, List, [], ◌∷◌, length, take, Option, Some, None}
+use Rattle.std.specs.Prelude.{◌≡◌, ℕ, ℤ, ◌-◌, Bool, List, [], ◌∷◌, length, map, take, Option, Some, None}
 use Rattle.ei_spec.specs.declared.handle.Handle.{Handle}
 use Rattle.ei_spec.specs.Value.{Kind, Float, New, Value, Word, Long, Signed, SignedLong, Letters, Null, Fd}
 use Rattle.ei_spec.specs.Interface.{Interface, Known, Other}
+use Rattle.ei_spec.specs.declared.interface.KnownInterface.{KnownInterface}
 use Rattle.ei_spec.specs.Rows.{Row, Announces, Nothing, Fixed, Named, row_at}
 use Rattle.ei_spec.specs.Table.{table}
 use Rattle.ei_wire.specs.declared.arg.Arg.{Arg}
@@ -65,3 +66,7 @@ shown_row None values = []
 abbrev pub shown : Bool → Interface → ℕ → List Value → List Shown
 shown events (Known k) opcode values = shown_row (row_at opcode (table events k)) values
 shown events (Other n) opcode values = []
+
+-- the arguments are those of such a message, as they are shown
+abbrev pub Shows : Bool → KnownInterface → ℕ → List Value → List Arg → Type 0
+Shows events interface opcode values args = map shown_of_arg args ≡ shown events (Known interface) opcode values

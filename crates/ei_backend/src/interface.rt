@@ -5,12 +5,11 @@ ghost use Rattle.std.specs.Ordering.{on};
 ghost use Rattle.std.specs.Hash as fed;
 ghost use Rattle.std.specs.Cmp.Rules.{comparing, hashing};
 ghost use Rattle.std.proofs.Common.{rules};
-ghost use Rattle.ei_spec.specs.Interface.{Known, bytes_of, name_of, known_of, named};
-ghost use Rattle.ei_spec.specs.declared.interface.KnownInterface.{KnownInterface};
+ghost use Rattle.ei_spec.specs.Interface.{Known, bytes_of, known_of, named};
 ghost use Rattle.ei_backend.specs.Object.{interface_view, HasFixedName, is_known, same_name};
 
 use ei_spec::KnownInterface;
-use ei_wire::{NoMemory, interface_names};
+use ei_wire::NoMemory;
 use std::alloc::{AllocError, Global};
 use std::hash::{Hash, Hasher};
 use std::rc::RcStr;
@@ -52,19 +51,31 @@ impl InterfaceName {
     }
 
     /// Whether it is one of the thirteen.
-    pub(crate) fn is_known(&self) -> bool
+    fn is_known(&self) -> bool
         ensures { result ≡ is_known (interface_view self.now) }
     {
         matches!(self, InterfaceName::Known(_))
     }
 
-    /// Whether it is the known interface of that name.
-    pub(crate) fn is_called(&self, name: &str) -> bool
-        ensures { (k : KnownInterface) → name_of k ≡ name.now → IsTrue result ↔ (interface_view self.now ≡ Known k) }
+    /// Whether it is the same interface: one of the thirteen, or another of that name.
+    fn is_same(&self, other: &InterfaceName) -> bool
+        ensures { IsTrue result ↔ (interface_view self.now ≡ interface_view other.now) }
     {
-        interface_names();
+        match (self, other) {
+            (InterfaceName::Known(known), InterfaceName::Known(other)) => known == other,
+            (InterfaceName::Other(name), InterfaceName::Other(other)) => {
+                name.as_str() == other.as_str()
+            }
+            _ => false,
+        }
+    }
+
+    /// Whether it is that interface of the thirteen.
+    pub(crate) fn stands_for(&self, interface: KnownInterface) -> bool
+        ensures { IsTrue result ↔ (interface_view self.now ≡ Known interface) }
+    {
         match self {
-            InterfaceName::Known(known) => KnownInterface::from_name(name) == Some(*known),
+            InterfaceName::Known(known) => *known == interface,
             InterfaceName::Other(_) => false,
         }
     }
@@ -88,8 +99,9 @@ impl PartialEq for InterfaceName {
 
     ghost laws = { Prim.search (comparing, rules) };
 
+    #[tactic(auto, using(crate::proofs::Equal::decides_name))]
     fn eq(&self, other: &InterfaceName) -> bool {
-        self.as_str() == other.as_str() && self.is_known() == other.is_known()
+        self.is_same(other)
     }
 }
 

@@ -4,7 +4,8 @@ ghost use Rattle.std.specs.Prelude.{◌≡◌, ℕ, Bool, List, IfOk, OnErr, map
 ghost use Rattle.ei_spec.specs.Value.{Value};
 ghost use Rattle.ei_spec.specs.Interface.{ObjectView};
 ghost use Rattle.ei_backend.specs.Shown.{shown, shown_of_arg};
-ghost use Rattle.ei_backend.specs.Message.{Reads, Parsed, message_read};
+ghost use Rattle.ei_wire.specs.Rows.{Reads};
+ghost use Rattle.ei_backend.specs.Message.{Parsed, message_read};
 
 use crate::object::Object;
 use crate::table::Table;

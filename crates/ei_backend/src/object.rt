@@ -153,10 +153,10 @@ impl Object {
     /// The proxy of that interface over the object; `None` exactly where the object is of another
     /// interface, or at the other end.
     pub fn downcast<T: Interface>(self) -> Option<T>
-        ensures some { IsSome result ↔ ((self.interface ≡ Known T.interface) × (self.client_side ≡ T.CLIENT_SIDE)) }
+        ensures some { IsSome result ↔ ((self.interface ≡ Known T.KNOWN) × (self.client_side ≡ T.CLIENT_SIDE)) }
         ensures proxy { IfSome result (λ p. T.behind p ≡ self) }
     {
-        if self.client_side == T::CLIENT_SIDE && self.interface.is_called(T::wire_name()) {
+        if self.client_side == T::CLIENT_SIDE && self.interface.stands_for(T::KNOWN) {
             Some(T::new_unchecked(self))
         } else {
             None

@@ -7,18 +7,21 @@ ghost use Rattle.ei_backend.specs.Table.{found};
 
 use crate::has_backend::HasBackend;
 use crate::object::Object;
+use ei_spec::KnownInterface;
 use ei_wire::{Arg, Sealed};
 
 /// What all proxies of a type share: the interface and the end.
 ///
 /// It stands beside `Interface`, since no trait has both a `VERSION` and a `version`.
 pub trait Described {
-    /// The interface.
-    ghost interface: { KnownInterface };
+    ghost KNOWN: { KnownInterface };
 
     ghost VERSION: { ℕ };
 
     ghost CLIENT_SIDE: { Bool };
+
+    /// The interface.
+    const KNOWN: KnownInterface;
 
     /// The name on the wire, as `ei_seat`.
     const NAME: &'static str;
@@ -31,9 +34,9 @@ pub trait Described {
 
     /// `NAME`, of which a contract can't speak.
     fn wire_name() -> &'static str
-        ensures { result.now ≡ name_of interface };
+        ensures { result.now ≡ name_of KNOWN };
 
-    ghost listed: { VERSION ≡ server_version interface };
+    ghost listed: { VERSION ≡ server_version KNOWN };
 }
 
 /// A proxy: an object of one known interface, at one end.
@@ -43,13 +46,13 @@ pub trait Interface: Sealed + Described + Sized {
 
     /// The proxy over an object of its interface.
     fn new_unchecked(object: Object) -> Self
-        requires { object.interface ≡ Known Self.interface }
+        requires { object.interface ≡ Known Self.KNOWN }
         ensures { behind result ≡ object };
 
     /// The object behind the proxy.
     fn as_object(&self) -> &Object
         ensures object { result.now ≡ behind self.now }
-        ensures interface { (behind self.now).interface ≡ Known Self.interface };
+        ensures interface { (behind self.now).interface ≡ Known Self.KNOWN };
 
     /// Another proxy over the same object, which takes no memory.
     fn copy(&self) -> Self

@@ -1,5 +1,6 @@
 -- What is written as a row is read as that row.
-use Rattle.std.proofs.Common.{◌≡◌, ℕ, ◌+◌, ◌<◌, ◌≤◌, Bool, true, false, cond, List, [], ◌∷◌, ◌++◌, length, drop, Some, Ok, refl, sym, ap, ◌∙◌, append_assoc, arith, get_or, add-zero}
+use Rattle.std.proofs.Common.{◌≡◌, ℕ, ◌+◌, ◌<◌, ◌≤◌, Bool, true, false, cond, List, [], ◌∷◌, ◌++◌}
+use Rattle.std.proofs.Common.{length, drop, Some, Ok, refl, sym, ap, ◌∙◌, append_assoc, arith, get_or, add-zero}
 use Rattle.std.specs.Prelude.{replicate, slice_get}
 use Rattle.std.specs.Int.{w32, to_le_bytes}
 use Rattle.std.specs.List.{flat_map}
@@ -11,8 +12,8 @@ use Rattle.ei_spec.specs.declared.interface.KnownInterface.{KnownInterface}
 use Rattle.ei_spec.specs.Value.{Kind, Value, Word, Long, Signed, SignedLong, Letters, Null, Fd, written, padding, handles_of, HasSpelling}
 use Rattle.ei_spec.specs.Spelling.{IsNext}
 use Rattle.ei_spec.specs.Reading.{Unread, read, all_at}
-use Rattle.ei_spec.specs.Interface.{Interface, ObjectView}
-use Rattle.ei_spec.specs.Rows.{Row, row_named}
+use Rattle.ei_spec.specs.Interface.{ObjectView}
+use Rattle.ei_spec.specs.Rows.{Row, Announces, Nothing, Fixed, Named, row_named}
 use Rattle.ei_spec.specs.Table.{table}
 use Rattle.ei_spec.specs.Message.{message, IsLawful, Whole, front}
 use Rattle.ei_spec.specs.Piece.{Piece}
@@ -20,8 +21,9 @@ use Rattle.ei_spec.proofs.KindLaws.{written_again}
 use Rattle.ei_spec.proofs.FrontLaws.{front_again}
 use Rattle.ei_backend.specs.Table.{TableView}
 use Rattle.ei_backend.specs.Message.{announce, Parsed, row_read}
-use Rattle.ei_backend.specs.Backend.{BackendView, Message, next, sent, sent_new, removed, after_row, after_new, unsent_of}
-use Rattle.ei_client.specs.Agree.{AreOf, piece_of, behind, IsMessage, HasNext}
+use Rattle.ei_backend.specs.Backend.{BackendView, Message, next, sent, removed, with_announced, after_row, unsent_of}
+use Rattle.ei_backend.specs.Sends.{AreOf}
+use Rattle.ei_client.specs.Agree.{piece_of, behind, IsMessage, HasNext}
 use Rattle.ei_client.proofs.ByName.{row_of_name}
 
 -- ---- one value
@@ -111,10 +113,13 @@ still : (d : Bool) (b : BackendView) (id : ℕ) → unsent_of (cond d (removed b
 still true b id = refl
 still false b id = refl
 
+still_new : (a : Announces) (values : List Value) (b : BackendView) → unsent_of (with_announced a values b) ≡ unsent_of b
+still_new Nothing values b = refl
+still_new (Fixed k) values b = refl
+still_new Named values b = refl
+
 pub sends : (events : Bool) (interface : KnownInterface) (name : List ℕ) (r : ℕ × Row) (target : ObjectView) (values : List Value) (sender : BackendView) → row_named name (table events interface) ≡ Some r →
     unsent_of (after_row (row_named name (table events interface)) target values sender) ≡ behind (unsent_of sender) (piece_of target.id r.0 values)
-sends events interface name r target values sender is = rw is (still r.1.destroys (sent sender target.id r.0 values) target.id)
-
-pub sends_new : (events : Bool) (interface : KnownInterface) (name : List ℕ) (r : ℕ × Row) (target : ObjectView) (values : List Value) (new : Interface) (version : ℕ) (sender : BackendView) → row_named name (table events interface) ≡ Some r →
-    unsent_of (after_new (row_named name (table events interface)) target values new version sender) ≡ behind (unsent_of sender) (piece_of target.id r.0 values)
-sends_new events interface name r target values new version sender is = rw is (still r.1.destroys (sent_new sender target.id r.0 values new version) target.id)
+sends events interface name r target values sender is =
+    let b = sent sender target.id r.0 values in
+    rw is (still r.1.destroys (with_announced r.1.announces values b) target.id ∙ still_new r.1.announces values b)

@@ -1,8 +1,8 @@
 -- What one end sends as a row of the table of messages, and what the other end must have to read it.
-use Rattle.std.specs.Prelude.{◌≡◌, ℕ, ◌<◌, ◌≤◌, ◌^◌, Bool, List, [], ◌∷◌, ◌++◌, Some, Ok}
+use Rattle.std.specs.Prelude.{◌≡◌, ℕ, ◌<◌, ◌≤◌, ◌^◌, Bool, List, ◌++◌, Some, Ok}
 use Rattle.std.specs.List.{flat_map}
 use Rattle.ei_spec.specs.declared.interface.KnownInterface.{KnownInterface}
-use Rattle.ei_spec.specs.Value.{Kind, Value, IsOf, handles_of}
+use Rattle.ei_spec.specs.Value.{Value, handles_of}
 use Rattle.ei_spec.specs.Interface.{Known, ObjectView}
 use Rattle.ei_spec.specs.Rows.{Row, row_named}
 use Rattle.ei_spec.specs.Table.{table}
@@ -11,12 +11,7 @@ use Rattle.ei_spec.specs.Piece.{Piece}
 use Rattle.ei_backend.specs.Table.{TableView, found}
 use Rattle.ei_backend.specs.Message.{announce}
 use Rattle.ei_backend.specs.Backend.{BackendView}
-
--- the values are of these kinds, one after another
-abbrev pub AreOf : List Kind → List Value → Type 0
-AreOf [] [] = Unit {0}
-AreOf (kind ∷ kinds) (value ∷ values) = IsOf kind value × AreOf kinds values
-AreOf kinds values = ⊥
+use Rattle.ei_backend.specs.Sends.{AreOf}
 
 -- the bytes and the handles of a message to the object of that id
 abbrev pub piece_of : ℕ → ℕ → List Value → Piece

@@ -1,7 +1,10 @@
 -- The events of `ei_connection`, by the table of messages.
-use Rattle.std.specs.Prelude.{ℕ, List, [], ◌∷◌}
+use Rattle.std.specs.Prelude.{ℕ, List, [], ◌∷◌, Option, false}
 use Rattle.ei_spec.specs.Value.{Value, Word, Long}
 use Rattle.ei_spec.specs.Reading.{or_null}
+use Rattle.ei_spec.specs.declared.interface.KnownInterface.TheVariants as known
+use Rattle.ei_spec.specs.Rows.{Row, row_named}
+use Rattle.ei_spec.specs.Table.{table}
 use Rattle.ei_types.specs.Enums.{disconnect_reason_number}
 use Rattle.ei_client.specs.declared.connection.Event.{Event}
 use Rattle.ei_client.specs.declared.connection.Event.TheVariants.{Disconnected, Seat, InvalidObject, Ping}
@@ -19,3 +22,7 @@ values_of (Disconnected last_serial reason explanation) = Word last_serial ∷ W
 values_of (Seat seat) = Long seat.id ∷ Word seat.version ∷ []
 values_of (InvalidObject last_serial invalid_id) = Word last_serial ∷ Long invalid_id ∷ []
 values_of (Ping ping) = Long ping.id ∷ Word ping.version ∷ []
+
+-- the row of a request of that name
+abbrev pub request : List ℕ → Option (ℕ × Row)
+request name = row_named name (table false known.Connection)

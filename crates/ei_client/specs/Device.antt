@@ -1,10 +1,14 @@
 -- The events of `ei_device`, by the table of messages.
-use Rattle.std.specs.Prelude.{ℕ, List, [], ◌∷◌}
+use Rattle.std.specs.Prelude.{ℕ, List, [], ◌∷◌, Option, false}
 use Rattle.ei_spec.specs.Value.{Value, Word, Long, Letters}
 use Rattle.ei_spec.specs.Interface.{bytes_of}
+use Rattle.ei_spec.specs.declared.interface.KnownInterface.TheVariants as known
+use Rattle.ei_spec.specs.Rows.{Row, row_named}
+use Rattle.ei_spec.specs.Table.{table}
 use Rattle.ei_types.specs.Enums.{device_type_number}
 use Rattle.ei_client.specs.declared.device.Event.{Event}
-use Rattle.ei_client.specs.declared.device.Event.TheVariants.{Destroyed, Name, DeviceType, Dimensions, Region, Interface, Done, Resumed, Paused, StartEmulating, StopEmulating, Frame, RegionMappingId}
+use Rattle.ei_client.specs.declared.device.Event.TheVariants.{Destroyed, Name, DeviceType, Dimensions, Region, Interface, Done}
+use Rattle.ei_client.specs.declared.device.Event.TheVariants.{Resumed, Paused, StartEmulating, StopEmulating, Frame, RegionMappingId}
 
 -- the opcode
 abbrev pub code_of : Event → ℕ
@@ -37,3 +41,7 @@ values_of (StartEmulating serial sequence) = Word serial ∷ Word sequence ∷ [
 values_of (StopEmulating serial) = Word serial ∷ []
 values_of (Frame serial timestamp) = Word serial ∷ Long timestamp ∷ []
 values_of (RegionMappingId mapping_id) = Letters mapping_id ∷ []
+
+-- the row of a request of that name
+abbrev pub request : List ℕ → Option (ℕ × Row)
+request name = row_named name (table false known.Device)

@@ -1,6 +1,7 @@
 pub mod Handshake
 pub mod Connection
 pub mod Callback
+pub mod Pingpong
 pub mod Seat
 pub mod Device
 pub mod Pointer

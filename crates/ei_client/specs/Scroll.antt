@@ -1,6 +1,9 @@
 -- The events of `ei_scroll`, by the table of messages.
-use Rattle.std.specs.Prelude.{ℕ, List, [], ◌∷◌}
+use Rattle.std.specs.Prelude.{ℕ, List, [], ◌∷◌, Option, false}
 use Rattle.ei_spec.specs.Value.{Value, Word, Signed}
+use Rattle.ei_spec.specs.declared.interface.KnownInterface.TheVariants as known
+use Rattle.ei_spec.specs.Rows.{Row, row_named}
+use Rattle.ei_spec.specs.Table.{table}
 use Rattle.ei_client.specs.declared.scroll.Event.{Event}
 use Rattle.ei_client.specs.declared.scroll.Event.TheVariants.{Destroyed, Scroll, ScrollDiscrete, ScrollStop}
 
@@ -17,3 +20,7 @@ values_of (Destroyed serial) = Word serial ∷ []
 values_of (Scroll x y) = Word x.0 ∷ Word y.0 ∷ []
 values_of (ScrollDiscrete x y) = Signed x ∷ Signed y ∷ []
 values_of (ScrollStop x y is_cancel) = Word x ∷ Word y ∷ Word is_cancel ∷ []
+
+-- the row of a request of that name
+abbrev pub request : List ℕ → Option (ℕ × Row)
+request name = row_named name (table false known.Scroll)

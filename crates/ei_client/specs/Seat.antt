@@ -1,6 +1,9 @@
 -- The events of `ei_seat`, by the table of messages.
-use Rattle.std.specs.Prelude.{ℕ, List, [], ◌∷◌}
+use Rattle.std.specs.Prelude.{ℕ, List, [], ◌∷◌, Option, false}
 use Rattle.ei_spec.specs.Value.{Value, Word, Long, Letters}
+use Rattle.ei_spec.specs.declared.interface.KnownInterface.TheVariants as known
+use Rattle.ei_spec.specs.Rows.{Row, row_named}
+use Rattle.ei_spec.specs.Table.{table}
 use Rattle.ei_client.specs.declared.seat.Event.{Event}
 use Rattle.ei_client.specs.declared.seat.Event.TheVariants.{Destroyed, Name, Capability, Done, Device}
 
@@ -19,3 +22,7 @@ values_of (Name name) = Letters name ∷ []
 values_of (Capability mask interface) = Long mask ∷ Letters interface ∷ []
 values_of Done = []
 values_of (Device device) = Long device.id ∷ Word device.version ∷ []
+
+-- the row of a request of that name
+abbrev pub request : List ℕ → Option (ℕ × Row)
+request name = row_named name (table false known.Seat)

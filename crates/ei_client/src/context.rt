@@ -76,13 +76,15 @@ impl Context {
         ensures closed_source { self.old.closed ≡ true → source.new ≡ source.old }
         // on an open one
         ensures reads { self.old.closed ≡ false → ReadsOn result self.old self.new }
-        ensures told { self.old.closed ≡ false → (pieces : List Piece) → S.left source.old ≡ Some pieces → ReadsPiece pieces (S.left source.new) result self.old self.new }
+        ensures told { self.old.closed ≡ false → (pieces : List Piece) → S.left source.old ≡ Some pieces
+            → ReadsPiece pieces (S.left source.new) result self.old self.new }
         // what the source says
         ensures memory { IsErrOf result read_error.NoMemory → source.new ≡ source.old }
         ensures fault { IsErrOf result read_error.ReadFault → Rose (S.faults source.old) (S.faults source.new) }
         ensures last_piece { OnOk result (S.last source.new ≡ answers.Piece) }
         ensures last_limit { IsErrOf result read_error.HandleLimit → S.last source.new ≡ answers.Piece }
-        ensures last_end { self.old.closed ≡ false → IsErrOf result read_error.UnexpectedEof → S.last source.new ≡ answers.End }
+        ensures last_end { self.old.closed ≡ false → IsErrOf result read_error.UnexpectedEof
+            → S.last source.new ≡ answers.End }
         ensures last_fault { IsErrOf result read_error.ReadFault → S.last source.new ≡ answers.Fault }
         ensures count { S.faults source.old ≤ S.faults source.new }
         ensures later { S.later source.old source.new }
@@ -96,7 +98,8 @@ impl Context {
     /// `WriteFault` where the sink failed, `NoMemory` where it wants memory.
     pub fn flush<K: Sink>(&mut self, sink: &mut K) -> Result<(), FlushError>
         ensures stops { StopsAfter (unsent_of self.old) result (unsent_of self.new) }
-        ensures took { (held : Piece) → K.taken sink.old ≡ Some held → Flushes held (unsent_of self.old) result (unsent_of self.new) (K.taken sink.new) }
+        ensures took { (held : Piece) → K.taken sink.old ≡ Some held
+            → Flushes held (unsent_of self.old) result (unsent_of self.new) (K.taken sink.new) }
         ensures kept { self.new ≡ with_unsent (unsent_of self.new) self.old }
         ensures fault { IsErrOf result flush_error.WriteFault → Rose (K.faults sink.old) (K.faults sink.new) }
         ensures count { K.faults sink.old ≤ K.faults sink.new }

@@ -1,126 +1,35 @@
 //! `ei_handshake`: the object that is there from the first.
 
-ghost use Rattle.std.specs.Prelude.{◌≡◌, ◌<◌, ◌↔◌, IfOk, OnOk, OnErr, IsErrOf, IfErr, true, false, codes, [], ◌∷◌, map};
+ghost use Rattle.std.specs.Prelude.{◌≡◌, IfOk, OnErr, true, codes, [], ◌∷◌};
 ghost use Rattle.ei_spec.specs.Value.{Word, Letters};
-ghost use Rattle.ei_spec.specs.Interface.{Known};
 ghost use Rattle.ei_spec.specs.declared.interface.KnownInterface.TheVariants as known;
-ghost use Rattle.ei_spec.specs.Table.{table};
-ghost use Rattle.ei_spec.specs.Rows.{row_at, row_named};
-ghost use Rattle.ei_spec.specs.Message.{message, size};
-ghost use Rattle.ei_wire.specs.declared.error.SendError.TheVariants as send_error;
 ghost use Rattle.ei_types.specs.Enums.{context_type_number};
-ghost use Rattle.ei_backend.specs.Message.{Reads, Parsed, some_row};
-ghost use Rattle.ei_backend.specs.Shown.{shown_row, shown_of_arg};
-ghost use Rattle.ei_backend.specs.Backend.{after_row, FitsRow};
-ghost use Rattle.ei_client.specs.Handshake.{values_of, code_of};
+ghost use Rattle.ei_backend.specs.Message.{ReadsRow};
+ghost use Rattle.ei_backend.specs.Shown.{Shows};
+ghost use Rattle.ei_backend.specs.Sends.{Sends, SendsText};
+ghost use Rattle.ei_client.specs.Handshake.{code_of, values_of, request};
 
 use crate::connection::Connection;
 use crate::context::Context;
-use ei_backend::{Described, Interface, InterfaceName, Object, Table};
-use ei_spec::KnownInterface;
+use crate::proxy::Proxy;
+use ei_backend::{Interface, Table, kinds};
 use ei_types::ContextType;
-use ei_wire::{Arg, ByteStream, EiText, NoMemory, ParseError, Sealed, SendError};
-use std::alloc::{AllocError, Global};
-use std::fmt;
-use std::marker::Model;
+use ei_wire::{
+    Arg, ByteStream, EiText, NoMemory, OwnedArg, ParseError, SendError, read_one, read_three,
+    read_two,
+};
+use std::alloc::Global;
 
 /// The handshake.
-#[derive(Drop, PartialEq, Eq, Hash)]
-pub struct Handshake {
-    object: Object,
-}
-
-// Contracts see the object; its interface is the handshake's.
-impl Model for Handshake {
-    ghost use Rattle.std.specs.Prelude.{◌≡◌};
-    ghost use Rattle.ei_spec.specs.Interface.{ObjectView, Known};
-    ghost use Rattle.ei_spec.specs.declared.interface.KnownInterface.TheVariants as known;
-    ghost use Rattle.ei_backend.specs.Codes.{object_code};
-
-    ghost Value = { ObjectView };
-
-    ghost coded = { object_code };
-
-    ghost view = { λ p. p.object };
-
-    ghost invariant = { λ p. p.object.interface ≡ Known known.Handshake };
-
-    ghost inverse = { λ o. record { object = o } };
-}
-
-impl Sealed for Handshake {}
-
-impl Described for Handshake {
-    ghost use Rattle.std.specs.Prelude.{true, refl};
-    ghost use Rattle.ei_spec.specs.declared.interface.KnownInterface.TheVariants as known;
-
-    ghost interface = { known.Handshake };
-
-    ghost VERSION = { 1 };
-
-    ghost CLIENT_SIDE = { true };
-
-    ghost listed = { refl };
-
-    const NAME: &'static str = "ei_handshake";
-
-    const VERSION: u32 = 1;
-
-    const CLIENT_SIDE: bool = true;
-
-    fn wire_name() -> &'static str {
-        Handshake::NAME
-    }
-}
-
-impl Interface for Handshake {
-    ghost behind = { λ p. p };
-
-    fn new_unchecked(object: Object) -> Handshake {
-        Handshake { object }
-    }
-
-    fn as_object(&self) -> &Object {
-        &self.object
-    }
-}
-
-// A copy can't fail, since the name is a known one.
-impl Clone for Handshake {
-    ghost use Rattle.std.specs.Prelude.{◌≡◌, ⊤};
-
-    ghost is_clone = { λ p copy. copy ≡ p };
-
-    ghost is_infallible = { λ _. ⊤ };
-
-    fn clone(&self) -> Result<Handshake, AllocError> {
-        Ok(Handshake {
-            object: self.object.clone()?,
-        })
-    }
-}
-
-impl fmt::Debug for Handshake {
-    ghost use Rattle.std.specs.Prelude.{Some, codes};
-    ghost use Rattle.ei_backend.specs.Object.{proxy_text};
-
-    ghost debug_output = { λ p. Some (proxy_text (codes "Handshake") p) };
-
-    fn fmt<W: fmt::Write>(&self, f: &mut fmt::Formatter<W>) -> fmt::Result {
-        let object = &self.object;
-        write!(f, "Handshake({object:?})")
-    }
-}
+pub type Handshake = Proxy<kinds::Handshake>;
 
 impl Handshake {
     /// Tells the server the version of the handshake that the client has: the first request of a session.
     ///
     /// `NoMemory`: nothing is sent.
     pub fn handshake_version(&self, ctx: &mut Context, version: u32) -> Result<(), SendError>
-        ensures ok { OnOk result (ctx.new ≡ after_row (row_named (codes "handshake_version") (table false known.Handshake)) self.now (Word version ∷ []) ctx.old) }
-        ensures err { OnErr result (ctx.new ≡ ctx.old) }
-        ensures only { IfErr result (λ e. e ≡ send_error.NoMemory) }
-        ensures room { FitsRow (row_named (codes "handshake_version") (table false known.Handshake)) self.now (Word version ∷ []) ctx.old → IsErrOf result send_error.NoMemory → ⊥ }
+        ensures sends { Sends (request (codes "handshake_version")) self.now
+            (Word version ∷ []) ctx.old ctx.new result }
     {
         self.object.request(ctx, 0, &[Arg::Uint32(version)])
     }
@@ -129,10 +38,7 @@ impl Handshake {
     ///
     /// `NoMemory`: nothing is sent.
     pub fn finish(&self, ctx: &mut Context) -> Result<(), SendError>
-        ensures ok { OnOk result (ctx.new ≡ after_row (row_named (codes "finish") (table false known.Handshake)) self.now [] ctx.old) }
-        ensures err { OnErr result (ctx.new ≡ ctx.old) }
-        ensures only { IfErr result (λ e. e ≡ send_error.NoMemory) }
-        ensures room { FitsRow (row_named (codes "finish") (table false known.Handshake)) self.now [] ctx.old → IsErrOf result send_error.NoMemory → ⊥ }
+        ensures sends { Sends (request (codes "finish")) self.now [] ctx.old ctx.new result }
     {
         self.object.request(ctx, 1, &[])
     }
@@ -145,25 +51,19 @@ impl Handshake {
         ctx: &mut Context,
         context_type: ContextType,
     ) -> Result<(), SendError>
-        ensures ok { OnOk result (ctx.new ≡ after_row (row_named (codes "context_type") (table false known.Handshake)) self.now (Word (context_type_number context_type) ∷ []) ctx.old) }
-        ensures err { OnErr result (ctx.new ≡ ctx.old) }
-        ensures only { IfErr result (λ e. e ≡ send_error.NoMemory) }
-        ensures room { FitsRow (row_named (codes "context_type") (table false known.Handshake)) self.now (Word (context_type_number context_type) ∷ []) ctx.old → IsErrOf result send_error.NoMemory → ⊥ }
+        ensures sends { Sends (request (codes "context_type")) self.now
+            (Word (context_type_number context_type) ∷ []) ctx.old ctx.new result }
     {
-        self.object
-            .request(ctx, 2, &[Arg::Uint32(u32::from(context_type))])
+        self.object.request(ctx, 2, &[context_type.as_arg()])
     }
 
     /// Tells the server the name of the client.
     ///
     /// `MessageTooLong` exactly where the message would have more than 1048576 bytes, `NoMemory`: nothing is
     /// sent.
+    #[tactic(auto, using(ei_spec::proofs::Utf8::is_text))]
     pub fn name(&self, ctx: &mut Context, name: &str) -> Result<(), SendError>
-        ensures ok { OnOk result (ctx.new ≡ after_row (row_named (codes "name") (table false known.Handshake)) self.now (Letters name.now ∷ []) ctx.old) }
-        ensures err { OnErr result (ctx.new ≡ ctx.old) }
-        ensures long { IsErrOf result send_error.MessageTooLong ↔ (1048576 < size (message self.now.id 3 (Letters name.now ∷ []))) }
-        ensures not_exhausted { IsErrOf result send_error.IdsExhausted → ⊥ }
-        ensures room { FitsRow (row_named (codes "name") (table false known.Handshake)) self.now (Letters name.now ∷ []) ctx.old → IsErrOf result send_error.NoMemory → ⊥ }
+        ensures sends { SendsText (request (codes "name")) self.now (Letters name.now ∷ []) ctx.old ctx.new result }
     {
         self.object.request(ctx, 3, &[Arg::String(Some(name))])
     }
@@ -172,17 +72,15 @@ impl Handshake {
     ///
     /// `MessageTooLong` exactly where the message would have more than 1048576 bytes, `NoMemory`: nothing is
     /// sent.
+    #[tactic(auto, using(ei_spec::proofs::Utf8::is_text))]
     pub fn interface_version(
         &self,
         ctx: &mut Context,
         name: &str,
         version: u32,
     ) -> Result<(), SendError>
-        ensures ok { OnOk result (ctx.new ≡ after_row (row_named (codes "interface_version") (table false known.Handshake)) self.now (Letters name.now ∷ Word version ∷ []) ctx.old) }
-        ensures err { OnErr result (ctx.new ≡ ctx.old) }
-        ensures long { IsErrOf result send_error.MessageTooLong ↔ (1048576 < size (message self.now.id 4 (Letters name.now ∷ Word version ∷ []))) }
-        ensures not_exhausted { IsErrOf result send_error.IdsExhausted → ⊥ }
-        ensures room { FitsRow (row_named (codes "interface_version") (table false known.Handshake)) self.now (Letters name.now ∷ Word version ∷ []) ctx.old → IsErrOf result send_error.NoMemory → ⊥ }
+        ensures sends { SendsText (request (codes "interface_version")) self.now
+            (Letters name.now ∷ Word version ∷ []) ctx.old ctx.new result }
     {
         let args = [Arg::String(Some(name)), Arg::Uint32(version)];
         self.object.request(ctx, 4, &args)
@@ -207,27 +105,23 @@ impl Event {
         bytes: &mut ByteStream<'_>,
         objects: &mut Table,
     ) -> Result<Event, ParseError>
-        ensures read { Reads (λ m. record { values = values_of m; table = objects.new; unread = bytes.new }) bytes.new.taken result (some_row (row_at opcode (table true known.Handshake)) (codes "handshake") opcode bytes.old objects.old) }
+        ensures read { ReadsRow values_of true known.Handshake opcode
+            bytes.old bytes.new objects.old objects.new result }
         ensures code { IfOk result (λ m. code_of m ≡ opcode) }
         ensures err { OnErr result (objects.new ≡ objects.old) }
     {
         match opcode {
             0 => {
-                let version = bytes.read_arg()?;
+                let version = read_one(bytes)?;
                 Ok(Event::HandshakeVersion { version })
             }
             1 => {
-                let name = bytes.read_arg()?;
-                let version = bytes.read_arg()?;
+                let (name, version) = read_two(bytes)?;
                 Ok(Event::InterfaceVersion { name, version })
             }
             2 => {
-                let serial = bytes.read_arg()?;
-                let id = bytes.read_arg()?;
-                let version = bytes.read_arg()?;
-                let interface = InterfaceName::Known(KnownInterface::Connection);
-                let object = objects.new_peer_object(id, interface, version)?;
-                let connection = Connection::new_unchecked(object);
+                let (serial, id, version) = read_three(bytes)?;
+                let connection = Connection::announced(objects, id, version)?;
                 Ok(Event::Connection { serial, connection })
             }
             _ => Err(ParseError::InvalidOpcode("handshake", opcode)),
@@ -246,15 +140,18 @@ impl Event {
 
     /// The arguments in order.
     pub(crate) fn args(&self, alloc: Global) -> Result<Vec<Arg<'_>>, NoMemory>
-        ensures { IfOk result (λ args. map shown_of_arg args.items ≡ shown_row (row_at (code_of self.now) (table true known.Handshake)) (values_of self.now)) }
+        ensures { IfOk result (λ args. Shows true known.Handshake (code_of self.now) (values_of self.now) args.items) }
     {
         let args = match self {
-            Event::HandshakeVersion { version } => vec![in alloc; Arg::Uint32(*version)]?,
+            Event::HandshakeVersion { version } => Vec::from_array(alloc, [Arg::Uint32(*version)])?,
             Event::InterfaceVersion { name, version } => {
-                vec![in alloc; Arg::String(Some(name.as_str())), Arg::Uint32(*version)]?
+                Vec::from_array(
+                    alloc,
+                    [Arg::String(Some(name.as_str())), Arg::Uint32(*version)],
+                )?
             }
             Event::Connection { serial, connection } => {
-                vec![in alloc; Arg::Uint32(*serial), connection.as_arg()]?
+                Vec::from_array(alloc, [Arg::Uint32(*serial), connection.as_arg()])?
             }
         };
         Ok(args)

@@ -1,119 +1,28 @@
 //! `ei_pointer_absolute`: the motion of a device to points of its regions.
 
-ghost use Rattle.std.specs.Prelude.{◌≡◌, IfOk, OnOk, OnErr, IfErr, true, false, codes, [], ◌∷◌, map, IsErrOf};
+ghost use Rattle.std.specs.Prelude.{◌≡◌, IfOk, true, codes, [], ◌∷◌};
 ghost use Rattle.ei_spec.specs.Value.{Word};
-ghost use Rattle.ei_spec.specs.Interface.{Known};
 ghost use Rattle.ei_spec.specs.declared.interface.KnownInterface.TheVariants as known;
-ghost use Rattle.ei_spec.specs.Table.{table};
-ghost use Rattle.ei_spec.specs.Rows.{row_at, row_named};
-ghost use Rattle.ei_wire.specs.declared.error.SendError.TheVariants as send_error;
-ghost use Rattle.ei_backend.specs.Message.{Reads, Parsed, some_row};
-ghost use Rattle.ei_backend.specs.Shown.{shown_row, shown_of_arg};
-ghost use Rattle.ei_backend.specs.Backend.{after_row, FitsRow};
-ghost use Rattle.ei_client.specs.PointerAbsolute.{values_of, code_of};
+ghost use Rattle.ei_backend.specs.Message.{ReadsRow};
+ghost use Rattle.ei_backend.specs.Shown.{Shows};
+ghost use Rattle.ei_backend.specs.Sends.{Sends};
+ghost use Rattle.ei_client.specs.PointerAbsolute.{code_of, values_of, request};
 
 use crate::context::Context;
-use ei_backend::{Described, Interface, Object, Table};
-use ei_wire::{Arg, ByteStream, NoMemory, ParseError, RawFloat, Sealed, SendError};
-use std::alloc::{AllocError, Global};
-use std::fmt;
-use std::marker::Model;
+use crate::proxy::Proxy;
+use ei_backend::{Table, kinds};
+use ei_wire::{Arg, ByteStream, NoMemory, ParseError, RawFloat, SendError, read_one, read_two};
+use std::alloc::Global;
 
 /// The motion of a device to points of its regions.
-#[derive(Drop, PartialEq, Eq, Hash)]
-pub struct PointerAbsolute {
-    object: Object,
-}
-
-impl Model for PointerAbsolute {
-    ghost use Rattle.std.specs.Prelude.{◌≡◌};
-    ghost use Rattle.ei_spec.specs.Interface.{ObjectView, Known};
-    ghost use Rattle.ei_spec.specs.declared.interface.KnownInterface.TheVariants as known;
-    ghost use Rattle.ei_backend.specs.Codes.{object_code};
-
-    ghost Value = { ObjectView };
-
-    ghost coded = { object_code };
-
-    ghost view = { λ p. p.object };
-
-    ghost invariant = { λ p. p.object.interface ≡ Known known.PointerAbsolute };
-
-    ghost inverse = { λ o. record { object = o } };
-}
-
-impl Sealed for PointerAbsolute {}
-
-impl Described for PointerAbsolute {
-    ghost use Rattle.std.specs.Prelude.{true, refl};
-    ghost use Rattle.ei_spec.specs.declared.interface.KnownInterface.TheVariants as known;
-
-    ghost interface = { known.PointerAbsolute };
-
-    ghost VERSION = { 1 };
-
-    ghost CLIENT_SIDE = { true };
-
-    ghost listed = { refl };
-
-    const NAME: &'static str = "ei_pointer_absolute";
-
-    const VERSION: u32 = 1;
-
-    const CLIENT_SIDE: bool = true;
-
-    fn wire_name() -> &'static str {
-        PointerAbsolute::NAME
-    }
-}
-
-impl Interface for PointerAbsolute {
-    ghost behind = { λ p. p };
-
-    fn new_unchecked(object: Object) -> PointerAbsolute {
-        PointerAbsolute { object }
-    }
-
-    fn as_object(&self) -> &Object {
-        &self.object
-    }
-}
-
-impl Clone for PointerAbsolute {
-    ghost use Rattle.std.specs.Prelude.{◌≡◌, ⊤};
-
-    ghost is_clone = { λ p copy. copy ≡ p };
-
-    ghost is_infallible = { λ _. ⊤ };
-
-    fn clone(&self) -> Result<PointerAbsolute, AllocError> {
-        Ok(PointerAbsolute {
-            object: self.object.clone()?,
-        })
-    }
-}
-
-impl fmt::Debug for PointerAbsolute {
-    ghost use Rattle.std.specs.Prelude.{Some, codes};
-    ghost use Rattle.ei_backend.specs.Object.{proxy_text};
-
-    ghost debug_output = { λ p. Some (proxy_text (codes "PointerAbsolute") p) };
-
-    fn fmt<W: fmt::Write>(&self, f: &mut fmt::Formatter<W>) -> fmt::Result {
-        let object = &self.object;
-        write!(f, "PointerAbsolute({object:?})")
-    }
-}
+pub type PointerAbsolute = Proxy<kinds::PointerAbsolute>;
 
 impl PointerAbsolute {
     /// Tells the server that the client is done with the object. It stays until the server takes it away.
     ///
     /// `NoMemory`: nothing is sent.
     pub fn release(&self, ctx: &mut Context) -> Result<(), SendError>
-        ensures ok { OnOk result (ctx.new ≡ after_row (row_named (codes "release") (table false known.PointerAbsolute)) self.now [] ctx.old) }
-        ensures err { OnErr result (ctx.new ≡ ctx.old) }
-        ensures only { IfErr result (λ e. e ≡ send_error.NoMemory) }
-        ensures room { FitsRow (row_named (codes "release") (table false known.PointerAbsolute)) self.now [] ctx.old → IsErrOf result send_error.NoMemory → ⊥ }
+        ensures sends { Sends (request (codes "release")) self.now [] ctx.old ctx.new result }
     {
         self.object.request(ctx, 0, &[])
     }
@@ -127,10 +36,8 @@ impl PointerAbsolute {
         x: RawFloat,
         y: RawFloat,
     ) -> Result<(), SendError>
-        ensures ok { OnOk result (ctx.new ≡ after_row (row_named (codes "motion_absolute") (table false known.PointerAbsolute)) self.now (Word x.0 ∷ Word y.0 ∷ []) ctx.old) }
-        ensures err { OnErr result (ctx.new ≡ ctx.old) }
-        ensures only { IfErr result (λ e. e ≡ send_error.NoMemory) }
-        ensures room { FitsRow (row_named (codes "motion_absolute") (table false known.PointerAbsolute)) self.now (Word x.0 ∷ Word y.0 ∷ []) ctx.old → IsErrOf result send_error.NoMemory → ⊥ }
+        ensures sends { Sends (request (codes "motion_absolute")) self.now
+            (Word x.0 ∷ Word y.0 ∷ []) ctx.old ctx.new result }
     {
         let args = [Arg::Float(x.0), Arg::Float(y.0)];
         self.object.request(ctx, 1, &args)
@@ -152,18 +59,18 @@ impl Event {
         bytes: &mut ByteStream<'_>,
         objects: &mut Table,
     ) -> Result<Event, ParseError>
-        ensures read { Reads (λ m. record { values = values_of m; table = objects.new; unread = bytes.new }) bytes.new.taken result (some_row (row_at opcode (table true known.PointerAbsolute)) (codes "pointer_absolute") opcode bytes.old objects.old) }
+        ensures read { ReadsRow values_of true known.PointerAbsolute opcode
+            bytes.old bytes.new objects.old objects.new result }
         ensures code { IfOk result (λ m. code_of m ≡ opcode) }
         ensures table { objects.new ≡ objects.old }
     {
         match opcode {
             0 => {
-                let serial = bytes.read_arg()?;
+                let serial = read_one(bytes)?;
                 Ok(Event::Destroyed { serial })
             }
             1 => {
-                let x = bytes.read_arg()?;
-                let y = bytes.read_arg()?;
+                let (x, y) = read_two(bytes)?;
                 Ok(Event::MotionAbsolute { x, y })
             }
             _ => Err(ParseError::InvalidOpcode("pointer_absolute", opcode)),
@@ -180,11 +87,15 @@ impl Event {
     }
 
     pub(crate) fn args(&self, alloc: Global) -> Result<Vec<Arg<'_>>, NoMemory>
-        ensures { IfOk result (λ args. map shown_of_arg args.items ≡ shown_row (row_at (code_of self.now) (table true known.PointerAbsolute)) (values_of self.now)) }
+        ensures { IfOk result
+            (λ args. Shows true known.PointerAbsolute (code_of self.now) (values_of self.now) args.items) }
     {
         let args = match self {
-            Event::Destroyed { serial } => vec![in alloc; Arg::Uint32(*serial)]?,
-            Event::MotionAbsolute { x, y } => vec![in alloc; Arg::Float(x.0), Arg::Float(y.0)]?,
+            Event::Destroyed { serial } => Vec::from_array(alloc, [Arg::Uint32(*serial)])?,
+            Event::MotionAbsolute { x, y } => Vec::from_array(
+                alloc,
+                [Arg::Float(x.0), Arg::Float(y.0)],
+            )?,
         };
         Ok(args)
     }

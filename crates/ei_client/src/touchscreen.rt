@@ -1,119 +1,28 @@
 //! `ei_touchscreen`: the touches on a device.
 
-ghost use Rattle.std.specs.Prelude.{◌≡◌, IfOk, OnOk, OnErr, IfErr, true, false, codes, [], ◌∷◌, map, IsErrOf};
+ghost use Rattle.std.specs.Prelude.{◌≡◌, IfOk, true, codes, [], ◌∷◌};
 ghost use Rattle.ei_spec.specs.Value.{Word};
-ghost use Rattle.ei_spec.specs.Interface.{Known};
 ghost use Rattle.ei_spec.specs.declared.interface.KnownInterface.TheVariants as known;
-ghost use Rattle.ei_spec.specs.Table.{table};
-ghost use Rattle.ei_spec.specs.Rows.{row_at, row_named};
-ghost use Rattle.ei_wire.specs.declared.error.SendError.TheVariants as send_error;
-ghost use Rattle.ei_backend.specs.Message.{Reads, Parsed, some_row};
-ghost use Rattle.ei_backend.specs.Shown.{shown_row, shown_of_arg};
-ghost use Rattle.ei_backend.specs.Backend.{after_row, FitsRow};
-ghost use Rattle.ei_client.specs.Touchscreen.{values_of, code_of};
+ghost use Rattle.ei_backend.specs.Message.{ReadsRow};
+ghost use Rattle.ei_backend.specs.Shown.{Shows};
+ghost use Rattle.ei_backend.specs.Sends.{Sends};
+ghost use Rattle.ei_client.specs.Touchscreen.{code_of, values_of, request};
 
 use crate::context::Context;
-use ei_backend::{Described, Interface, Object, Table};
-use ei_wire::{Arg, ByteStream, NoMemory, ParseError, RawFloat, Sealed, SendError};
-use std::alloc::{AllocError, Global};
-use std::fmt;
-use std::marker::Model;
+use crate::proxy::Proxy;
+use ei_backend::{Table, kinds};
+use ei_wire::{Arg, ByteStream, NoMemory, ParseError, RawFloat, SendError, read_one, read_three};
+use std::alloc::Global;
 
 /// The touches on a device.
-#[derive(Drop, PartialEq, Eq, Hash)]
-pub struct Touchscreen {
-    object: Object,
-}
-
-impl Model for Touchscreen {
-    ghost use Rattle.std.specs.Prelude.{◌≡◌};
-    ghost use Rattle.ei_spec.specs.Interface.{ObjectView, Known};
-    ghost use Rattle.ei_spec.specs.declared.interface.KnownInterface.TheVariants as known;
-    ghost use Rattle.ei_backend.specs.Codes.{object_code};
-
-    ghost Value = { ObjectView };
-
-    ghost coded = { object_code };
-
-    ghost view = { λ p. p.object };
-
-    ghost invariant = { λ p. p.object.interface ≡ Known known.Touchscreen };
-
-    ghost inverse = { λ o. record { object = o } };
-}
-
-impl Sealed for Touchscreen {}
-
-impl Described for Touchscreen {
-    ghost use Rattle.std.specs.Prelude.{true, refl};
-    ghost use Rattle.ei_spec.specs.declared.interface.KnownInterface.TheVariants as known;
-
-    ghost interface = { known.Touchscreen };
-
-    ghost VERSION = { 2 };
-
-    ghost CLIENT_SIDE = { true };
-
-    ghost listed = { refl };
-
-    const NAME: &'static str = "ei_touchscreen";
-
-    const VERSION: u32 = 2;
-
-    const CLIENT_SIDE: bool = true;
-
-    fn wire_name() -> &'static str {
-        Touchscreen::NAME
-    }
-}
-
-impl Interface for Touchscreen {
-    ghost behind = { λ p. p };
-
-    fn new_unchecked(object: Object) -> Touchscreen {
-        Touchscreen { object }
-    }
-
-    fn as_object(&self) -> &Object {
-        &self.object
-    }
-}
-
-impl Clone for Touchscreen {
-    ghost use Rattle.std.specs.Prelude.{◌≡◌, ⊤};
-
-    ghost is_clone = { λ p copy. copy ≡ p };
-
-    ghost is_infallible = { λ _. ⊤ };
-
-    fn clone(&self) -> Result<Touchscreen, AllocError> {
-        Ok(Touchscreen {
-            object: self.object.clone()?,
-        })
-    }
-}
-
-impl fmt::Debug for Touchscreen {
-    ghost use Rattle.std.specs.Prelude.{Some, codes};
-    ghost use Rattle.ei_backend.specs.Object.{proxy_text};
-
-    ghost debug_output = { λ p. Some (proxy_text (codes "Touchscreen") p) };
-
-    fn fmt<W: fmt::Write>(&self, f: &mut fmt::Formatter<W>) -> fmt::Result {
-        let object = &self.object;
-        write!(f, "Touchscreen({object:?})")
-    }
-}
+pub type Touchscreen = Proxy<kinds::Touchscreen>;
 
 impl Touchscreen {
     /// Tells the server that the client is done with the object. It stays until the server takes it away.
     ///
     /// `NoMemory`: nothing is sent.
     pub fn release(&self, ctx: &mut Context) -> Result<(), SendError>
-        ensures ok { OnOk result (ctx.new ≡ after_row (row_named (codes "release") (table false known.Touchscreen)) self.now [] ctx.old) }
-        ensures err { OnErr result (ctx.new ≡ ctx.old) }
-        ensures only { IfErr result (λ e. e ≡ send_error.NoMemory) }
-        ensures room { FitsRow (row_named (codes "release") (table false known.Touchscreen)) self.now [] ctx.old → IsErrOf result send_error.NoMemory → ⊥ }
+        ensures sends { Sends (request (codes "release")) self.now [] ctx.old ctx.new result }
     {
         self.object.request(ctx, 0, &[])
     }
@@ -129,10 +38,8 @@ impl Touchscreen {
         x: RawFloat,
         y: RawFloat,
     ) -> Result<(), SendError>
-        ensures ok { OnOk result (ctx.new ≡ after_row (row_named (codes "down") (table false known.Touchscreen)) self.now (Word touchid ∷ Word x.0 ∷ Word y.0 ∷ []) ctx.old) }
-        ensures err { OnErr result (ctx.new ≡ ctx.old) }
-        ensures only { IfErr result (λ e. e ≡ send_error.NoMemory) }
-        ensures room { FitsRow (row_named (codes "down") (table false known.Touchscreen)) self.now (Word touchid ∷ Word x.0 ∷ Word y.0 ∷ []) ctx.old → IsErrOf result send_error.NoMemory → ⊥ }
+        ensures sends { Sends (request (codes "down")) self.now
+            (Word touchid ∷ Word x.0 ∷ Word y.0 ∷ []) ctx.old ctx.new result }
     {
         let args = [Arg::Uint32(touchid), Arg::Float(x.0), Arg::Float(y.0)];
         self.object.request(ctx, 1, &args)
@@ -148,10 +55,8 @@ impl Touchscreen {
         x: RawFloat,
         y: RawFloat,
     ) -> Result<(), SendError>
-        ensures ok { OnOk result (ctx.new ≡ after_row (row_named (codes "motion") (table false known.Touchscreen)) self.now (Word touchid ∷ Word x.0 ∷ Word y.0 ∷ []) ctx.old) }
-        ensures err { OnErr result (ctx.new ≡ ctx.old) }
-        ensures only { IfErr result (λ e. e ≡ send_error.NoMemory) }
-        ensures room { FitsRow (row_named (codes "motion") (table false known.Touchscreen)) self.now (Word touchid ∷ Word x.0 ∷ Word y.0 ∷ []) ctx.old → IsErrOf result send_error.NoMemory → ⊥ }
+        ensures sends { Sends (request (codes "motion")) self.now
+            (Word touchid ∷ Word x.0 ∷ Word y.0 ∷ []) ctx.old ctx.new result }
     {
         let args = [Arg::Uint32(touchid), Arg::Float(x.0), Arg::Float(y.0)];
         self.object.request(ctx, 2, &args)
@@ -161,10 +66,7 @@ impl Touchscreen {
     ///
     /// `NoMemory`: nothing is sent.
     pub fn up(&self, ctx: &mut Context, touchid: u32) -> Result<(), SendError>
-        ensures ok { OnOk result (ctx.new ≡ after_row (row_named (codes "up") (table false known.Touchscreen)) self.now (Word touchid ∷ []) ctx.old) }
-        ensures err { OnErr result (ctx.new ≡ ctx.old) }
-        ensures only { IfErr result (λ e. e ≡ send_error.NoMemory) }
-        ensures room { FitsRow (row_named (codes "up") (table false known.Touchscreen)) self.now (Word touchid ∷ []) ctx.old → IsErrOf result send_error.NoMemory → ⊥ }
+        ensures sends { Sends (request (codes "up")) self.now (Word touchid ∷ []) ctx.old ctx.new result }
     {
         self.object.request(ctx, 3, &[Arg::Uint32(touchid)])
     }
@@ -173,10 +75,7 @@ impl Touchscreen {
     ///
     /// `NoMemory`: nothing is sent.
     pub fn cancel(&self, ctx: &mut Context, touchid: u32) -> Result<(), SendError>
-        ensures ok { OnOk result (ctx.new ≡ after_row (row_named (codes "cancel") (table false known.Touchscreen)) self.now (Word touchid ∷ []) ctx.old) }
-        ensures err { OnErr result (ctx.new ≡ ctx.old) }
-        ensures only { IfErr result (λ e. e ≡ send_error.NoMemory) }
-        ensures room { FitsRow (row_named (codes "cancel") (table false known.Touchscreen)) self.now (Word touchid ∷ []) ctx.old → IsErrOf result send_error.NoMemory → ⊥ }
+        ensures sends { Sends (request (codes "cancel")) self.now (Word touchid ∷ []) ctx.old ctx.new result }
     {
         self.object.request(ctx, 4, &[Arg::Uint32(touchid)])
     }
@@ -217,33 +116,30 @@ impl Event {
         bytes: &mut ByteStream<'_>,
         objects: &mut Table,
     ) -> Result<Event, ParseError>
-        ensures read { Reads (λ m. record { values = values_of m; table = objects.new; unread = bytes.new }) bytes.new.taken result (some_row (row_at opcode (table true known.Touchscreen)) (codes "touchscreen") opcode bytes.old objects.old) }
+        ensures read { ReadsRow values_of true known.Touchscreen opcode
+            bytes.old bytes.new objects.old objects.new result }
         ensures code { IfOk result (λ m. code_of m ≡ opcode) }
         ensures table { objects.new ≡ objects.old }
     {
         match opcode {
             0 => {
-                let serial = bytes.read_arg()?;
+                let serial = read_one(bytes)?;
                 Ok(Event::Destroyed { serial })
             }
             1 => {
-                let touchid = bytes.read_arg()?;
-                let x = bytes.read_arg()?;
-                let y = bytes.read_arg()?;
+                let (touchid, x, y) = read_three(bytes)?;
                 Ok(Event::Down { touchid, x, y })
             }
             2 => {
-                let touchid = bytes.read_arg()?;
-                let x = bytes.read_arg()?;
-                let y = bytes.read_arg()?;
+                let (touchid, x, y) = read_three(bytes)?;
                 Ok(Event::Motion { touchid, x, y })
             }
             3 => {
-                let touchid = bytes.read_arg()?;
+                let touchid = read_one(bytes)?;
                 Ok(Event::Up { touchid })
             }
             4 => {
-                let touchid = bytes.read_arg()?;
+                let touchid = read_one(bytes)?;
                 Ok(Event::Cancel { touchid })
             }
             _ => Err(ParseError::InvalidOpcode("touchscreen", opcode)),
@@ -263,18 +159,25 @@ impl Event {
     }
 
     pub(crate) fn args(&self, alloc: Global) -> Result<Vec<Arg<'_>>, NoMemory>
-        ensures { IfOk result (λ args. map shown_of_arg args.items ≡ shown_row (row_at (code_of self.now) (table true known.Touchscreen)) (values_of self.now)) }
+        ensures { IfOk result
+            (λ args. Shows true known.Touchscreen (code_of self.now) (values_of self.now) args.items) }
     {
         let args = match self {
-            Event::Destroyed { serial } => vec![in alloc; Arg::Uint32(*serial)]?,
+            Event::Destroyed { serial } => Vec::from_array(alloc, [Arg::Uint32(*serial)])?,
             Event::Down { touchid, x, y } => {
-                vec![in alloc; Arg::Uint32(*touchid), Arg::Float(x.0), Arg::Float(y.0)]?
+                Vec::from_array(
+                    alloc,
+                    [Arg::Uint32(*touchid), Arg::Float(x.0), Arg::Float(y.0)],
+                )?
             }
             Event::Motion { touchid, x, y } => {
-                vec![in alloc; Arg::Uint32(*touchid), Arg::Float(x.0), Arg::Float(y.0)]?
+                Vec::from_array(
+                    alloc,
+                    [Arg::Uint32(*touchid), Arg::Float(x.0), Arg::Float(y.0)],
+                )?
             }
-            Event::Up { touchid } => vec![in alloc; Arg::Uint32(*touchid)]?,
-            Event::Cancel { touchid } => vec![in alloc; Arg::Uint32(*touchid)]?,
+            Event::Up { touchid } => Vec::from_array(alloc, [Arg::Uint32(*touchid)])?,
+            Event::Cancel { touchid } => Vec::from_array(alloc, [Arg::Uint32(*touchid)])?,
         };
         Ok(args)
     }

@@ -1,6 +1,9 @@
 -- The requests of `ei_button`, by the table of messages.
-use Rattle.std.specs.Prelude.{ℕ, List, [], ◌∷◌}
+use Rattle.std.specs.Prelude.{ℕ, List, [], ◌∷◌, Option, true}
 use Rattle.ei_spec.specs.Value.{Value, Word}
+use Rattle.ei_spec.specs.declared.interface.KnownInterface.TheVariants as known
+use Rattle.ei_spec.specs.Rows.{Row, row_named}
+use Rattle.ei_spec.specs.Table.{table}
 use Rattle.ei_types.specs.Enums.{button_state_number}
 use Rattle.ei_server.specs.declared.button.Request.{Request}
 use Rattle.ei_server.specs.declared.button.Request.TheVariants.{Release, Button}
@@ -14,3 +17,7 @@ code_of (Button button state) = 1
 abbrev pub values_of : Request → List Value
 values_of Release = []
 values_of (Button button state) = Word button ∷ Word (button_state_number state) ∷ []
+
+-- the row of an event of that name
+abbrev pub event : List ℕ → Option (ℕ × Row)
+event name = row_named name (table true known.Button)

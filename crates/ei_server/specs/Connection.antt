@@ -1,6 +1,9 @@
 -- The requests of `ei_connection`, by the table of messages.
-use Rattle.std.specs.Prelude.{ℕ, List, [], ◌∷◌}
+use Rattle.std.specs.Prelude.{ℕ, List, [], ◌∷◌, Option, true}
 use Rattle.ei_spec.specs.Value.{Value, Word, Long}
+use Rattle.ei_spec.specs.declared.interface.KnownInterface.TheVariants as known
+use Rattle.ei_spec.specs.Rows.{Row, row_named}
+use Rattle.ei_spec.specs.Table.{table}
 use Rattle.ei_server.specs.declared.connection.Request.{Request}
 use Rattle.ei_server.specs.declared.connection.Request.TheVariants.{Sync, Disconnect}
 
@@ -13,3 +16,7 @@ code_of Disconnect = 1
 abbrev pub values_of : Request → List Value
 values_of (Sync callback) = Long callback.id ∷ Word callback.version ∷ []
 values_of Disconnect = []
+
+-- the row of an event of that name
+abbrev pub event : List ℕ → Option (ℕ × Row)
+event name = row_named name (table true known.Connection)

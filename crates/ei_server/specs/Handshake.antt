@@ -1,6 +1,9 @@
 -- The requests of `ei_handshake`, by the table of messages.
-use Rattle.std.specs.Prelude.{ℕ, List, [], ◌∷◌}
+use Rattle.std.specs.Prelude.{ℕ, List, [], ◌∷◌, Option, true}
 use Rattle.ei_spec.specs.Value.{Value, Word, Letters}
+use Rattle.ei_spec.specs.declared.interface.KnownInterface.TheVariants as known
+use Rattle.ei_spec.specs.Rows.{Row, row_named}
+use Rattle.ei_spec.specs.Table.{table}
 use Rattle.ei_types.specs.Enums.{context_type_number}
 use Rattle.ei_server.specs.declared.handshake.Request.{Request}
 use Rattle.ei_server.specs.declared.handshake.Request.TheVariants.{HandshakeVersion, Finish, ContextType, Name, InterfaceVersion}
@@ -20,3 +23,7 @@ values_of Finish = []
 values_of (ContextType context_type) = Word (context_type_number context_type) ∷ []
 values_of (Name name) = Letters name ∷ []
 values_of (InterfaceVersion name version) = Letters name ∷ Word version ∷ []
+
+-- the row of an event of that name
+abbrev pub event : List ℕ → Option (ℕ × Row)
+event name = row_named name (table true known.Handshake)

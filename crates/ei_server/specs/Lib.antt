@@ -1,5 +1,6 @@
 pub mod Handshake
 pub mod Connection
+pub mod Callback
 pub mod Pingpong
 pub mod Seat
 pub mod Device

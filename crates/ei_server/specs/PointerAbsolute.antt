@@ -1,6 +1,9 @@
 -- The requests of `ei_pointer_absolute`, by the table of messages.
-use Rattle.std.specs.Prelude.{ℕ, List, [], ◌∷◌}
+use Rattle.std.specs.Prelude.{ℕ, List, [], ◌∷◌, Option, true}
 use Rattle.ei_spec.specs.Value.{Value, Word}
+use Rattle.ei_spec.specs.declared.interface.KnownInterface.TheVariants as known
+use Rattle.ei_spec.specs.Rows.{Row, row_named}
+use Rattle.ei_spec.specs.Table.{table}
 use Rattle.ei_server.specs.declared.pointer_absolute.Request.{Request}
 use Rattle.ei_server.specs.declared.pointer_absolute.Request.TheVariants.{Release, MotionAbsolute}
 
@@ -13,3 +16,7 @@ code_of (MotionAbsolute x y) = 1
 abbrev pub values_of : Request → List Value
 values_of Release = []
 values_of (MotionAbsolute x y) = Word x.0 ∷ Word y.0 ∷ []
+
+-- the row of an event of that name
+abbrev pub event : List ℕ → Option (ℕ × Row)
+event name = row_named name (table true known.PointerAbsolute)

@@ -1,6 +1,9 @@
 -- The requests of `ei_text`, by the table of messages.
-use Rattle.std.specs.Prelude.{ℕ, List, [], ◌∷◌}
+use Rattle.std.specs.Prelude.{ℕ, List, [], ◌∷◌, Option, true}
 use Rattle.ei_spec.specs.Value.{Value, Word, Letters}
+use Rattle.ei_spec.specs.declared.interface.KnownInterface.TheVariants as known
+use Rattle.ei_spec.specs.Rows.{Row, row_named}
+use Rattle.ei_spec.specs.Table.{table}
 use Rattle.ei_types.specs.Enums.{key_state_number}
 use Rattle.ei_server.specs.declared.text.Request.{Request}
 use Rattle.ei_server.specs.declared.text.Request.TheVariants.{Release, Keysym, Utf8}
@@ -16,3 +19,7 @@ abbrev pub values_of : Request → List Value
 values_of Release = []
 values_of (Keysym keysym state) = Word keysym ∷ Word (key_state_number state) ∷ []
 values_of (Utf8 text) = Letters text ∷ []
+
+-- the row of an event of that name
+abbrev pub event : List ℕ → Option (ℕ × Row)
+event name = row_named name (table true known.Text)

@@ -1,119 +1,27 @@
 //! `ei_device`: a device, which has interfaces for input.
 
-ghost use Rattle.std.specs.Prelude.{◌≡◌, ◌≤◌, ◌<◌, ◌↔◌, IfOk, OnOk, OnErr, IsErrOf, IfErr, true, false, codes, [], ◌∷◌, map};
+ghost use Rattle.std.specs.Prelude.{◌≡◌, IfOk, false, codes, [], ◌∷◌};
 ghost use Rattle.ei_spec.specs.Value.{Word, Long, Letters};
-ghost use Rattle.ei_spec.specs.Interface.{Known, name_of};
+ghost use Rattle.ei_spec.specs.Interface.{name_of};
 ghost use Rattle.ei_spec.specs.declared.interface.KnownInterface.TheVariants as known;
-ghost use Rattle.ei_spec.specs.Table.{table};
-ghost use Rattle.ei_spec.specs.Rows.{row_at, row_named};
-ghost use Rattle.ei_spec.specs.Message.{message, size};
-ghost use Rattle.ei_wire.specs.declared.error.SendError.TheVariants as send_error;
 ghost use Rattle.ei_types.specs.Enums.{device_type_number};
-ghost use Rattle.ei_backend.specs.Message.{Reads, Parsed, some_row};
-ghost use Rattle.ei_backend.specs.Shown.{shown_row, shown_of_arg};
-ghost use Rattle.ei_backend.specs.Table.{own, own_end};
-ghost use Rattle.ei_backend.specs.Backend.{after_row, after_new, FitsRow};
-ghost use Rattle.ei_server.specs.Device.{values_of, code_of};
+ghost use Rattle.ei_backend.specs.Message.{ReadsRow};
+ghost use Rattle.ei_backend.specs.Shown.{Shows};
+ghost use Rattle.ei_backend.specs.Sends.{Sends, SendsText, SendsNew};
+ghost use Rattle.ei_server.specs.Device.{code_of, values_of, event};
 
 use crate::context::Context;
 use crate::interface as eis;
-use ei_backend::{Described, HasBackend, Interface, InterfaceName, Object, Table};
-use ei_spec::KnownInterface;
+use crate::proxy::Proxy;
+use ei_backend::{HasBackend, Interface, Table, kinds};
 use ei_types::DeviceType;
 use ei_wire::{
-    Arg, ByteStream, NoMemory, ParseError, RawFloat, Sealed, SendError, interface_names,
+    Arg, ByteStream, NoMemory, OwnedArg, ParseError, RawFloat, SendError, read_one, read_two,
 };
-use std::alloc::{AllocError, Global};
-use std::fmt;
-use std::marker::Model;
+use std::alloc::Global;
 
 /// A device.
-#[derive(Drop, PartialEq, Eq, Hash)]
-pub struct Device {
-    object: Object,
-}
-
-// Contracts see the object; its interface is the device's.
-impl Model for Device {
-    ghost use Rattle.std.specs.Prelude.{◌≡◌};
-    ghost use Rattle.ei_spec.specs.Interface.{ObjectView, Known};
-    ghost use Rattle.ei_spec.specs.declared.interface.KnownInterface.TheVariants as known;
-    ghost use Rattle.ei_backend.specs.Codes.{object_code};
-
-    ghost Value = { ObjectView };
-
-    ghost coded = { object_code };
-
-    ghost view = { λ p. p.object };
-
-    ghost invariant = { λ p. p.object.interface ≡ Known known.Device };
-
-    ghost inverse = { λ o. record { object = o } };
-}
-
-impl Sealed for Device {}
-
-impl Described for Device {
-    ghost use Rattle.std.specs.Prelude.{false, refl};
-    ghost use Rattle.ei_spec.specs.declared.interface.KnownInterface.TheVariants as known;
-
-    ghost interface = { known.Device };
-
-    ghost VERSION = { 3 };
-
-    ghost CLIENT_SIDE = { false };
-
-    ghost listed = { refl };
-
-    const NAME: &'static str = "ei_device";
-
-    const VERSION: u32 = 3;
-
-    const CLIENT_SIDE: bool = false;
-
-    fn wire_name() -> &'static str {
-        Device::NAME
-    }
-}
-
-impl Interface for Device {
-    ghost behind = { λ p. p };
-
-    fn new_unchecked(object: Object) -> Device {
-        Device { object }
-    }
-
-    fn as_object(&self) -> &Object {
-        &self.object
-    }
-}
-
-// A copy can't fail, since the name is a known one.
-impl Clone for Device {
-    ghost use Rattle.std.specs.Prelude.{◌≡◌, ⊤};
-
-    ghost is_clone = { λ p copy. copy ≡ p };
-
-    ghost is_infallible = { λ _. ⊤ };
-
-    fn clone(&self) -> Result<Device, AllocError> {
-        Ok(Device {
-            object: self.object.clone()?,
-        })
-    }
-}
-
-impl fmt::Debug for Device {
-    ghost use Rattle.std.specs.Prelude.{Some, codes};
-    ghost use Rattle.ei_backend.specs.Object.{proxy_text};
-
-    ghost debug_output = { λ p. Some (proxy_text (codes "Device") p) };
-
-    fn fmt<W: fmt::Write>(&self, f: &mut fmt::Formatter<W>) -> fmt::Result {
-        let object = &self.object;
-        write!(f, "Device({object:?})")
-    }
-}
+pub type Device = Proxy<kinds::Device>;
 
 impl Device {
     /// Tells the client that the device is gone, as the event of this serial, and takes it out of the table.
@@ -121,26 +29,18 @@ impl Device {
     ///
     /// `NoMemory`: nothing is sent, and the device stays.
     pub fn destroyed(&self, ctx: &mut Context, serial: u32) -> Result<(), SendError>
-        ensures ok { OnOk result (ctx.new ≡ after_row (row_named (codes "destroyed") (table true known.Device)) self.now (Word serial ∷ []) ctx.old) }
-        ensures err { OnErr result (ctx.new ≡ ctx.old) }
-        ensures only { IfErr result (λ e. e ≡ send_error.NoMemory) }
-        ensures room { FitsRow (row_named (codes "destroyed") (table true known.Device)) self.now (Word serial ∷ []) ctx.old → IsErrOf result send_error.NoMemory → ⊥ }
+        ensures sends { Sends (event (codes "destroyed")) self.now (Word serial ∷ []) ctx.old ctx.new result }
     {
-        self.object.request(ctx, 0, &[Arg::Uint32(serial)])?;
-        ctx.backend_mut().remove_id(self.object.id());
-        Ok(())
+        self.send_last(ctx, 0, &[Arg::Uint32(serial)])
     }
 
     /// Names the device.
     ///
     /// `MessageTooLong` exactly where the message would have more than 1048576 bytes, `NoMemory`: nothing is
     /// sent.
+    #[tactic(auto, using(ei_spec::proofs::Utf8::is_text))]
     pub fn name(&self, ctx: &mut Context, name: &str) -> Result<(), SendError>
-        ensures ok { OnOk result (ctx.new ≡ after_row (row_named (codes "name") (table true known.Device)) self.now (Letters name.now ∷ []) ctx.old) }
-        ensures err { OnErr result (ctx.new ≡ ctx.old) }
-        ensures long { IsErrOf result send_error.MessageTooLong ↔ (1048576 < size (message self.now.id 1 (Letters name.now ∷ []))) }
-        ensures not_exhausted { IsErrOf result send_error.IdsExhausted → ⊥ }
-        ensures room { FitsRow (row_named (codes "name") (table true known.Device)) self.now (Letters name.now ∷ []) ctx.old → IsErrOf result send_error.NoMemory → ⊥ }
+        ensures sends { SendsText (event (codes "name")) self.now (Letters name.now ∷ []) ctx.old ctx.new result }
     {
         self.object.request(ctx, 1, &[Arg::String(Some(name))])
     }
@@ -149,23 +49,18 @@ impl Device {
     ///
     /// `NoMemory`: nothing is sent.
     pub fn device_type(&self, ctx: &mut Context, device_type: DeviceType) -> Result<(), SendError>
-        ensures ok { OnOk result (ctx.new ≡ after_row (row_named (codes "device_type") (table true known.Device)) self.now (Word (device_type_number device_type) ∷ []) ctx.old) }
-        ensures err { OnErr result (ctx.new ≡ ctx.old) }
-        ensures only { IfErr result (λ e. e ≡ send_error.NoMemory) }
-        ensures room { FitsRow (row_named (codes "device_type") (table true known.Device)) self.now (Word (device_type_number device_type) ∷ []) ctx.old → IsErrOf result send_error.NoMemory → ⊥ }
+        ensures sends { Sends (event (codes "device_type")) self.now
+            (Word (device_type_number device_type) ∷ []) ctx.old ctx.new result }
     {
-        self.object
-            .request(ctx, 2, &[Arg::Uint32(u32::from(device_type))])
+        self.object.request(ctx, 2, &[device_type.as_arg()])
     }
 
     /// Tells the size of a physical device, in millimetres.
     ///
     /// `NoMemory`: nothing is sent.
     pub fn dimensions(&self, ctx: &mut Context, width: u32, height: u32) -> Result<(), SendError>
-        ensures ok { OnOk result (ctx.new ≡ after_row (row_named (codes "dimensions") (table true known.Device)) self.now (Word width ∷ Word height ∷ []) ctx.old) }
-        ensures err { OnErr result (ctx.new ≡ ctx.old) }
-        ensures only { IfErr result (λ e. e ≡ send_error.NoMemory) }
-        ensures room { FitsRow (row_named (codes "dimensions") (table true known.Device)) self.now (Word width ∷ Word height ∷ []) ctx.old → IsErrOf result send_error.NoMemory → ⊥ }
+        ensures sends { Sends (event (codes "dimensions")) self.now
+            (Word width ∷ Word height ∷ []) ctx.old ctx.new result }
     {
         let args = [Arg::Uint32(width), Arg::Uint32(height)];
         self.object.request(ctx, 3, &args)
@@ -184,10 +79,8 @@ impl Device {
         hight: u32,
         scale: RawFloat,
     ) -> Result<(), SendError>
-        ensures ok { OnOk result (ctx.new ≡ after_row (row_named (codes "region") (table true known.Device)) self.now (Word offset_x ∷ Word offset_y ∷ Word width ∷ Word hight ∷ Word scale.0 ∷ []) ctx.old) }
-        ensures err { OnErr result (ctx.new ≡ ctx.old) }
-        ensures only { IfErr result (λ e. e ≡ send_error.NoMemory) }
-        ensures room { FitsRow (row_named (codes "region") (table true known.Device)) self.now (Word offset_x ∷ Word offset_y ∷ Word width ∷ Word hight ∷ Word scale.0 ∷ []) ctx.old → IsErrOf result send_error.NoMemory → ⊥ }
+        ensures sends { Sends (event (codes "region")) self.now
+            (Word offset_x ∷ Word offset_y ∷ Word width ∷ Word hight ∷ Word scale.0 ∷ []) ctx.old ctx.new result }
     {
         let args = [
             Arg::Uint32(offset_x),
@@ -207,34 +100,22 @@ impl Device {
         ctx: &mut Context,
         version: u32,
     ) -> Result<T, SendError>
-        ensures ok { IfOk result (λ p. ctx.new ≡ after_new (row_named (codes "interface") (table true known.Device)) self.now (Long ctx.old.table.next_own ∷ Letters (name_of T.interface) ∷ Word version ∷ []) (Known T.interface) version ctx.old) }
-        ensures proxy { IfOk result (λ p. T.behind p ≡ own ctx.old.table (Known T.interface) version) }
-        ensures err { OnErr result (ctx.new ≡ ctx.old) }
-        ensures exhausted { IsErrOf result send_error.IdsExhausted ↔ (own_end ctx.old.table ≤ ctx.old.table.next_own) }
-        ensures not_long { IsErrOf result send_error.MessageTooLong → ⊥ }
-        ensures room { FitsRow (row_named (codes "interface") (table true known.Device)) self.now (Long ctx.old.table.next_own ∷ Letters (name_of T.interface) ∷ Word version ∷ []) ctx.old → ctx.old.table.next_own < ctx.old.table.room → IsErrOf result send_error.NoMemory → ⊥ }
+        ensures sends { SendsNew T.behind (event (codes "interface")) self.now
+            (Long ctx.old.table.next_own ∷ Letters (name_of T.KNOWN) ∷ Word version ∷ []) ctx.old ctx.new result }
     {
-        let id = self.object.id();
-        let name = T::wire_name();
         let args = [
             Arg::NewId(ctx.backend().next_id()),
-            Arg::String(Some(name)),
+            Arg::String(Some(T::KNOWN.name())),
             Arg::Uint32(version),
         ];
-        let interface = InterfaceName::Known(interface_of::<T>());
-        let backend = ctx.backend_mut();
-        let object = backend.request_new(id, 5, &args, interface, version)?;
-        Ok(T::new_unchecked(object))
+        self.announce(ctx, 5, &args, version)
     }
 
     /// Ends the description of the device.
     ///
     /// `NoMemory`: nothing is sent.
     pub fn done(&self, ctx: &mut Context) -> Result<(), SendError>
-        ensures ok { OnOk result (ctx.new ≡ after_row (row_named (codes "done") (table true known.Device)) self.now [] ctx.old) }
-        ensures err { OnErr result (ctx.new ≡ ctx.old) }
-        ensures only { IfErr result (λ e. e ≡ send_error.NoMemory) }
-        ensures room { FitsRow (row_named (codes "done") (table true known.Device)) self.now [] ctx.old → IsErrOf result send_error.NoMemory → ⊥ }
+        ensures sends { Sends (event (codes "done")) self.now [] ctx.old ctx.new result }
     {
         self.object.request(ctx, 6, &[])
     }
@@ -243,10 +124,7 @@ impl Device {
     ///
     /// `NoMemory`: nothing is sent.
     pub fn resumed(&self, ctx: &mut Context, serial: u32) -> Result<(), SendError>
-        ensures ok { OnOk result (ctx.new ≡ after_row (row_named (codes "resumed") (table true known.Device)) self.now (Word serial ∷ []) ctx.old) }
-        ensures err { OnErr result (ctx.new ≡ ctx.old) }
-        ensures only { IfErr result (λ e. e ≡ send_error.NoMemory) }
-        ensures room { FitsRow (row_named (codes "resumed") (table true known.Device)) self.now (Word serial ∷ []) ctx.old → IsErrOf result send_error.NoMemory → ⊥ }
+        ensures sends { Sends (event (codes "resumed")) self.now (Word serial ∷ []) ctx.old ctx.new result }
     {
         self.object.request(ctx, 7, &[Arg::Uint32(serial)])
     }
@@ -255,10 +133,7 @@ impl Device {
     ///
     /// `NoMemory`: nothing is sent.
     pub fn paused(&self, ctx: &mut Context, serial: u32) -> Result<(), SendError>
-        ensures ok { OnOk result (ctx.new ≡ after_row (row_named (codes "paused") (table true known.Device)) self.now (Word serial ∷ []) ctx.old) }
-        ensures err { OnErr result (ctx.new ≡ ctx.old) }
-        ensures only { IfErr result (λ e. e ≡ send_error.NoMemory) }
-        ensures room { FitsRow (row_named (codes "paused") (table true known.Device)) self.now (Word serial ∷ []) ctx.old → IsErrOf result send_error.NoMemory → ⊥ }
+        ensures sends { Sends (event (codes "paused")) self.now (Word serial ∷ []) ctx.old ctx.new result }
     {
         self.object.request(ctx, 8, &[Arg::Uint32(serial)])
     }
@@ -273,10 +148,8 @@ impl Device {
         serial: u32,
         sequence: u32,
     ) -> Result<(), SendError>
-        ensures ok { OnOk result (ctx.new ≡ after_row (row_named (codes "start_emulating") (table true known.Device)) self.now (Word serial ∷ Word sequence ∷ []) ctx.old) }
-        ensures err { OnErr result (ctx.new ≡ ctx.old) }
-        ensures only { IfErr result (λ e. e ≡ send_error.NoMemory) }
-        ensures room { FitsRow (row_named (codes "start_emulating") (table true known.Device)) self.now (Word serial ∷ Word sequence ∷ []) ctx.old → IsErrOf result send_error.NoMemory → ⊥ }
+        ensures sends { Sends (event (codes "start_emulating")) self.now
+            (Word serial ∷ Word sequence ∷ []) ctx.old ctx.new result }
     {
         let args = [Arg::Uint32(serial), Arg::Uint32(sequence)];
         self.object.request(ctx, 9, &args)
@@ -286,10 +159,7 @@ impl Device {
     ///
     /// `NoMemory`: nothing is sent.
     pub fn stop_emulating(&self, ctx: &mut Context, serial: u32) -> Result<(), SendError>
-        ensures ok { OnOk result (ctx.new ≡ after_row (row_named (codes "stop_emulating") (table true known.Device)) self.now (Word serial ∷ []) ctx.old) }
-        ensures err { OnErr result (ctx.new ≡ ctx.old) }
-        ensures only { IfErr result (λ e. e ≡ send_error.NoMemory) }
-        ensures room { FitsRow (row_named (codes "stop_emulating") (table true known.Device)) self.now (Word serial ∷ []) ctx.old → IsErrOf result send_error.NoMemory → ⊥ }
+        ensures sends { Sends (event (codes "stop_emulating")) self.now (Word serial ∷ []) ctx.old ctx.new result }
     {
         self.object.request(ctx, 10, &[Arg::Uint32(serial)])
     }
@@ -299,10 +169,8 @@ impl Device {
     ///
     /// `NoMemory`: nothing is sent.
     pub fn frame(&self, ctx: &mut Context, serial: u32, timestamp: u64) -> Result<(), SendError>
-        ensures ok { OnOk result (ctx.new ≡ after_row (row_named (codes "frame") (table true known.Device)) self.now (Word serial ∷ Long timestamp ∷ []) ctx.old) }
-        ensures err { OnErr result (ctx.new ≡ ctx.old) }
-        ensures only { IfErr result (λ e. e ≡ send_error.NoMemory) }
-        ensures room { FitsRow (row_named (codes "frame") (table true known.Device)) self.now (Word serial ∷ Long timestamp ∷ []) ctx.old → IsErrOf result send_error.NoMemory → ⊥ }
+        ensures sends { Sends (event (codes "frame")) self.now
+            (Word serial ∷ Long timestamp ∷ []) ctx.old ctx.new result }
     {
         let args = [Arg::Uint32(serial), Arg::Uint64(timestamp)];
         self.object.request(ctx, 11, &args)
@@ -312,26 +180,13 @@ impl Device {
     ///
     /// `MessageTooLong` exactly where the message would have more than 1048576 bytes, `NoMemory`: nothing is
     /// sent.
+    #[tactic(auto, using(ei_spec::proofs::Utf8::is_text))]
     pub fn region_mapping_id(&self, ctx: &mut Context, mapping_id: &str) -> Result<(), SendError>
-        ensures ok { OnOk result (ctx.new ≡ after_row (row_named (codes "region_mapping_id") (table true known.Device)) self.now (Letters mapping_id.now ∷ []) ctx.old) }
-        ensures err { OnErr result (ctx.new ≡ ctx.old) }
-        ensures long { IsErrOf result send_error.MessageTooLong ↔ (1048576 < size (message self.now.id 12 (Letters mapping_id.now ∷ []))) }
-        ensures not_exhausted { IsErrOf result send_error.IdsExhausted → ⊥ }
-        ensures room { FitsRow (row_named (codes "region_mapping_id") (table true known.Device)) self.now (Letters mapping_id.now ∷ []) ctx.old → IsErrOf result send_error.NoMemory → ⊥ }
+        ensures sends { SendsText (event (codes "region_mapping_id")) self.now
+            (Letters mapping_id.now ∷ []) ctx.old ctx.new result }
     {
         self.object
             .request(ctx, 12, &[Arg::String(Some(mapping_id))])
-    }
-}
-
-/// The interface of a type of proxies.
-fn interface_of<T: eis::Interface>() -> KnownInterface
-    ensures { result ≡ T.interface }
-{
-    interface_names();
-    match KnownInterface::from_name(T::wire_name()) {
-        Some(known) => known,
-        None => unreachable!(),
     }
 }
 
@@ -357,27 +212,25 @@ impl Request {
         bytes: &mut ByteStream<'_>,
         objects: &mut Table,
     ) -> Result<Request, ParseError>
-        ensures read { Reads (λ m. record { values = values_of m; table = objects.new; unread = bytes.new }) bytes.new.taken result (some_row (row_at opcode (table false known.Device)) (codes "device") opcode bytes.old objects.old) }
+        ensures read { ReadsRow values_of false known.Device opcode bytes.old bytes.new objects.old objects.new result }
         ensures code { IfOk result (λ m. code_of m ≡ opcode) }
         ensures table { objects.new ≡ objects.old }
     {
         match opcode {
             0 => Ok(Request::Release),
             1 => {
-                let last_serial = bytes.read_arg()?;
-                let sequence = bytes.read_arg()?;
+                let (last_serial, sequence) = read_two(bytes)?;
                 Ok(Request::StartEmulating {
                     last_serial,
                     sequence,
                 })
             }
             2 => {
-                let last_serial = bytes.read_arg()?;
+                let last_serial = read_one(bytes)?;
                 Ok(Request::StopEmulating { last_serial })
             }
             3 => {
-                let last_serial = bytes.read_arg()?;
-                let timestamp = bytes.read_arg()?;
+                let (last_serial, timestamp) = read_two(bytes)?;
                 Ok(Request::Frame {
                     last_serial,
                     timestamp,
@@ -402,19 +255,22 @@ impl Request {
 
     /// The arguments in order.
     pub(crate) fn args(&self, alloc: Global) -> Result<Vec<Arg<'_>>, NoMemory>
-        ensures { IfOk result (λ args. map shown_of_arg args.items ≡ shown_row (row_at (code_of self.now) (table false known.Device)) (values_of self.now)) }
+        ensures { IfOk result (λ args. Shows false known.Device (code_of self.now) (values_of self.now) args.items) }
     {
         let args = match self {
             Request::Release | Request::Ready => Vec::new(alloc),
             Request::StartEmulating {
                 last_serial,
                 sequence,
-            } => vec![in alloc; Arg::Uint32(*last_serial), Arg::Uint32(*sequence)]?,
-            Request::StopEmulating { last_serial } => vec![in alloc; Arg::Uint32(*last_serial)]?,
+            } => Vec::from_array(alloc, [Arg::Uint32(*last_serial), Arg::Uint32(*sequence)])?,
+            Request::StopEmulating { last_serial } => Vec::from_array(
+                alloc,
+                [Arg::Uint32(*last_serial)],
+            )?,
             Request::Frame {
                 last_serial,
                 timestamp,
-            } => vec![in alloc; Arg::Uint32(*last_serial), Arg::Uint64(*timestamp)]?,
+            } => Vec::from_array(alloc, [Arg::Uint32(*last_serial), Arg::Uint64(*timestamp)])?,
         };
         Ok(args)
     }

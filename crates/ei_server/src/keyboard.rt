@@ -1,125 +1,32 @@
 //! `ei_keyboard`: the keys of a device.
 
-ghost use Rattle.std.specs.Prelude.{◌≡◌, IfOk, OnOk, OnErr, IfErr, true, false, codes, [], ◌∷◌, map, IsErrOf};
+ghost use Rattle.std.specs.Prelude.{◌≡◌, IfOk, false, codes, [], ◌∷◌};
 ghost use Rattle.ei_spec.specs.Value.{Word, Fd};
-ghost use Rattle.ei_spec.specs.Interface.{Known};
 ghost use Rattle.ei_spec.specs.declared.interface.KnownInterface.TheVariants as known;
-ghost use Rattle.ei_spec.specs.Table.{table};
-ghost use Rattle.ei_spec.specs.Rows.{row_at, row_named};
-ghost use Rattle.ei_wire.specs.declared.error.SendError.TheVariants as send_error;
 ghost use Rattle.ei_types.specs.Enums.{key_state_number, keymap_type_number};
-ghost use Rattle.ei_backend.specs.Message.{Reads, Parsed, some_row};
-ghost use Rattle.ei_backend.specs.Shown.{shown_row, shown_of_arg};
-ghost use Rattle.ei_backend.specs.Backend.{after_row, FitsRow};
-ghost use Rattle.ei_server.specs.Keyboard.{values_of, code_of};
+ghost use Rattle.ei_backend.specs.Message.{ReadsRow};
+ghost use Rattle.ei_backend.specs.Shown.{Shows};
+ghost use Rattle.ei_backend.specs.Sends.{Sends};
+ghost use Rattle.ei_server.specs.Keyboard.{code_of, values_of, event};
 
 use crate::context::Context;
-use ei_backend::{Described, HasBackend, Interface, Object, Table};
+use crate::proxy::Proxy;
+use ei_backend::{Interface, Table, kinds};
 use ei_types::{KeyState, KeymapType};
-use ei_wire::{Arg, ByteStream, Handle, NoMemory, ParseError, Sealed, SendError};
-use std::alloc::{AllocError, Global};
-use std::fmt;
-use std::marker::Model;
+use ei_wire::{Arg, ByteStream, Handle, NoMemory, OwnedArg, ParseError, SendError, read_two};
+use std::alloc::Global;
 
 /// The keys of a device.
-#[derive(Drop, PartialEq, Eq, Hash)]
-pub struct Keyboard {
-    object: Object,
-}
-
-impl Model for Keyboard {
-    ghost use Rattle.std.specs.Prelude.{◌≡◌};
-    ghost use Rattle.ei_spec.specs.Interface.{ObjectView, Known};
-    ghost use Rattle.ei_spec.specs.declared.interface.KnownInterface.TheVariants as known;
-    ghost use Rattle.ei_backend.specs.Codes.{object_code};
-
-    ghost Value = { ObjectView };
-
-    ghost coded = { object_code };
-
-    ghost view = { λ p. p.object };
-
-    ghost invariant = { λ p. p.object.interface ≡ Known known.Keyboard };
-
-    ghost inverse = { λ o. record { object = o } };
-}
-
-impl Sealed for Keyboard {}
-
-impl Described for Keyboard {
-    ghost use Rattle.std.specs.Prelude.{false, refl};
-    ghost use Rattle.ei_spec.specs.declared.interface.KnownInterface.TheVariants as known;
-
-    ghost interface = { known.Keyboard };
-
-    ghost VERSION = { 1 };
-
-    ghost CLIENT_SIDE = { false };
-
-    ghost listed = { refl };
-
-    const NAME: &'static str = "ei_keyboard";
-
-    const VERSION: u32 = 1;
-
-    const CLIENT_SIDE: bool = false;
-
-    fn wire_name() -> &'static str {
-        Keyboard::NAME
-    }
-}
-
-impl Interface for Keyboard {
-    ghost behind = { λ p. p };
-
-    fn new_unchecked(object: Object) -> Keyboard {
-        Keyboard { object }
-    }
-
-    fn as_object(&self) -> &Object {
-        &self.object
-    }
-}
-
-impl Clone for Keyboard {
-    ghost use Rattle.std.specs.Prelude.{◌≡◌, ⊤};
-
-    ghost is_clone = { λ p copy. copy ≡ p };
-
-    ghost is_infallible = { λ _. ⊤ };
-
-    fn clone(&self) -> Result<Keyboard, AllocError> {
-        Ok(Keyboard {
-            object: self.object.clone()?,
-        })
-    }
-}
-
-impl fmt::Debug for Keyboard {
-    ghost use Rattle.std.specs.Prelude.{Some, codes};
-    ghost use Rattle.ei_backend.specs.Object.{proxy_text};
-
-    ghost debug_output = { λ p. Some (proxy_text (codes "Keyboard") p) };
-
-    fn fmt<W: fmt::Write>(&self, f: &mut fmt::Formatter<W>) -> fmt::Result {
-        let object = &self.object;
-        write!(f, "Keyboard({object:?})")
-    }
-}
+pub type Keyboard = Proxy<kinds::Keyboard>;
 
 impl Keyboard {
     /// Tells the client that the object is gone, as the event of this serial, and takes it out of the table.
     ///
     /// `NoMemory`: nothing is sent, and the object stays.
     pub fn destroyed(&self, ctx: &mut Context, serial: u32) -> Result<(), SendError>
-        ensures ok { OnOk result (ctx.new ≡ after_row (row_named (codes "destroyed") (table true known.Keyboard)) self.now (Word serial ∷ []) ctx.old) }
-        ensures err { OnErr result (ctx.new ≡ ctx.old) }
-        ensures only { IfErr result (λ e. e ≡ send_error.NoMemory) }
-        ensures room { FitsRow (row_named (codes "destroyed") (table true known.Keyboard)) self.now (Word serial ∷ []) ctx.old → IsErrOf result send_error.NoMemory → ⊥ }
+        ensures sends { Sends (event (codes "destroyed")) self.now (Word serial ∷ []) ctx.old ctx.new result }
     {
-        self.object.request(ctx, 0, &[Arg::Uint32(serial)])?;
-        ctx.backend_mut().remove_id(self.object.id());
-        Ok(())
+        self.send_last(ctx, 0, &[Arg::Uint32(serial)])
     }
 
     /// Tells the client what the keys mean: the handle is of a keymap of so many bytes.
@@ -132,16 +39,10 @@ impl Keyboard {
         size: u32,
         keymap: Handle,
     ) -> Result<(), SendError>
-        ensures ok { OnOk result (ctx.new ≡ after_row (row_named (codes "keymap") (table true known.Keyboard)) self.now (Word (keymap_type_number keymap_type) ∷ Word size ∷ Fd keymap ∷ []) ctx.old) }
-        ensures err { OnErr result (ctx.new ≡ ctx.old) }
-        ensures only { IfErr result (λ e. e ≡ send_error.NoMemory) }
-        ensures room { FitsRow (row_named (codes "keymap") (table true known.Keyboard)) self.now (Word (keymap_type_number keymap_type) ∷ Word size ∷ Fd keymap ∷ []) ctx.old → IsErrOf result send_error.NoMemory → ⊥ }
+        ensures sends { Sends (event (codes "keymap")) self.now
+            (Word (keymap_type_number keymap_type) ∷ Word size ∷ Fd keymap ∷ []) ctx.old ctx.new result }
     {
-        let args = [
-            Arg::Uint32(u32::from(keymap_type)),
-            Arg::Uint32(size),
-            Arg::Fd(keymap),
-        ];
+        let args = [keymap_type.as_arg(), Arg::Uint32(size), Arg::Fd(keymap)];
         self.object.request(ctx, 1, &args)
     }
 
@@ -150,12 +51,10 @@ impl Keyboard {
     ///
     /// `NoMemory`: nothing is sent.
     pub fn key(&self, ctx: &mut Context, key: u32, state: KeyState) -> Result<(), SendError>
-        ensures ok { OnOk result (ctx.new ≡ after_row (row_named (codes "key") (table true known.Keyboard)) self.now (Word key ∷ Word (key_state_number state) ∷ []) ctx.old) }
-        ensures err { OnErr result (ctx.new ≡ ctx.old) }
-        ensures only { IfErr result (λ e. e ≡ send_error.NoMemory) }
-        ensures room { FitsRow (row_named (codes "key") (table true known.Keyboard)) self.now (Word key ∷ Word (key_state_number state) ∷ []) ctx.old → IsErrOf result send_error.NoMemory → ⊥ }
+        ensures sends { Sends (event (codes "key")) self.now
+            (Word key ∷ Word (key_state_number state) ∷ []) ctx.old ctx.new result }
     {
-        let args = [Arg::Uint32(key), Arg::Uint32(u32::from(state))];
+        let args = [Arg::Uint32(key), state.as_arg()];
         self.object.request(ctx, 2, &args)
     }
 
@@ -172,10 +71,8 @@ impl Keyboard {
         latched: u32,
         group: u32,
     ) -> Result<(), SendError>
-        ensures ok { OnOk result (ctx.new ≡ after_row (row_named (codes "modifiers") (table true known.Keyboard)) self.now (Word serial ∷ Word depressed ∷ Word locked ∷ Word latched ∷ Word group ∷ []) ctx.old) }
-        ensures err { OnErr result (ctx.new ≡ ctx.old) }
-        ensures only { IfErr result (λ e. e ≡ send_error.NoMemory) }
-        ensures room { FitsRow (row_named (codes "modifiers") (table true known.Keyboard)) self.now (Word serial ∷ Word depressed ∷ Word locked ∷ Word latched ∷ Word group ∷ []) ctx.old → IsErrOf result send_error.NoMemory → ⊥ }
+        ensures sends { Sends (event (codes "modifiers")) self.now
+            (Word serial ∷ Word depressed ∷ Word locked ∷ Word latched ∷ Word group ∷ []) ctx.old ctx.new result }
     {
         let args = [
             Arg::Uint32(serial),
@@ -203,15 +100,15 @@ impl Request {
         bytes: &mut ByteStream<'_>,
         objects: &mut Table,
     ) -> Result<Request, ParseError>
-        ensures read { Reads (λ m. record { values = values_of m; table = objects.new; unread = bytes.new }) bytes.new.taken result (some_row (row_at opcode (table false known.Keyboard)) (codes "keyboard") opcode bytes.old objects.old) }
+        ensures read { ReadsRow values_of false known.Keyboard opcode
+            bytes.old bytes.new objects.old objects.new result }
         ensures code { IfOk result (λ m. code_of m ≡ opcode) }
         ensures table { objects.new ≡ objects.old }
     {
         match opcode {
             0 => Ok(Request::Release),
             1 => {
-                let key = bytes.read_arg()?;
-                let state = bytes.read_arg()?;
+                let (key, state) = read_two(bytes)?;
                 Ok(Request::Key { key, state })
             }
             _ => Err(ParseError::InvalidOpcode("keyboard", opcode)),
@@ -228,12 +125,12 @@ impl Request {
     }
 
     pub(crate) fn args(&self, alloc: Global) -> Result<Vec<Arg<'_>>, NoMemory>
-        ensures { IfOk result (λ args. map shown_of_arg args.items ≡ shown_row (row_at (code_of self.now) (table false known.Keyboard)) (values_of self.now)) }
+        ensures { IfOk result (λ args. Shows false known.Keyboard (code_of self.now) (values_of self.now) args.items) }
     {
         let args = match self {
             Request::Release => Vec::new(alloc),
             Request::Key { key, state } => {
-                vec![in alloc; Arg::Uint32(*key), Arg::Uint32(u32::from(*state))]?
+                Vec::from_array(alloc, [Arg::Uint32(*key), Arg::Uint32(u32::from(*state))])?
             }
         };
         Ok(args)

@@ -1,133 +1,37 @@
 //! `ei_scroll`: the scrolling of a device.
 
-ghost use Rattle.std.specs.Prelude.{◌≡◌, IfOk, OnOk, OnErr, IfErr, true, false, codes, [], ◌∷◌, map, IsErrOf};
+ghost use Rattle.std.specs.Prelude.{◌≡◌, IfOk, false, codes, [], ◌∷◌};
 ghost use Rattle.ei_spec.specs.Value.{Word, Signed};
-ghost use Rattle.ei_spec.specs.Interface.{Known};
 ghost use Rattle.ei_spec.specs.declared.interface.KnownInterface.TheVariants as known;
-ghost use Rattle.ei_spec.specs.Table.{table};
-ghost use Rattle.ei_spec.specs.Rows.{row_at, row_named};
-ghost use Rattle.ei_wire.specs.declared.error.SendError.TheVariants as send_error;
-ghost use Rattle.ei_backend.specs.Message.{Reads, Parsed, some_row};
-ghost use Rattle.ei_backend.specs.Shown.{shown_row, shown_of_arg};
-ghost use Rattle.ei_backend.specs.Backend.{after_row, FitsRow};
-ghost use Rattle.ei_server.specs.Scroll.{values_of, code_of};
+ghost use Rattle.ei_backend.specs.Message.{ReadsRow};
+ghost use Rattle.ei_backend.specs.Shown.{Shows};
+ghost use Rattle.ei_backend.specs.Sends.{Sends};
+ghost use Rattle.ei_server.specs.Scroll.{code_of, values_of, event};
 
 use crate::context::Context;
-use ei_backend::{Described, HasBackend, Interface, Object, Table};
-use ei_wire::{Arg, ByteStream, NoMemory, ParseError, RawFloat, Sealed, SendError};
-use std::alloc::{AllocError, Global};
-use std::fmt;
-use std::marker::Model;
+use crate::proxy::Proxy;
+use ei_backend::{Table, kinds};
+use ei_wire::{Arg, ByteStream, NoMemory, ParseError, RawFloat, SendError, read_three, read_two};
+use std::alloc::Global;
 
 /// The scrolling of a device.
-#[derive(Drop, PartialEq, Eq, Hash)]
-pub struct Scroll {
-    object: Object,
-}
-
-impl Model for Scroll {
-    ghost use Rattle.std.specs.Prelude.{◌≡◌};
-    ghost use Rattle.ei_spec.specs.Interface.{ObjectView, Known};
-    ghost use Rattle.ei_spec.specs.declared.interface.KnownInterface.TheVariants as known;
-    ghost use Rattle.ei_backend.specs.Codes.{object_code};
-
-    ghost Value = { ObjectView };
-
-    ghost coded = { object_code };
-
-    ghost view = { λ p. p.object };
-
-    ghost invariant = { λ p. p.object.interface ≡ Known known.Scroll };
-
-    ghost inverse = { λ o. record { object = o } };
-}
-
-impl Sealed for Scroll {}
-
-impl Described for Scroll {
-    ghost use Rattle.std.specs.Prelude.{false, refl};
-    ghost use Rattle.ei_spec.specs.declared.interface.KnownInterface.TheVariants as known;
-
-    ghost interface = { known.Scroll };
-
-    ghost VERSION = { 1 };
-
-    ghost CLIENT_SIDE = { false };
-
-    ghost listed = { refl };
-
-    const NAME: &'static str = "ei_scroll";
-
-    const VERSION: u32 = 1;
-
-    const CLIENT_SIDE: bool = false;
-
-    fn wire_name() -> &'static str {
-        Scroll::NAME
-    }
-}
-
-impl Interface for Scroll {
-    ghost behind = { λ p. p };
-
-    fn new_unchecked(object: Object) -> Scroll {
-        Scroll { object }
-    }
-
-    fn as_object(&self) -> &Object {
-        &self.object
-    }
-}
-
-impl Clone for Scroll {
-    ghost use Rattle.std.specs.Prelude.{◌≡◌, ⊤};
-
-    ghost is_clone = { λ p copy. copy ≡ p };
-
-    ghost is_infallible = { λ _. ⊤ };
-
-    fn clone(&self) -> Result<Scroll, AllocError> {
-        Ok(Scroll {
-            object: self.object.clone()?,
-        })
-    }
-}
-
-impl fmt::Debug for Scroll {
-    ghost use Rattle.std.specs.Prelude.{Some, codes};
-    ghost use Rattle.ei_backend.specs.Object.{proxy_text};
-
-    ghost debug_output = { λ p. Some (proxy_text (codes "Scroll") p) };
-
-    fn fmt<W: fmt::Write>(&self, f: &mut fmt::Formatter<W>) -> fmt::Result {
-        let object = &self.object;
-        write!(f, "Scroll({object:?})")
-    }
-}
+pub type Scroll = Proxy<kinds::Scroll>;
 
 impl Scroll {
     /// Tells the client that the object is gone, as the event of this serial, and takes it out of the table.
     ///
     /// `NoMemory`: nothing is sent, and the object stays.
     pub fn destroyed(&self, ctx: &mut Context, serial: u32) -> Result<(), SendError>
-        ensures ok { OnOk result (ctx.new ≡ after_row (row_named (codes "destroyed") (table true known.Scroll)) self.now (Word serial ∷ []) ctx.old) }
-        ensures err { OnErr result (ctx.new ≡ ctx.old) }
-        ensures only { IfErr result (λ e. e ≡ send_error.NoMemory) }
-        ensures room { FitsRow (row_named (codes "destroyed") (table true known.Scroll)) self.now (Word serial ∷ []) ctx.old → IsErrOf result send_error.NoMemory → ⊥ }
+        ensures sends { Sends (event (codes "destroyed")) self.now (Word serial ∷ []) ctx.old ctx.new result }
     {
-        self.object.request(ctx, 0, &[Arg::Uint32(serial)])?;
-        ctx.backend_mut().remove_id(self.object.id());
-        Ok(())
+        self.send_last(ctx, 0, &[Arg::Uint32(serial)])
     }
 
     /// Tells a receiver that it scrolls by x and y, in logical pixels.
     ///
     /// `NoMemory`: nothing is sent.
     pub fn scroll(&self, ctx: &mut Context, x: RawFloat, y: RawFloat) -> Result<(), SendError>
-        ensures ok { OnOk result (ctx.new ≡ after_row (row_named (codes "scroll") (table true known.Scroll)) self.now (Word x.0 ∷ Word y.0 ∷ []) ctx.old) }
-        ensures err { OnErr result (ctx.new ≡ ctx.old) }
-        ensures only { IfErr result (λ e. e ≡ send_error.NoMemory) }
-        ensures room { FitsRow (row_named (codes "scroll") (table true known.Scroll)) self.now (Word x.0 ∷ Word y.0 ∷ []) ctx.old → IsErrOf result send_error.NoMemory → ⊥ }
+        ensures sends { Sends (event (codes "scroll")) self.now (Word x.0 ∷ Word y.0 ∷ []) ctx.old ctx.new result }
     {
         let args = [Arg::Float(x.0), Arg::Float(y.0)];
         self.object.request(ctx, 1, &args)
@@ -137,10 +41,8 @@ impl Scroll {
     ///
     /// `NoMemory`: nothing is sent.
     pub fn scroll_discrete(&self, ctx: &mut Context, x: i32, y: i32) -> Result<(), SendError>
-        ensures ok { OnOk result (ctx.new ≡ after_row (row_named (codes "scroll_discrete") (table true known.Scroll)) self.now (Signed x ∷ Signed y ∷ []) ctx.old) }
-        ensures err { OnErr result (ctx.new ≡ ctx.old) }
-        ensures only { IfErr result (λ e. e ≡ send_error.NoMemory) }
-        ensures room { FitsRow (row_named (codes "scroll_discrete") (table true known.Scroll)) self.now (Signed x ∷ Signed y ∷ []) ctx.old → IsErrOf result send_error.NoMemory → ⊥ }
+        ensures sends { Sends (event (codes "scroll_discrete")) self.now
+            (Signed x ∷ Signed y ∷ []) ctx.old ctx.new result }
     {
         let args = [Arg::Int32(x), Arg::Int32(y)];
         self.object.request(ctx, 2, &args)
@@ -157,10 +59,8 @@ impl Scroll {
         y: u32,
         is_cancel: u32,
     ) -> Result<(), SendError>
-        ensures ok { OnOk result (ctx.new ≡ after_row (row_named (codes "scroll_stop") (table true known.Scroll)) self.now (Word x ∷ Word y ∷ Word is_cancel ∷ []) ctx.old) }
-        ensures err { OnErr result (ctx.new ≡ ctx.old) }
-        ensures only { IfErr result (λ e. e ≡ send_error.NoMemory) }
-        ensures room { FitsRow (row_named (codes "scroll_stop") (table true known.Scroll)) self.now (Word x ∷ Word y ∷ Word is_cancel ∷ []) ctx.old → IsErrOf result send_error.NoMemory → ⊥ }
+        ensures sends { Sends (event (codes "scroll_stop")) self.now
+            (Word x ∷ Word y ∷ Word is_cancel ∷ []) ctx.old ctx.new result }
     {
         let args = [Arg::Uint32(x), Arg::Uint32(y), Arg::Uint32(is_cancel)];
         self.object.request(ctx, 3, &args)
@@ -186,26 +86,22 @@ impl Request {
         bytes: &mut ByteStream<'_>,
         objects: &mut Table,
     ) -> Result<Request, ParseError>
-        ensures read { Reads (λ m. record { values = values_of m; table = objects.new; unread = bytes.new }) bytes.new.taken result (some_row (row_at opcode (table false known.Scroll)) (codes "scroll") opcode bytes.old objects.old) }
+        ensures read { ReadsRow values_of false known.Scroll opcode bytes.old bytes.new objects.old objects.new result }
         ensures code { IfOk result (λ m. code_of m ≡ opcode) }
         ensures table { objects.new ≡ objects.old }
     {
         match opcode {
             0 => Ok(Request::Release),
             1 => {
-                let x = bytes.read_arg()?;
-                let y = bytes.read_arg()?;
+                let (x, y) = read_two(bytes)?;
                 Ok(Request::Scroll { x, y })
             }
             2 => {
-                let x = bytes.read_arg()?;
-                let y = bytes.read_arg()?;
+                let (x, y) = read_two(bytes)?;
                 Ok(Request::ScrollDiscrete { x, y })
             }
             3 => {
-                let x = bytes.read_arg()?;
-                let y = bytes.read_arg()?;
-                let is_cancel = bytes.read_arg()?;
+                let (x, y, is_cancel) = read_three(bytes)?;
                 Ok(Request::ScrollStop { x, y, is_cancel })
             }
             _ => Err(ParseError::InvalidOpcode("scroll", opcode)),
@@ -224,14 +120,21 @@ impl Request {
     }
 
     pub(crate) fn args(&self, alloc: Global) -> Result<Vec<Arg<'_>>, NoMemory>
-        ensures { IfOk result (λ args. map shown_of_arg args.items ≡ shown_row (row_at (code_of self.now) (table false known.Scroll)) (values_of self.now)) }
+        ensures { IfOk result (λ args. Shows false known.Scroll (code_of self.now) (values_of self.now) args.items) }
     {
         let args = match self {
             Request::Release => Vec::new(alloc),
-            Request::Scroll { x, y } => { vec![in alloc; Arg::Float(x.0), Arg::Float(y.0)]? }
-            Request::ScrollDiscrete { x, y } => { vec![in alloc; Arg::Int32(*x), Arg::Int32(*y)]? }
+            Request::Scroll { x, y } => {
+                Vec::from_array(alloc, [Arg::Float(x.0), Arg::Float(y.0)])?
+            }
+            Request::ScrollDiscrete { x, y } => {
+                Vec::from_array(alloc, [Arg::Int32(*x), Arg::Int32(*y)])?
+            }
             Request::ScrollStop { x, y, is_cancel } => {
-                vec![in alloc; Arg::Uint32(*x), Arg::Uint32(*y), Arg::Uint32(*is_cancel)]?
+                Vec::from_array(
+                    alloc,
+                    [Arg::Uint32(*x), Arg::Uint32(*y), Arg::Uint32(*is_cancel)],
+                )?
             }
         };
         Ok(args)

@@ -1,141 +1,40 @@
 //! `ei_seat`: a seat, which offers capabilities.
 
-ghost use Rattle.std.specs.Prelude.{◌≡◌, ◌≤◌, ◌<◌, ◌↔◌, IfOk, OnOk, OnErr, IsErrOf, IfErr, true, false, codes, [], ◌∷◌, map};
+ghost use Rattle.std.specs.Prelude.{◌≡◌, IfOk, false, codes, [], ◌∷◌};
 ghost use Rattle.ei_spec.specs.Value.{Word, Long, Letters};
-ghost use Rattle.ei_spec.specs.Interface.{Known};
 ghost use Rattle.ei_spec.specs.declared.interface.KnownInterface.TheVariants as known;
-ghost use Rattle.ei_spec.specs.Table.{table};
-ghost use Rattle.ei_spec.specs.Rows.{row_at, row_named};
-ghost use Rattle.ei_spec.specs.Message.{message, size};
-ghost use Rattle.ei_wire.specs.declared.error.SendError.TheVariants as send_error;
-ghost use Rattle.ei_backend.specs.Message.{Reads, Parsed, some_row};
-ghost use Rattle.ei_backend.specs.Shown.{shown_row, shown_of_arg};
-ghost use Rattle.ei_backend.specs.Table.{own, own_end};
-ghost use Rattle.ei_backend.specs.Backend.{after_row, after_new, FitsRow};
-ghost use Rattle.ei_server.specs.Seat.{values_of, code_of};
+ghost use Rattle.ei_backend.specs.Message.{ReadsRow};
+ghost use Rattle.ei_backend.specs.Shown.{Shows};
+ghost use Rattle.ei_backend.specs.Sends.{Sends, SendsText, SendsNew};
+ghost use Rattle.ei_server.specs.Seat.{code_of, values_of, event};
 
 use crate::context::Context;
 use crate::device::Device;
-use ei_backend::{Described, HasBackend, Interface, InterfaceName, Object, Table};
-use ei_spec::KnownInterface;
-use ei_wire::{Arg, ByteStream, NoMemory, ParseError, Sealed, SendError};
-use std::alloc::{AllocError, Global};
-use std::fmt;
-use std::marker::Model;
+use crate::proxy::Proxy;
+use ei_backend::{HasBackend, Table, kinds};
+use ei_wire::{Arg, ByteStream, NoMemory, ParseError, SendError, read_one};
+use std::alloc::Global;
 
 /// A seat.
-#[derive(Drop, PartialEq, Eq, Hash)]
-pub struct Seat {
-    object: Object,
-}
-
-// Contracts see the object; its interface is the seat's.
-impl Model for Seat {
-    ghost use Rattle.std.specs.Prelude.{◌≡◌};
-    ghost use Rattle.ei_spec.specs.Interface.{ObjectView, Known};
-    ghost use Rattle.ei_spec.specs.declared.interface.KnownInterface.TheVariants as known;
-    ghost use Rattle.ei_backend.specs.Codes.{object_code};
-
-    ghost Value = { ObjectView };
-
-    ghost coded = { object_code };
-
-    ghost view = { λ p. p.object };
-
-    ghost invariant = { λ p. p.object.interface ≡ Known known.Seat };
-
-    ghost inverse = { λ o. record { object = o } };
-}
-
-impl Sealed for Seat {}
-
-impl Described for Seat {
-    ghost use Rattle.std.specs.Prelude.{false, refl};
-    ghost use Rattle.ei_spec.specs.declared.interface.KnownInterface.TheVariants as known;
-
-    ghost interface = { known.Seat };
-
-    ghost VERSION = { 2 };
-
-    ghost CLIENT_SIDE = { false };
-
-    ghost listed = { refl };
-
-    const NAME: &'static str = "ei_seat";
-
-    const VERSION: u32 = 2;
-
-    const CLIENT_SIDE: bool = false;
-
-    fn wire_name() -> &'static str {
-        Seat::NAME
-    }
-}
-
-impl Interface for Seat {
-    ghost behind = { λ p. p };
-
-    fn new_unchecked(object: Object) -> Seat {
-        Seat { object }
-    }
-
-    fn as_object(&self) -> &Object {
-        &self.object
-    }
-}
-
-// A copy can't fail, since the name is a known one.
-impl Clone for Seat {
-    ghost use Rattle.std.specs.Prelude.{◌≡◌, ⊤};
-
-    ghost is_clone = { λ p copy. copy ≡ p };
-
-    ghost is_infallible = { λ _. ⊤ };
-
-    fn clone(&self) -> Result<Seat, AllocError> {
-        Ok(Seat {
-            object: self.object.clone()?,
-        })
-    }
-}
-
-impl fmt::Debug for Seat {
-    ghost use Rattle.std.specs.Prelude.{Some, codes};
-    ghost use Rattle.ei_backend.specs.Object.{proxy_text};
-
-    ghost debug_output = { λ p. Some (proxy_text (codes "Seat") p) };
-
-    fn fmt<W: fmt::Write>(&self, f: &mut fmt::Formatter<W>) -> fmt::Result {
-        let object = &self.object;
-        write!(f, "Seat({object:?})")
-    }
-}
+pub type Seat = Proxy<kinds::Seat>;
 
 impl Seat {
     /// Tells the client that the seat is gone, as the event of this serial, and takes it out of the table.
     ///
     /// `NoMemory`: nothing is sent, and the seat stays.
     pub fn destroyed(&self, ctx: &mut Context, serial: u32) -> Result<(), SendError>
-        ensures ok { OnOk result (ctx.new ≡ after_row (row_named (codes "destroyed") (table true known.Seat)) self.now (Word serial ∷ []) ctx.old) }
-        ensures err { OnErr result (ctx.new ≡ ctx.old) }
-        ensures only { IfErr result (λ e. e ≡ send_error.NoMemory) }
-        ensures room { FitsRow (row_named (codes "destroyed") (table true known.Seat)) self.now (Word serial ∷ []) ctx.old → IsErrOf result send_error.NoMemory → ⊥ }
+        ensures sends { Sends (event (codes "destroyed")) self.now (Word serial ∷ []) ctx.old ctx.new result }
     {
-        self.object.request(ctx, 0, &[Arg::Uint32(serial)])?;
-        ctx.backend_mut().remove_id(self.object.id());
-        Ok(())
+        self.send_last(ctx, 0, &[Arg::Uint32(serial)])
     }
 
     /// Names the seat.
     ///
     /// `MessageTooLong` exactly where the message would have more than 1048576 bytes, `NoMemory`: nothing is
     /// sent.
+    #[tactic(auto, using(ei_spec::proofs::Utf8::is_text))]
     pub fn name(&self, ctx: &mut Context, name: &str) -> Result<(), SendError>
-        ensures ok { OnOk result (ctx.new ≡ after_row (row_named (codes "name") (table true known.Seat)) self.now (Letters name.now ∷ []) ctx.old) }
-        ensures err { OnErr result (ctx.new ≡ ctx.old) }
-        ensures long { IsErrOf result send_error.MessageTooLong ↔ (1048576 < size (message self.now.id 1 (Letters name.now ∷ []))) }
-        ensures not_exhausted { IsErrOf result send_error.IdsExhausted → ⊥ }
-        ensures room { FitsRow (row_named (codes "name") (table true known.Seat)) self.now (Letters name.now ∷ []) ctx.old → IsErrOf result send_error.NoMemory → ⊥ }
+        ensures sends { SendsText (event (codes "name")) self.now (Letters name.now ∷ []) ctx.old ctx.new result }
     {
         self.object.request(ctx, 1, &[Arg::String(Some(name))])
     }
@@ -144,12 +43,10 @@ impl Seat {
     ///
     /// `MessageTooLong` exactly where the message would have more than 1048576 bytes, `NoMemory`: nothing is
     /// sent.
+    #[tactic(auto, using(ei_spec::proofs::Utf8::is_text))]
     pub fn capability(&self, ctx: &mut Context, mask: u64, interface: &str) -> Result<(), SendError>
-        ensures ok { OnOk result (ctx.new ≡ after_row (row_named (codes "capability") (table true known.Seat)) self.now (Long mask ∷ Letters interface.now ∷ []) ctx.old) }
-        ensures err { OnErr result (ctx.new ≡ ctx.old) }
-        ensures long { IsErrOf result send_error.MessageTooLong ↔ (1048576 < size (message self.now.id 2 (Long mask ∷ Letters interface.now ∷ []))) }
-        ensures not_exhausted { IsErrOf result send_error.IdsExhausted → ⊥ }
-        ensures room { FitsRow (row_named (codes "capability") (table true known.Seat)) self.now (Long mask ∷ Letters interface.now ∷ []) ctx.old → IsErrOf result send_error.NoMemory → ⊥ }
+        ensures sends { SendsText (event (codes "capability")) self.now
+            (Long mask ∷ Letters interface.now ∷ []) ctx.old ctx.new result }
     {
         let args = [Arg::Uint64(mask), Arg::String(Some(interface))];
         self.object.request(ctx, 2, &args)
@@ -159,10 +56,7 @@ impl Seat {
     ///
     /// `NoMemory`: nothing is sent.
     pub fn done(&self, ctx: &mut Context) -> Result<(), SendError>
-        ensures ok { OnOk result (ctx.new ≡ after_row (row_named (codes "done") (table true known.Seat)) self.now [] ctx.old) }
-        ensures err { OnErr result (ctx.new ≡ ctx.old) }
-        ensures only { IfErr result (λ e. e ≡ send_error.NoMemory) }
-        ensures room { FitsRow (row_named (codes "done") (table true known.Seat)) self.now [] ctx.old → IsErrOf result send_error.NoMemory → ⊥ }
+        ensures sends { Sends (event (codes "done")) self.now [] ctx.old ctx.new result }
     {
         self.object.request(ctx, 3, &[])
     }
@@ -171,19 +65,11 @@ impl Seat {
     ///
     /// `IdsExhausted` exactly where no own id is left, `NoMemory`: nothing is sent, and there is no device.
     pub fn device(&self, ctx: &mut Context, version: u32) -> Result<Device, SendError>
-        ensures ok { IfOk result (λ p. ctx.new ≡ after_new (row_named (codes "device") (table true known.Seat)) self.now (Long ctx.old.table.next_own ∷ Word version ∷ []) (Known known.Device) version ctx.old) }
-        ensures proxy { IfOk result (λ p. p ≡ own ctx.old.table (Known known.Device) version) }
-        ensures err { OnErr result (ctx.new ≡ ctx.old) }
-        ensures exhausted { IsErrOf result send_error.IdsExhausted ↔ (own_end ctx.old.table ≤ ctx.old.table.next_own) }
-        ensures not_long { IsErrOf result send_error.MessageTooLong → ⊥ }
-        ensures room { FitsRow (row_named (codes "device") (table true known.Seat)) self.now (Long ctx.old.table.next_own ∷ Word version ∷ []) ctx.old → ctx.old.table.next_own < ctx.old.table.room → IsErrOf result send_error.NoMemory → ⊥ }
+        ensures sends { SendsNew (λ p. p) (event (codes "device")) self.now
+            (Long ctx.old.table.next_own ∷ Word version ∷ []) ctx.old ctx.new result }
     {
-        let id = self.object.id();
         let args = [Arg::NewId(ctx.backend().next_id()), Arg::Uint32(version)];
-        let interface = InterfaceName::Known(KnownInterface::Device);
-        let backend = ctx.backend_mut();
-        let object = backend.request_new(id, 4, &args, interface, version)?;
-        Ok(Device::new_unchecked(object))
+        self.announce(ctx, 4, &args, version)
     }
 }
 
@@ -205,18 +91,18 @@ impl Request {
         bytes: &mut ByteStream<'_>,
         objects: &mut Table,
     ) -> Result<Request, ParseError>
-        ensures read { Reads (λ m. record { values = values_of m; table = objects.new; unread = bytes.new }) bytes.new.taken result (some_row (row_at opcode (table false known.Seat)) (codes "seat") opcode bytes.old objects.old) }
+        ensures read { ReadsRow values_of false known.Seat opcode bytes.old bytes.new objects.old objects.new result }
         ensures code { IfOk result (λ m. code_of m ≡ opcode) }
         ensures table { objects.new ≡ objects.old }
     {
         match opcode {
             0 => Ok(Request::Release),
             1 => {
-                let capabilities = bytes.read_arg()?;
+                let capabilities = read_one(bytes)?;
                 Ok(Request::Bind { capabilities })
             }
             2 => {
-                let capabilities = bytes.read_arg()?;
+                let capabilities = read_one(bytes)?;
                 Ok(Request::RequestDevice { capabilities })
             }
             _ => Err(ParseError::InvalidOpcode("seat", opcode)),
@@ -235,12 +121,12 @@ impl Request {
 
     /// The arguments in order.
     pub(crate) fn args(&self, alloc: Global) -> Result<Vec<Arg<'_>>, NoMemory>
-        ensures { IfOk result (λ args. map shown_of_arg args.items ≡ shown_row (row_at (code_of self.now) (table false known.Seat)) (values_of self.now)) }
+        ensures { IfOk result (λ args. Shows false known.Seat (code_of self.now) (values_of self.now) args.items) }
     {
         let args = match self {
             Request::Release => Vec::new(alloc),
             Request::Bind { capabilities } | Request::RequestDevice { capabilities } => {
-                vec![in alloc; Arg::Uint64(*capabilities)]?
+                Vec::from_array(alloc, [Arg::Uint64(*capabilities)])?
             }
         };
         Ok(args)

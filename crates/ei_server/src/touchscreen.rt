@@ -1,123 +1,30 @@
 //! `ei_touchscreen`: the touches on a device.
 
-ghost use Rattle.std.specs.Prelude.{◌≡◌, IfOk, OnOk, OnErr, IfErr, true, false, codes, [], ◌∷◌, map, IsErrOf};
+ghost use Rattle.std.specs.Prelude.{◌≡◌, IfOk, false, codes, [], ◌∷◌};
 ghost use Rattle.ei_spec.specs.Value.{Word};
-ghost use Rattle.ei_spec.specs.Interface.{Known};
 ghost use Rattle.ei_spec.specs.declared.interface.KnownInterface.TheVariants as known;
-ghost use Rattle.ei_spec.specs.Table.{table};
-ghost use Rattle.ei_spec.specs.Rows.{row_at, row_named};
-ghost use Rattle.ei_wire.specs.declared.error.SendError.TheVariants as send_error;
-ghost use Rattle.ei_backend.specs.Message.{Reads, Parsed, some_row};
-ghost use Rattle.ei_backend.specs.Shown.{shown_row, shown_of_arg};
-ghost use Rattle.ei_backend.specs.Backend.{after_row, FitsRow};
-ghost use Rattle.ei_server.specs.Touchscreen.{values_of, code_of};
+ghost use Rattle.ei_backend.specs.Message.{ReadsRow};
+ghost use Rattle.ei_backend.specs.Shown.{Shows};
+ghost use Rattle.ei_backend.specs.Sends.{Sends};
+ghost use Rattle.ei_server.specs.Touchscreen.{code_of, values_of, event};
 
 use crate::context::Context;
-use ei_backend::{Described, HasBackend, Interface, Object, Table};
-use ei_wire::{Arg, ByteStream, NoMemory, ParseError, RawFloat, Sealed, SendError};
-use std::alloc::{AllocError, Global};
-use std::fmt;
-use std::marker::Model;
+use crate::proxy::Proxy;
+use ei_backend::{Table, kinds};
+use ei_wire::{Arg, ByteStream, NoMemory, ParseError, RawFloat, SendError, read_one, read_three};
+use std::alloc::Global;
 
 /// The touches on a device.
-#[derive(Drop, PartialEq, Eq, Hash)]
-pub struct Touchscreen {
-    object: Object,
-}
-
-impl Model for Touchscreen {
-    ghost use Rattle.std.specs.Prelude.{◌≡◌};
-    ghost use Rattle.ei_spec.specs.Interface.{ObjectView, Known};
-    ghost use Rattle.ei_spec.specs.declared.interface.KnownInterface.TheVariants as known;
-    ghost use Rattle.ei_backend.specs.Codes.{object_code};
-
-    ghost Value = { ObjectView };
-
-    ghost coded = { object_code };
-
-    ghost view = { λ p. p.object };
-
-    ghost invariant = { λ p. p.object.interface ≡ Known known.Touchscreen };
-
-    ghost inverse = { λ o. record { object = o } };
-}
-
-impl Sealed for Touchscreen {}
-
-impl Described for Touchscreen {
-    ghost use Rattle.std.specs.Prelude.{false, refl};
-    ghost use Rattle.ei_spec.specs.declared.interface.KnownInterface.TheVariants as known;
-
-    ghost interface = { known.Touchscreen };
-
-    ghost VERSION = { 2 };
-
-    ghost CLIENT_SIDE = { false };
-
-    ghost listed = { refl };
-
-    const NAME: &'static str = "ei_touchscreen";
-
-    const VERSION: u32 = 2;
-
-    const CLIENT_SIDE: bool = false;
-
-    fn wire_name() -> &'static str {
-        Touchscreen::NAME
-    }
-}
-
-impl Interface for Touchscreen {
-    ghost behind = { λ p. p };
-
-    fn new_unchecked(object: Object) -> Touchscreen {
-        Touchscreen { object }
-    }
-
-    fn as_object(&self) -> &Object {
-        &self.object
-    }
-}
-
-impl Clone for Touchscreen {
-    ghost use Rattle.std.specs.Prelude.{◌≡◌, ⊤};
-
-    ghost is_clone = { λ p copy. copy ≡ p };
-
-    ghost is_infallible = { λ _. ⊤ };
-
-    fn clone(&self) -> Result<Touchscreen, AllocError> {
-        Ok(Touchscreen {
-            object: self.object.clone()?,
-        })
-    }
-}
-
-impl fmt::Debug for Touchscreen {
-    ghost use Rattle.std.specs.Prelude.{Some, codes};
-    ghost use Rattle.ei_backend.specs.Object.{proxy_text};
-
-    ghost debug_output = { λ p. Some (proxy_text (codes "Touchscreen") p) };
-
-    fn fmt<W: fmt::Write>(&self, f: &mut fmt::Formatter<W>) -> fmt::Result {
-        let object = &self.object;
-        write!(f, "Touchscreen({object:?})")
-    }
-}
+pub type Touchscreen = Proxy<kinds::Touchscreen>;
 
 impl Touchscreen {
     /// Tells the client that the object is gone, as the event of this serial, and takes it out of the table.
     ///
     /// `NoMemory`: nothing is sent, and the object stays.
     pub fn destroyed(&self, ctx: &mut Context, serial: u32) -> Result<(), SendError>
-        ensures ok { OnOk result (ctx.new ≡ after_row (row_named (codes "destroyed") (table true known.Touchscreen)) self.now (Word serial ∷ []) ctx.old) }
-        ensures err { OnErr result (ctx.new ≡ ctx.old) }
-        ensures only { IfErr result (λ e. e ≡ send_error.NoMemory) }
-        ensures room { FitsRow (row_named (codes "destroyed") (table true known.Touchscreen)) self.now (Word serial ∷ []) ctx.old → IsErrOf result send_error.NoMemory → ⊥ }
+        ensures sends { Sends (event (codes "destroyed")) self.now (Word serial ∷ []) ctx.old ctx.new result }
     {
-        self.object.request(ctx, 0, &[Arg::Uint32(serial)])?;
-        ctx.backend_mut().remove_id(self.object.id());
-        Ok(())
+        self.send_last(ctx, 0, &[Arg::Uint32(serial)])
     }
 
     /// Tells a receiver that a touch begins at the point at x and y, in logical pixels. The id is its name until
@@ -131,10 +38,8 @@ impl Touchscreen {
         x: RawFloat,
         y: RawFloat,
     ) -> Result<(), SendError>
-        ensures ok { OnOk result (ctx.new ≡ after_row (row_named (codes "down") (table true known.Touchscreen)) self.now (Word touchid ∷ Word x.0 ∷ Word y.0 ∷ []) ctx.old) }
-        ensures err { OnErr result (ctx.new ≡ ctx.old) }
-        ensures only { IfErr result (λ e. e ≡ send_error.NoMemory) }
-        ensures room { FitsRow (row_named (codes "down") (table true known.Touchscreen)) self.now (Word touchid ∷ Word x.0 ∷ Word y.0 ∷ []) ctx.old → IsErrOf result send_error.NoMemory → ⊥ }
+        ensures sends { Sends (event (codes "down")) self.now
+            (Word touchid ∷ Word x.0 ∷ Word y.0 ∷ []) ctx.old ctx.new result }
     {
         let args = [Arg::Uint32(touchid), Arg::Float(x.0), Arg::Float(y.0)];
         self.object.request(ctx, 1, &args)
@@ -150,10 +55,8 @@ impl Touchscreen {
         x: RawFloat,
         y: RawFloat,
     ) -> Result<(), SendError>
-        ensures ok { OnOk result (ctx.new ≡ after_row (row_named (codes "motion") (table true known.Touchscreen)) self.now (Word touchid ∷ Word x.0 ∷ Word y.0 ∷ []) ctx.old) }
-        ensures err { OnErr result (ctx.new ≡ ctx.old) }
-        ensures only { IfErr result (λ e. e ≡ send_error.NoMemory) }
-        ensures room { FitsRow (row_named (codes "motion") (table true known.Touchscreen)) self.now (Word touchid ∷ Word x.0 ∷ Word y.0 ∷ []) ctx.old → IsErrOf result send_error.NoMemory → ⊥ }
+        ensures sends { Sends (event (codes "motion")) self.now
+            (Word touchid ∷ Word x.0 ∷ Word y.0 ∷ []) ctx.old ctx.new result }
     {
         let args = [Arg::Uint32(touchid), Arg::Float(x.0), Arg::Float(y.0)];
         self.object.request(ctx, 2, &args)
@@ -163,10 +66,7 @@ impl Touchscreen {
     ///
     /// `NoMemory`: nothing is sent.
     pub fn up(&self, ctx: &mut Context, touchid: u32) -> Result<(), SendError>
-        ensures ok { OnOk result (ctx.new ≡ after_row (row_named (codes "up") (table true known.Touchscreen)) self.now (Word touchid ∷ []) ctx.old) }
-        ensures err { OnErr result (ctx.new ≡ ctx.old) }
-        ensures only { IfErr result (λ e. e ≡ send_error.NoMemory) }
-        ensures room { FitsRow (row_named (codes "up") (table true known.Touchscreen)) self.now (Word touchid ∷ []) ctx.old → IsErrOf result send_error.NoMemory → ⊥ }
+        ensures sends { Sends (event (codes "up")) self.now (Word touchid ∷ []) ctx.old ctx.new result }
     {
         self.object.request(ctx, 3, &[Arg::Uint32(touchid)])
     }
@@ -175,10 +75,7 @@ impl Touchscreen {
     ///
     /// `NoMemory`: nothing is sent.
     pub fn cancel(&self, ctx: &mut Context, touchid: u32) -> Result<(), SendError>
-        ensures ok { OnOk result (ctx.new ≡ after_row (row_named (codes "cancel") (table true known.Touchscreen)) self.now (Word touchid ∷ []) ctx.old) }
-        ensures err { OnErr result (ctx.new ≡ ctx.old) }
-        ensures only { IfErr result (λ e. e ≡ send_error.NoMemory) }
-        ensures room { FitsRow (row_named (codes "cancel") (table true known.Touchscreen)) self.now (Word touchid ∷ []) ctx.old → IsErrOf result send_error.NoMemory → ⊥ }
+        ensures sends { Sends (event (codes "cancel")) self.now (Word touchid ∷ []) ctx.old ctx.new result }
     {
         self.object.request(ctx, 4, &[Arg::Uint32(touchid)])
     }
@@ -217,30 +114,27 @@ impl Request {
         bytes: &mut ByteStream<'_>,
         objects: &mut Table,
     ) -> Result<Request, ParseError>
-        ensures read { Reads (λ m. record { values = values_of m; table = objects.new; unread = bytes.new }) bytes.new.taken result (some_row (row_at opcode (table false known.Touchscreen)) (codes "touchscreen") opcode bytes.old objects.old) }
+        ensures read { ReadsRow values_of false known.Touchscreen opcode
+            bytes.old bytes.new objects.old objects.new result }
         ensures code { IfOk result (λ m. code_of m ≡ opcode) }
         ensures table { objects.new ≡ objects.old }
     {
         match opcode {
             0 => Ok(Request::Release),
             1 => {
-                let touchid = bytes.read_arg()?;
-                let x = bytes.read_arg()?;
-                let y = bytes.read_arg()?;
+                let (touchid, x, y) = read_three(bytes)?;
                 Ok(Request::Down { touchid, x, y })
             }
             2 => {
-                let touchid = bytes.read_arg()?;
-                let x = bytes.read_arg()?;
-                let y = bytes.read_arg()?;
+                let (touchid, x, y) = read_three(bytes)?;
                 Ok(Request::Motion { touchid, x, y })
             }
             3 => {
-                let touchid = bytes.read_arg()?;
+                let touchid = read_one(bytes)?;
                 Ok(Request::Up { touchid })
             }
             4 => {
-                let touchid = bytes.read_arg()?;
+                let touchid = read_one(bytes)?;
                 Ok(Request::Cancel { touchid })
             }
             _ => Err(ParseError::InvalidOpcode("touchscreen", opcode)),
@@ -260,18 +154,25 @@ impl Request {
     }
 
     pub(crate) fn args(&self, alloc: Global) -> Result<Vec<Arg<'_>>, NoMemory>
-        ensures { IfOk result (λ args. map shown_of_arg args.items ≡ shown_row (row_at (code_of self.now) (table false known.Touchscreen)) (values_of self.now)) }
+        ensures { IfOk result
+            (λ args. Shows false known.Touchscreen (code_of self.now) (values_of self.now) args.items) }
     {
         let args = match self {
             Request::Release => Vec::new(alloc),
             Request::Down { touchid, x, y } => {
-                vec![in alloc; Arg::Uint32(*touchid), Arg::Float(x.0), Arg::Float(y.0)]?
+                Vec::from_array(
+                    alloc,
+                    [Arg::Uint32(*touchid), Arg::Float(x.0), Arg::Float(y.0)],
+                )?
             }
             Request::Motion { touchid, x, y } => {
-                vec![in alloc; Arg::Uint32(*touchid), Arg::Float(x.0), Arg::Float(y.0)]?
+                Vec::from_array(
+                    alloc,
+                    [Arg::Uint32(*touchid), Arg::Float(x.0), Arg::Float(y.0)],
+                )?
             }
-            Request::Up { touchid } => { vec![in alloc; Arg::Uint32(*touchid)]? }
-            Request::Cancel { touchid } => { vec![in alloc; Arg::Uint32(*touchid)]? }
+            Request::Up { touchid } => { Vec::from_array(alloc, [Arg::Uint32(*touchid)])? }
+            Request::Cancel { touchid } => { Vec::from_array(alloc, [Arg::Uint32(*touchid)])? }
         };
         Ok(args)
     }

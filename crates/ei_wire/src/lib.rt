@@ -9,6 +9,7 @@ mod arg_text;
 mod error;
 mod header;
 mod names;
+mod rows;
 mod sealed;
 mod stream;
 #[cfg(test)]
@@ -20,6 +21,7 @@ pub use ei_spec::{Handle, KnownInterface};
 pub use error::{FlushError, NoMemory, ParseError, ReadError, SendError};
 pub use header::Header;
 pub use names::interface_names;
+pub use rows::{read_five, read_one, read_three, read_two};
 pub use sealed::Sealed;
 pub use stream::ByteStream;
 pub use text::EiText;

@@ -1,0 +1,171 @@
+//! The proxies of a server: an object and its kind.
+
+ghost use Rattle.std.specs.Prelude.{◌≡◌, ◌↔◌, ◌<◌, ◌≤◌, ⊤, Some, false, map, IfOk, OnOk, OnErr, IsErrOf};
+ghost use Rattle.ei_spec.specs.Interface.{Known};
+ghost use Rattle.ei_spec.specs.Message.{message, size};
+ghost use Rattle.ei_wire.specs.Gives.{Gives, value_of_arg};
+ghost use Rattle.ei_wire.specs.declared.error.SendError.TheVariants as send_error;
+ghost use Rattle.ei_backend.specs.Object.{proxy_text, shown_of};
+ghost use Rattle.ei_backend.specs.Table.{accept, own, own_end};
+ghost use Rattle.ei_backend.specs.Outgoing.{HasRoomFor};
+ghost use Rattle.ei_backend.specs.Backend.{removed, sent, sent_new, unsent_of};
+
+use crate::context::Context;
+use ei_backend::{
+    Described, HasBackend, Interface, InterfaceName, Kind, Object, Table, shown_name,
+};
+use ei_spec::KnownInterface;
+use ei_wire::{Arg, ParseError, Sealed, SendError};
+use std::alloc::AllocError;
+use std::fmt;
+use std::marker::{Model, PhantomData};
+
+/// An object of one interface, by its kind: `Seat` is `Proxy<kinds::Seat>`.
+#[derive(Drop)]
+#[derive_where(PartialEq, Eq, Hash)]
+pub struct Proxy<K: Kind> {
+    pub(crate) object: Object,
+    #[derive_where(skip)]
+    kind: PhantomData<K>,
+}
+
+// Contracts see the object; its interface is the kind's.
+impl<K: Kind> Model for Proxy<K> {
+    ghost use Rattle.std.specs.Prelude.{◌≡◌};
+    ghost use Rattle.ei_spec.specs.Interface.{ObjectView, Known};
+    ghost use Rattle.ei_backend.specs.Codes.{object_code};
+
+    ghost Value = { ObjectView };
+
+    ghost coded = { object_code };
+
+    ghost view = { λ p. p.object };
+
+    ghost invariant = { λ p. p.object.interface ≡ Known K.KNOWN };
+
+    ghost inverse = { λ o. record { object = o; kind = record {} } };
+}
+
+impl<K: Kind> Sealed for Proxy<K> {}
+
+impl<K: Kind> Described for Proxy<K> {
+    ghost KNOWN = { K.KNOWN };
+
+    ghost VERSION = { K.VERSION };
+
+    ghost CLIENT_SIDE = { false };
+
+    ghost listed = { K.listed };
+
+    const KNOWN: KnownInterface = K::KNOWN;
+
+    const NAME: &'static str = K::NAME;
+
+    const VERSION: u32 = K::VERSION;
+
+    const CLIENT_SIDE: bool = false;
+
+    fn wire_name() -> &'static str {
+        K::wire_name()
+    }
+}
+
+impl<K: Kind> Interface for Proxy<K> {
+    ghost behind = { λ p. p };
+
+    fn new_unchecked(object: Object) -> Proxy<K> {
+        Proxy {
+            object,
+            kind: PhantomData,
+        }
+    }
+
+    fn as_object(&self) -> &Object {
+        &self.object
+    }
+}
+
+// A copy can't fail, since the name is a known one.
+impl<K: Kind> Clone for Proxy<K> {
+    ghost is_clone = { λ p copy. copy ≡ p };
+
+    ghost is_infallible = { λ _. ⊤ };
+
+    fn clone(&self) -> Result<Proxy<K>, AllocError> {
+        Ok(Proxy {
+            object: self.object.clone()?,
+            kind: PhantomData,
+        })
+    }
+}
+
+impl<K: Kind> fmt::Debug for Proxy<K> {
+    ghost debug_output = { λ p. Some (proxy_text (shown_of K.KNOWN) p) };
+
+    fn fmt<W: fmt::Write>(&self, f: &mut fmt::Formatter<W>) -> fmt::Result {
+        let name = shown_name(K::KNOWN);
+        let object = &self.object;
+        write!(f, "{name}({object:?})")
+    }
+}
+
+impl<K: Kind> Proxy<K> {
+    /// Puts an object of this kind into the table, which the peer announced.
+    pub(crate) fn announced(
+        objects: &mut Table,
+        id: u64,
+        version: u32,
+    ) -> Result<Proxy<K>, ParseError>
+        ensures read { Gives (λ p. (p, objects.new)) result (accept objects.old id (Known K.KNOWN) version) }
+        ensures err { OnErr result (objects.new ≡ objects.old) }
+    {
+        let interface = InterfaceName::Known(K::KNOWN);
+        let object = objects.new_peer_object(id, interface, version)?;
+        Ok(Proxy::new_unchecked(object))
+    }
+
+    /// Sends the last message of the object, and takes it out of the table.
+    pub(crate) fn send_last(
+        &self,
+        ctx: &mut Context,
+        opcode: u32,
+        args: &[Arg<'_>],
+    ) -> Result<(), SendError>
+        ensures ok { OnOk result
+            (ctx.new ≡ removed (sent ctx.old self.now.id opcode (map value_of_arg args.now)) self.now.id) }
+        ensures long { IsErrOf result send_error.MessageTooLong
+            ↔ (1048576 < size (message self.now.id opcode (map value_of_arg args.now))) }
+        ensures not_exhausted { IsErrOf result send_error.IdsExhausted → ⊥ }
+        ensures err { OnErr result (ctx.new ≡ ctx.old) }
+        ensures room { HasRoomFor self.now.id opcode (map value_of_arg args.now) (unsent_of ctx.old) ctx.old.room
+            → IsErrOf result send_error.NoMemory → ⊥ }
+    {
+        self.object.request(ctx, opcode, args)?;
+        ctx.backend_mut().remove_id(self.object.id());
+        Ok(())
+    }
+
+    /// Sends a message that announces an object of `T`, and makes the object.
+    pub(crate) fn announce<T: Interface>(
+        &self,
+        ctx: &mut Context,
+        opcode: u32,
+        args: &[Arg<'_>],
+        version: u32,
+    ) -> Result<T, SendError>
+        ensures ok { OnOk result
+            (ctx.new ≡ sent_new ctx.old self.now.id opcode (map value_of_arg args.now) (Known T.KNOWN) version) }
+        ensures object { IfOk result (λ p. T.behind p ≡ own ctx.old.table (Known T.KNOWN) version) }
+        ensures exhausted { IsErrOf result send_error.IdsExhausted ↔ (own_end ctx.old.table ≤ ctx.old.table.next_own) }
+        ensures long { IsErrOf result send_error.MessageTooLong
+            → 1048576 < size (message self.now.id opcode (map value_of_arg args.now)) }
+        ensures err { OnErr result (ctx.new ≡ ctx.old) }
+        ensures room { HasRoomFor self.now.id opcode (map value_of_arg args.now) (unsent_of ctx.old) ctx.old.room
+            → ctx.old.table.next_own < ctx.old.table.room → IsErrOf result send_error.NoMemory → ⊥ }
+    {
+        let interface = InterfaceName::Known(T::KNOWN);
+        let backend = ctx.backend_mut();
+        let object = backend.request_new(self.object.id(), opcode, args, interface, version)?;
+        Ok(T::new_unchecked(object))
+    }
+}
