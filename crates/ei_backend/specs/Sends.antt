@@ -1,7 +1,8 @@
 -- What a call that sends a message of a row does: one word for each kind of row. The row, found by its name, says
 -- the opcode, the kinds of the values, what is announced, and whether the target is gone then.
-use Rattle.std.specs.Prelude.{◌≡◌, ℕ, ◌<◌, ◌≤◌, ◌↔◌, List, [], ◌∷◌, Option, Some, None, Result, OnOk, OnErr, IfOk, IfErr, IsErrOf}
-use Rattle.ei_spec.specs.Value.{Kind, Value, IsOf}
+use Rattle.std.specs.Prelude.{◌≡◌, ℕ, ◌<◌, ◌≤◌, ◌↔◌, List, Option, Some, None, Result, OnOk, OnErr, IfOk, IfErr, IsErrOf}
+use Rattle.ei_spec.specs.Value.{Value}
+use Rattle.ei_spec.specs.Arguments.{AreOf}
 use Rattle.ei_spec.specs.Interface.{Known, ObjectView, named}
 use Rattle.ei_spec.specs.Rows.{Row, Announces, Nothing, Fixed, Named, version_of, name_in}
 use Rattle.ei_spec.specs.Message.{message, size}
@@ -9,12 +10,7 @@ use Rattle.ei_wire.specs.declared.error.SendError.{SendError}
 use Rattle.ei_wire.specs.declared.error.SendError.TheVariants as send_error
 use Rattle.ei_backend.specs.Table.{TableView, own, own_end}
 use Rattle.ei_backend.specs.Backend.{BackendView, after_row, FitsRow}
-
--- the values are of these kinds, one after another
-abbrev pub AreOf : List Kind → List Value → Type 0
-AreOf [] [] = Unit {0}
-AreOf (kind ∷ kinds) (value ∷ values) = IsOf kind value × AreOf kinds values
-AreOf kinds values = ⊥
+use Rattle.ei_spec.specs.declared.limits.TheConstants.{MOST_MESSAGE_BYTES}
 
 -- there is such a row, and the values are of its kinds
 abbrev pub AreOfRow : Option (ℕ × Row) → List Value → Type 0
@@ -51,7 +47,7 @@ pub record SendsText {A : Type 0} (r : Option (ℕ × Row)) (target : ObjectView
   pub kinds : AreOfRow r values
   pub ok : OnOk result (new ≡ after_row r target values old)
   pub err : OnErr result (new ≡ old)
-  pub long : IsErrOf result send_error.MessageTooLong ↔ (1048576 < row_size r target values)
+  pub long : IsErrOf result send_error.MessageTooLong ↔ (MOST_MESSAGE_BYTES < row_size r target values)
   pub not_exhausted : IsErrOf result send_error.IdsExhausted → ⊥
   pub room : FitsRow r target values old → IsErrOf result send_error.NoMemory → ⊥
 

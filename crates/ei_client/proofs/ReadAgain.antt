@@ -22,7 +22,7 @@ use Rattle.ei_spec.proofs.FrontLaws.{front_again}
 use Rattle.ei_backend.specs.Table.{TableView}
 use Rattle.ei_backend.specs.Message.{announce, Parsed, row_read}
 use Rattle.ei_backend.specs.Backend.{BackendView, Message, next, sent, removed, with_announced, after_row, unsent_of}
-use Rattle.ei_backend.specs.Sends.{AreOf}
+use Rattle.ei_spec.specs.Arguments.{AreOf}
 use Rattle.ei_client.specs.Agree.{piece_of, behind, IsMessage, HasNext}
 use Rattle.ei_client.proofs.ByName.{row_of_name}
 

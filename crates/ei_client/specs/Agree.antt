@@ -11,7 +11,8 @@ use Rattle.ei_spec.specs.Piece.{Piece}
 use Rattle.ei_backend.specs.Table.{TableView, found}
 use Rattle.ei_backend.specs.Message.{announce}
 use Rattle.ei_backend.specs.Backend.{BackendView}
-use Rattle.ei_backend.specs.Sends.{AreOf}
+use Rattle.ei_spec.specs.Arguments.{AreOf}
+use Rattle.ei_spec.specs.declared.limits.TheConstants.{MOST_MESSAGE_BYTES}
 
 -- the bytes and the handles of a message to the object of that id
 abbrev pub piece_of : ℕ → ℕ → List Value → Piece
@@ -26,7 +27,7 @@ pub record IsMessage (events : Bool) (interface : KnownInterface) (name : List �
   pub row : row_named name (table events interface) ≡ Some r
   pub kinds : AreOf r.1.kinds values
   pub target : id < 2 ^ 64
-  pub short : size (message id r.0 values) ≤ 1048576
+  pub short : size (message id r.0 values) ≤ MOST_MESSAGE_BYTES
 
 -- An endpoint that has the message at the front of what is unread, and the rest behind it. The target is there, an
 -- object of that interface, and what the message announces is accepted: that leaves the table `after`.

@@ -9,6 +9,7 @@ ghost use Rattle.ei_backend.specs.Object.{proxy_text, shown_of};
 ghost use Rattle.ei_backend.specs.Table.{accept, own, own_end};
 ghost use Rattle.ei_backend.specs.Outgoing.{HasRoomFor};
 ghost use Rattle.ei_backend.specs.Backend.{removed, sent, sent_new, unsent_of};
+ghost use Rattle.ei_spec.specs.declared.limits.TheConstants.{MOST_MESSAGE_BYTES};
 
 use crate::context::Context;
 use ei_backend::{
@@ -134,7 +135,7 @@ impl<K: Kind> Proxy<K> {
         ensures ok { OnOk result
             (ctx.new ≡ removed (sent ctx.old self.now.id opcode (map value_of_arg args.now)) self.now.id) }
         ensures long { IsErrOf result send_error.MessageTooLong
-            ↔ (1048576 < size (message self.now.id opcode (map value_of_arg args.now))) }
+            ↔ (MOST_MESSAGE_BYTES < size (message self.now.id opcode (map value_of_arg args.now))) }
         ensures not_exhausted { IsErrOf result send_error.IdsExhausted → ⊥ }
         ensures err { OnErr result (ctx.new ≡ ctx.old) }
         ensures room { HasRoomFor self.now.id opcode (map value_of_arg args.now) (unsent_of ctx.old) ctx.old.room
@@ -158,7 +159,7 @@ impl<K: Kind> Proxy<K> {
         ensures object { IfOk result (λ p. T.behind p ≡ own ctx.old.table (Known T.KNOWN) version) }
         ensures exhausted { IsErrOf result send_error.IdsExhausted ↔ (own_end ctx.old.table ≤ ctx.old.table.next_own) }
         ensures long { IsErrOf result send_error.MessageTooLong
-            → 1048576 < size (message self.now.id opcode (map value_of_arg args.now)) }
+            → MOST_MESSAGE_BYTES < size (message self.now.id opcode (map value_of_arg args.now)) }
         ensures err { OnErr result (ctx.new ≡ ctx.old) }
         ensures room { HasRoomFor self.now.id opcode (map value_of_arg args.now) (unsent_of ctx.old) ctx.old.room
             → ctx.old.table.next_own < ctx.old.table.room → IsErrOf result send_error.NoMemory → ⊥ }

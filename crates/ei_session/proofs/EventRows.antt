@@ -12,7 +12,8 @@ use Rattle.ei_spec.specs.Table.{handshake_version, interface_version, destroyed,
 use Rattle.ei_session.specs.Replies.{greeting, settled_event, connection_event, seat_event, capability_event, done_event}
 use Rattle.ei_session.specs.Events.{invalid_object_event, callback_event, device_event, device_type_event, interface_event, device_done_event, resumed_event, destroyed_event}
 use Rattle.ei_session.specs.Setup.{connection_id, seat_id}
-use Rattle.ei_session.specs.Told.{row_of, ReadsAs, AreOf}
+use Rattle.ei_spec.specs.Arguments.{AreOf}
+use Rattle.ei_session.specs.Told.{row_of, ReadsAs}
 use Rattle.ei_session.proofs.ReadBack.{reads_back}
 
 pub name_utf8 : (i : KnownInterface) → is_utf8 (name_of i) ≡ true

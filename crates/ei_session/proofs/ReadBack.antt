@@ -8,7 +8,7 @@ use Rattle.ei_spec.specs.Message.{message}
 use Rattle.ei_spec.proofs.KindLaws.{Spells-written}
 use Rattle.ei_spec.proofs.RowLaws.{all_again}
 use Rattle.ei_session.specs.Arguments.{whole, row_args}
-use Rattle.ei_session.specs.Told.{AreOf}
+use Rattle.ei_spec.specs.Arguments.{AreOf}
 
 -- the value is no handle, and has a spelling
 abbrev pub IsPlain : Value → Type 0

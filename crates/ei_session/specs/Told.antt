@@ -14,6 +14,7 @@ use Rattle.ei_session.specs.Arguments.{row_args}
 use Rattle.ei_session.specs.Refusals.{synced}
 use Rattle.ei_session.specs.Events.{replies}
 use Rattle.ei_session.specs.Served.{accepted}
+use Rattle.ei_spec.specs.Arguments.{AreOf}
 
 -- ---- what events announce and destroy
 
@@ -54,12 +55,6 @@ unfoldable pub destroys : ℕ → List Raw → Raw → Bool
 destroys id earlier event = (event.id == id) && has_mark (row_of (interface_of earlier event) event)
 
 -- ---- what holds of an event
-
--- the values are of these kinds, one after another
-abbrev pub AreOf : List Kind → List Value → Type 0
-AreOf [] [] = Unit {0}
-AreOf (kind ∷ kinds) (value ∷ values) = IsOf kind value × AreOf kinds values
-AreOf kinds values = ⊥
 
 -- The event reads as the row of its opcode, to an object of the interface, with values of the row's kinds.
 pub record ReadsAs (interface : KnownInterface) (event : Raw) (row : Row) (values : List Value) : Type 0 where

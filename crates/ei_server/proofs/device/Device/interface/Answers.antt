@@ -7,13 +7,13 @@ pub returns : goal.returns
 returns g c =
     let same = named_known g.T.Described.KNOWN in
     record {
-        sends = record {
-            kinds = grind (arith, is_text);
-            ok = rw same (search rules);
-            object = rw same (search rules);
-            err = search rules;
-            exhausted = search rules;
-            not_long = search rules;
-            room = search rules
-        }
+      sends = record {
+        kinds = grind (arith, is_text);
+        ok = rw same (search rules);
+        object = rw same (search rules);
+        err = search rules;
+        exhausted = search rules;
+        not_long = search rules;
+        room = search rules;
+      };
     }
