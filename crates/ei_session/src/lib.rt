@@ -7,6 +7,10 @@
 //!
 //! The session of all requests stands beside it: `Inputs`, `Devices`, `Objects`, `Serial`, `Touches`,
 //! `Refusals`, `Requests`, `Events` and, on them, `Served`.
+//!
+//! What a request asks is told in `Meaning`, by its row in the table of messages. `ByMeaning` and
+//! `AnsweredByMeaning` have the item, the refusal and the answer by it, a line for each thing asked: what
+//! stands above reads no name and no byte. `Kept` says what a message leaves as it was.
 #![tactic(auto)]
 
 mod all_requests;
