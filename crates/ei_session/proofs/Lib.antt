@@ -43,3 +43,4 @@ pub mod BeforeTheFinish
 pub mod GivenByItem
 pub mod RunsOut
 pub mod AnsweredMeans
+pub mod JudgedMeans

@@ -32,8 +32,8 @@ pub use kinds_of_messages::{
     other_inputs, plain_requests, seat_released,
 };
 pub use meanings::{
-    answered_by_meaning, asked_by_meaning, asked_rows, refused_by_meaning, requests_ask,
-    words_by_meaning,
+    answered_by_meaning, asked_by_meaning, asked_rows, judged_by_meaning, refused_by_meaning,
+    requests_ask, words_by_meaning,
 };
 pub use objects_by_id::{
     interfaces_there, new_objects, objects_gone, objects_introduced, objects_placed,
