@@ -92,11 +92,11 @@ made_asked past m e on k = made_at past m e (is_seat e.interface) on k refl
 
 -- ---- which callback is announced
 
-abbrev is_connection : KnownInterface → Bool
+abbrev pub is_connection : KnownInterface → Bool
 is_connection known.Connection = true
 is_connection k = false
 
-connection_is : (k : KnownInterface) → is_connection k ≡ true → k ≡ known.Connection
+pub connection_is : (k : KnownInterface) → is_connection k ≡ true → k ≡ known.Connection
 connection_is known.Connection h = refl
 connection_is k h = absurd cc
 
@@ -108,12 +108,12 @@ no_callback : (k : KnownInterface) (m : Raw) (o : Option Meaning) → is_connect
 no_callback k m None s h = refl
 no_callback k m (Some x) s h = let w = means_row k m x h in no_callback_row k m.opcode w.0 x w.1.1 s
 
-connection_at : (past : List Raw) (m : Raw) (e : Entry) → object past m.id ≡ Some e → e.interface ≡ known.Connection → m.id ≡ connection_id
+pub connection_at : (past : List Raw) (m : Raw) (e : Entry) → object past m.id ≡ Some e → e.interface ≡ known.Connection → m.id ≡ connection_id
 connection_at past m e k i =
     let p = object_placed past m.id e k in
     let h : home known.Connection ≡ Some m.id = ap home (sym i) ∙ p.at_home (rw i refl) in sym (some_is connection_id m.id h)
 
-not_the_connection : (past : List Raw) (m : Raw) (e : Entry) → connected past ≡ true → object past m.id ≡ Some e → is_connection e.interface ≡ false → m.id ≢ connection_id
+pub not_the_connection : (past : List Raw) (m : Raw) (e : Entry) → connected past ≡ true → object past m.id ≡ Some e → is_connection e.interface ≡ false → m.id ≢ connection_id
 not_the_connection past m e on k s at =
     let there : object past m.id ≡ Some the_connection = ap (object past) at ∙ object_connection past ∙ rw on refl in
     let same : e ≡ the_connection = some_is e the_connection (sym k ∙ there) in

@@ -11,7 +11,7 @@ use Rattle.ei_session.specs.Inputs.{input_to}
 use Rattle.ei_session.specs.Meaning.{Meaning, Asks, Greeting, Finish, ContextType, Name, InterfaceVersion, Sync, Disconnect, Pong, SeatRelease, Bind, RequestDevice, DeviceRelease, PointerRelease, MotionRelative, PointerAbsoluteRelease, MotionAbsolute, ScrollRelease, Scroll, Discrete, ScrollStop, ButtonRelease, Button, KeyboardRelease, Key, TouchscreenRelease, Down, Motion, Up, Cancel, TextRelease, Keysym, Utf8, meaning}
 use Rattle.ei_session.specs.Devices.{asked_mask}
 use Rattle.ei_session.specs.Refusals.{callback_of}
-use Rattle.ei_session.specs.ByMeaning.{releases, input_in, mask_in, callback_in, finishes, tells_context, tells_name}
+use Rattle.ei_session.specs.ByMeaning.{releases, input_in, mask_in, callback_in, disconnects, finishes, tells_context, tells_name}
 use Rattle.ei_session.proofs.ItemLaws.{no_input}
 use Rattle.ei_session.proofs.AskedRows.{unread_asked}
 use Rattle.ei_session.proofs.RowsMean.{at_row, asks_means}
@@ -108,6 +108,17 @@ callback_row m n values w Disconnect o a = rw o refl
 
 pub callback_asked : (m : Raw) → callback_of (asked known.Connection (codes "sync") m) ≡ callback_in (meaning known.Connection m)
 callback_asked m = by_asked known.Connection m callback_in (callback_of (asked known.Connection (codes "sync") m)) (request_args known.Connection m) refl (λ u. rw (unread_asked known.Connection (codes "sync") m u) refl) (λ values x a h. callback_row m m.opcode values x a refl h)
+
+-- ---- the end of the connection
+
+disconnect_row : (m : Raw) (n : ℕ) (values : List Value) (x : Meaning) → Asks known.Connection n values x → m.opcode ≡ n → request_args known.Connection m ≡ Some values → asks known.Connection (codes "disconnect") m ≡ disconnects (Some x)
+unfolding asks asked row_args
+disconnect_row m n values w (Sync callback version) o a = rw o refl
+disconnect_row m n values w Disconnect o a = rw (o, at_row known.Connection m 1 _ o a) refl
+
+pub disconnect_asked : (m : Raw) → asks known.Connection (codes "disconnect") m ≡ disconnects (meaning known.Connection m)
+unfolding asks
+disconnect_asked m = by_asked known.Connection m disconnects (asks known.Connection (codes "disconnect") m) (request_args known.Connection m) refl (λ u. ap is_some (unread_asked known.Connection (codes "disconnect") m u)) (λ values x a h. disconnect_row m m.opcode values x a refl h)
 
 -- ---- the handshake
 

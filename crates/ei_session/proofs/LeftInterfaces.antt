@@ -112,3 +112,9 @@ left_there past d id h =
     let w = member_range (λ x. is_some (object past x)) id (d + 1) (length (device_interfaces past d)) h in
     let e = some_entry (object past id) w.0 in
     record { entry = e.0; is = e.1; own = range_owner past d id e.0 (omega (arith, w.1)) (omega (arith, w.2)) (object_is_introduced past id e.0 e.1); above = omega (arith, w.1) }
+
+pub left_own : (past : List Raw) (d id : ℕ) (e : Entry) → list_any (nat_eq id) (interfaces_left past d) ≡ true → object past id ≡ Some e → e.device ≡ Some d
+left_own past d id e h k =
+    let w = left_there past d id h in
+    let same : w.entry ≡ e = some_is w.entry e (sym w.is ∙ k) in
+    ap (λ (x : Entry). x.device) (sym same) ∙ w.own

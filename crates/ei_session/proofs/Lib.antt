@@ -53,3 +53,4 @@ pub mod Completing
 pub mod NextLaws
 pub mod SettledMapLaws
 pub mod AnsweredMeans
+pub mod JudgedMeans

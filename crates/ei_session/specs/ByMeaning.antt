@@ -52,6 +52,11 @@ abbrev pub callback_in : Option Meaning → Option ℕ
 callback_in (Some (Syncs callback version)) = Some callback
 callback_in asked = None
 
+-- whether the connection is to end
+abbrev pub disconnects : Option Meaning → Bool
+disconnects (Some Disconnects) = true
+disconnects asked = false
+
 -- whether the handshake is to end
 abbrev pub finishes : Option Meaning → Bool
 finishes (Some (Shakes Finishes)) = true

@@ -7,6 +7,10 @@
 //!
 //! The session of all requests stands beside it: `Inputs`, `Devices`, `Objects`, `Serial`, `Touches`,
 //! `Refusals`, `Requests`, `Events` and, on them, `Served`.
+//!
+//! What a request asks is told in `Meaning`, by its row in the table of messages. `ByMeaning` and
+//! `AnsweredByMeaning` have the item, the refusal and the answer by it, a line for each thing asked: what
+//! stands above reads no name and no byte. `Kept` says what a message leaves as it was.
 #![tactic(auto)]
 
 mod all_requests;
@@ -34,8 +38,8 @@ pub use kinds_of_messages::{
     other_inputs, plain_requests, seat_released,
 };
 pub use meanings::{
-    answered_by_meaning, asked_by_meaning, asked_rows, refused_by_meaning, requests_ask,
-    words_by_meaning,
+    answered_by_meaning, asked_by_meaning, asked_rows, judged_by_meaning, refused_by_meaning,
+    requests_ask, words_by_meaning,
 };
 pub use next::{own_ids, peer_ids};
 pub use objects_by_id::{

@@ -1,6 +1,6 @@
 //! What a request asks, and that the other definitions say so. Each function does nothing: its clauses are the laws.
 
-ghost use Rattle.std.specs.Prelude.{◌≡◌, ◌≢◌, ℕ, true, false, List, [], ◌∷◌, Some, None, is_some, codes};
+ghost use Rattle.std.specs.Prelude.{◌≡◌, ◌≢◌, ◌||◌, ℕ, true, false, List, [], ◌∷◌, Some, None, is_some, codes};
 ghost use Rattle.ei_spec.specs.declared.interface.KnownInterface.{KnownInterface};
 ghost use Rattle.ei_spec.specs.declared.interface.KnownInterface.TheVariants as known;
 ghost use Rattle.ei_spec.specs.Value.{Value, Word, Long, Letters};
@@ -8,6 +8,7 @@ ghost use Rattle.ei_spec.specs.Reading.{Fault};
 ghost use Rattle.ei_spec.specs.Rows.{Row, row_named};
 ghost use Rattle.ei_spec.specs.Table.{table};
 ghost use Rattle.ei_spec.specs.Message.{Raw};
+ghost use Rattle.ei_spec.specs.Stream.{Accepted};
 ghost use Rattle.ei_session.specs.Setup.{Setup};
 ghost use Rattle.ei_session.specs.Arguments.{request_args};
 ghost use Rattle.ei_session.specs.Asked.{asked, asks};
@@ -15,16 +16,17 @@ ghost use Rattle.ei_session.specs.Inputs.{Input, input_to};
 ghost use Rattle.ei_session.specs.Meaning.{Meaning, Greets, Finishes, TellsContext, TellsName, TellsInterface};
 ghost use Rattle.ei_session.specs.Meaning.{Shakes, Syncs, Disconnects, Pongs, ReleasesSeat, Binds, RequestsDevice};
 ghost use Rattle.ei_session.specs.Meaning.{Closes, Starts, Stops, Frames, Readies, Releases, Inputs, Asks, meaning};
-ghost use Rattle.ei_session.specs.Devices.{asked_mask, not_empty, made};
+ghost use Rattle.ei_session.specs.Devices.{asked_mask, not_empty, made, next_id, is_past, exhausts};
 ghost use Rattle.ei_session.specs.Objects.{Entry, is_device, object, gone};
 ghost use Rattle.ei_session.specs.Touches.{of_device, input};
-ghost use Rattle.ei_session.specs.Refusals.{Parse, callback_of, synced, refusal};
+ghost use Rattle.ei_session.specs.Refusals.{Parse, callback_of, synced, refusal, is_disconnect, verdict, judge};
 ghost use Rattle.ei_session.specs.Requests.{item};
 ghost use Rattle.ei_session.specs.Handshake.{connected};
 ghost use Rattle.ei_session.specs.Serial.{steps};
 ghost use Rattle.ei_session.specs.Events.{reply};
 ghost use Rattle.ei_session.specs.AnsweredByMeaning.{gone_for, steps_for, reply_for};
-ghost use Rattle.ei_session.specs.ByMeaning.{releases, input_in, mask_in, callback_in, finishes, tells_context};
+ghost use Rattle.ei_session.specs.ByMeaning.{releases, input_in, mask_in, callback_in, disconnects, finishes};
+ghost use Rattle.ei_session.specs.ByMeaning.{tells_context};
 ghost use Rattle.ei_session.specs.ByMeaning.{tells_name, item_for, refusal_for, of_interface};
 ghost use Rattle.ei_session.specs.Kept.{is_bare};
 
@@ -137,4 +139,18 @@ pub fn answered_by_meaning()
     ensures reply { (setup : Setup) (before : List Raw) (m : Raw) (e : Entry) → connected before ≡ true →
         object before m.id ≡ Some e →
         reply setup before m ≡ reply_for setup before m (meaning e.interface m) }
+{}
+
+/// What becomes of a message after the finish: by what it asks, where its target is there; else it is accepted.
+pub fn judged_by_meaning()
+    ensures disconnect { (before : List Raw) (m : Raw) (e : Entry) → connected before ≡ true →
+        object before m.id ≡ Some e → is_disconnect before m ≡ disconnects (meaning e.interface m) }
+    ensures exhausts { (before : List Raw) (m : Raw) (e : Entry) → connected before ≡ true →
+        object before m.id ≡ Some e →
+        exhausts before m ≡ is_past (next_id before) (not_empty (mask_in (meaning e.interface m))) }
+    ensures asks { (setup : Setup) (before : List Raw) (m : Raw) (e : Entry) (x : Meaning) →
+        connected before ≡ true → object before m.id ≡ Some e → meaning e.interface m ≡ Some x →
+        judge setup before m ≡ verdict (refusal_for setup before e x) (disconnects (Some x) || exhausts before m) }
+    ensures unknown { (setup : Setup) (before : List Raw) (m : Raw) → connected before ≡ true →
+        object before m.id ≡ None → judge setup before m ≡ Accepted }
 {}

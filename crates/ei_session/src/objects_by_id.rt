@@ -40,8 +40,13 @@ pub fn objects_gone()
 
 /// The interfaces that a device has left are the objects of it, but for itself.
 pub fn interfaces_there()
-    ensures left { (before : List Raw) (device id : ℕ) → list_any (nat_eq id) (interfaces_left before device) ≡ true →
-        (e : Entry) × ((object before id ≡ Some e) × ((e.device ≡ Some device) × (device < id))) }
+    ensures there { (before : List Raw) (device id : ℕ) →
+        list_any (nat_eq id) (interfaces_left before device) ≡ true → is_some (object before id) ≡ true }
+    ensures own { (before : List Raw) (device id : ℕ) (e : Entry) →
+        list_any (nat_eq id) (interfaces_left before device) ≡ true → object before id ≡ Some e →
+        e.device ≡ Some device }
+    ensures above { (before : List Raw) (device id : ℕ) →
+        list_any (nat_eq id) (interfaces_left before device) ≡ true → device < id }
     ensures all { (before : List Raw) (device id : ℕ) (e : Entry) → object before id ≡ Some e →
         e.device ≡ Some device → id ≢ device →
         list_any (nat_eq id) (interfaces_left before device) ≡ true }
