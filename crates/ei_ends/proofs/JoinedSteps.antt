@@ -6,13 +6,13 @@ use Rattle.std.proofs.lemmas.Bool.{cases_lt}
 use Rattle.std.specs.Prelude.{if◌then◌else◌}
 use Rattle.std.proofs.Common.{◌≡◌, ℕ, ◌+◌, ◌≤◌, Bool, true, false, inl, inr, List, [], ◌++◌, length, Some, None, refl, sym, ap, subst, ◌∙◌, arith, append_assoc, append-nil, map, ◌∷◌, ◌⊎◌, take, drop}
 use Rattle.ei_spec.specs.declared.interface.KnownInterface.{KnownInterface}
-use Rattle.ei_spec.specs.Value.{Value}
+use Rattle.ei_spec.specs.Value.{Kind, Value}
 use Rattle.ei_spec.specs.Reading.{Fault}
-use Rattle.ei_spec.specs.Interface.{Known, ObjectView, Interface}
-use Rattle.ei_spec.specs.Rows.{Row, Nothing}
+use Rattle.ei_spec.specs.Interface.{Known, ObjectView, Interface, named}
+use Rattle.ei_spec.specs.Rows.{Row, Announces, Nothing, Fixed, Named, version_of, name_in}
 use Rattle.ei_spec.specs.Piece.{Piece}
 use Rattle.ei_spec.specs.Message.{all_bytes}
-use Rattle.ei_backend.specs.Backend.{BackendView, Answer, Waits, Refused, Gone, Message, next, unsent_of, after_row, after_new, sent, sent_new, removed}
+use Rattle.ei_backend.specs.Backend.{BackendView, Answer, Waits, Refused, Gone, Message, next, unsent_of, after_row, with_announced, with_object, without_target, sent, sent_new, removed}
 use Rattle.ei_ends.specs.Sent.{other, Sent, Got, Took, Missed, New, new_by, new_in, new_of, row_of, destroys, ends_target, bytes_in, handles_in, raw_of}
 use Rattle.ei_ends.specs.Announced.{next_own}
 use Rattle.ei_ends.specs.Agree.{oldest, handles_sent, KeepsHandles, AllEqual, handles_got, AreTimes}
@@ -200,27 +200,28 @@ handed_is n link le = record {
 
 -- ---- a call of a proxy
 
-after_row_at : (d : Bool) (m : Sent) (r : Row) (target : ObjectView) (b : BackendView) → r.destroys ≡ d → target.id ≡ m.target → after_row (Some (m.opcode, r)) target m.values b ≡ record b { table = table_after d m.target b.table; unsent = b.unsent ++ bytes_in m; unsent_handles = b.unsent_handles ++ handles_in m }
-unfolding table_after bytes_in
-after_row_at true m r target b e t = rw (e, t) refl
-after_row_at false m r target b e t = rw (e, t) refl
-
-pub row_called : (events : Bool) (m : Sent) (r : Row) (target : ObjectView) (b : BackendView) → row_of events m ≡ Some r → r.announces ≡ Nothing → target.id ≡ m.target → after_row (Some (m.opcode, r)) target m.values b ≡ called events m b
+-- the endpoint with what a row announces is the one with the new object
+announced_at : (a : Announces) (kinds : List Kind) (values : List Value) (b : BackendView) → with_announced a values b ≡ record b { table = table_with (new_by a kinds values) b.table }
 unfolding table_with
-row_called events m r target b row none t =
-    let d : destroys events m ≡ r.destroys = ap ends_target row in
-    let n : new_of events m ≡ None = ap (λ o. new_in o m.values) row ∙ ap (λ a. new_by a r.kinds m.values) none in
-    after_row_at r.destroys m r target b refl t ∙ rw (d, n) refl
+announced_at Nothing kinds values b = refl
+announced_at (Fixed k) kinds values b = refl
+announced_at Named kinds values b = refl
 
-after_new_at : (d : Bool) (m : Sent) (r : Row) (n : New) (target : ObjectView) (b : BackendView) → r.destroys ≡ d → target.id ≡ m.target → after_new (Some (m.opcode, r)) target m.values n.interface n.version b ≡ record b { table = table_after d m.target (table_with (Some n) b.table); unsent = b.unsent ++ bytes_in m; unsent_handles = b.unsent_handles ++ handles_in m }
-unfolding table_after table_with bytes_in
-after_new_at true m r n target b e t = rw (e, t) refl
-after_new_at false m r n target b e t = rw (e, t) refl
+-- the endpoint without the target that a row destroys
+destroyed_at : (d : Bool) (r : Row) (target : ObjectView) (b : BackendView) → r.destroys ≡ d → without_target r target b ≡ record b { table = table_after d target.id b.table }
+unfolding table_after
+destroyed_at true r target b e = rw e refl
+destroyed_at false r target b e = rw e refl
 
-pub new_called : (events : Bool) (m : Sent) (r : Row) (n : New) (target : ObjectView) (b : BackendView) → row_of events m ≡ Some r → new_of events m ≡ Some n → target.id ≡ m.target → after_new (Some (m.opcode, r)) target m.values n.interface n.version b ≡ called events m b
-new_called events m r n target b row new t =
+pub row_called : (events : Bool) (m : Sent) (r : Row) (target : ObjectView) (b : BackendView) → row_of events m ≡ Some r → target.id ≡ m.target → after_row (Some (m.opcode, r)) target m.values b ≡ called events m b
+unfolding bytes_in
+row_called events m r target b row t =
     let d : destroys events m ≡ r.destroys = ap ends_target row in
-    after_new_at r.destroys m r n target b refl t ∙ rw (d, new) refl
+    let n : new_of events m ≡ new_by r.announces r.kinds m.values = ap (λ o. new_in o m.values) row in
+    let before = sent b target.id m.opcode m.values in
+    destroyed_at r.destroys r target (with_announced r.announces m.values before) refl
+    ∙ ap (λ (x : BackendView). record x { table = table_after r.destroys target.id x.table }) (announced_at r.announces r.kinds m.values before)
+    ∙ rw (d, n, t) refl
 
 -- ---- a call by the kind of its row
 
@@ -228,23 +229,37 @@ new_called events m r n target b row new t =
 abbrev target_of : Sent → ObjectView
 target_of m = record { id = m.target; interface = Known m.interface; version = m.version; client_side = true }
 
-row_by : (d : Bool) (m : Sent) (r : Row) (b : BackendView) → r.destroys ≡ d → after_row (Some (m.opcode, r)) (target_of m) m.values b ≡ (if d then removed (sent b m.target m.opcode m.values) m.target else sent b m.target m.opcode m.values)
-row_by d m r b e = rw e refl
+row_by : (d : Bool) (m : Sent) (r : Row) (b : BackendView) → r.announces ≡ Nothing → r.destroys ≡ d → after_row (Some (m.opcode, r)) (target_of m) m.values b ≡ (if d then removed (sent b m.target m.opcode m.values) m.target else sent b m.target m.opcode m.values)
+row_by d m r b none e = rw (none, e) refl
 
-new_by_row : (d : Bool) (m : Sent) (r : Row) (n : New) (b : BackendView) → r.destroys ≡ d →
-    after_new (Some (m.opcode, r)) (target_of m) m.values n.interface n.version b ≡ (if d then removed (sent_new b m.target m.opcode m.values n.interface n.version) m.target else sent_new b m.target m.opcode m.values n.interface n.version)
-new_by_row d m r n b e = rw e refl
+-- the endpoint with what is announced has that object
+new_is : (a : Announces) (kinds : List Kind) (values : List Value) (n : New) (b : BackendView) → new_by a kinds values ≡ Some n → with_announced a values b ≡ with_object b n.interface n.version
+new_is Nothing kinds values n b e = absurd cc
+new_is (Fixed k) kinds values n b e =
+    let i : Known k ≡ n.interface = cc in
+    let v : version_of values ≡ n.version = cc in
+    rw (i, v) refl
+new_is Named kinds values n b e =
+    let i : named (name_in values) ≡ n.interface = cc in
+    let v : version_of values ≡ n.version = cc in
+    rw (i, v) refl
+
+new_by_row : (d : Bool) (events : Bool) (m : Sent) (r : Row) (n : New) (b : BackendView) → row_of events m ≡ Some r → new_of events m ≡ Some n → r.destroys ≡ d →
+    after_row (Some (m.opcode, r)) (target_of m) m.values b ≡ (if d then removed (sent_new b m.target m.opcode m.values n.interface n.version) m.target else sent_new b m.target m.opcode m.values n.interface n.version)
+new_by_row d events m r n b row new e =
+    let made : new_by r.announces r.kinds m.values ≡ Some n = sym (ap (λ o. new_in o m.values) row) ∙ new in
+    rw (new_is r.announces r.kinds m.values n (sent b m.target m.opcode m.values) made, e) refl
 
 call_row : (d events : Bool) (m : Sent) (r : Row) (x y : End) (to_y to_x : Piece) → Joined events x y to_y to_x → IsCallOf events x m r → r.announces ≡ Nothing → r.destroys ≡ d →
     Joined events (with_sent (if d then removed (sent x.backend m.target m.opcode m.values) m.target else sent x.backend m.target m.opcode m.values) m x) y to_y to_x
 call_row d events m r x y to_y to_x j c none e =
-    let same = sym (row_called events m r (target_of m) x.backend c.call.row none refl) ∙ row_by d m r x.backend e in
+    let same = sym (row_called events m r (target_of m) x.backend c.call.row refl) ∙ row_by d m r x.backend none e in
     subst (λ (b : BackendView). Joined events (with_sent b m x) y to_y to_x) same (call events m r x y to_y to_x j c)
 
 call_new : (d events : Bool) (m : Sent) (r : Row) (n : New) (x y : End) (to_y to_x : Piece) → Joined events x y to_y to_x → IsCallOf events x m r → new_of events m ≡ Some n → r.destroys ≡ d →
     Joined events (with_sent (if d then removed (sent_new x.backend m.target m.opcode m.values n.interface n.version) m.target else sent_new x.backend m.target m.opcode m.values n.interface n.version) m x) y to_y to_x
 call_new d events m r n x y to_y to_x j c new e =
-    let same = sym (new_called events m r n (target_of m) x.backend c.call.row new refl) ∙ new_by_row d m r n x.backend e in
+    let same = sym (row_called events m r (target_of m) x.backend c.call.row refl) ∙ new_by_row d events m r n x.backend c.call.row new e in
     subst (λ (b : BackendView). Joined events (with_sent b m x) y to_y to_x) same (call events m r x y to_y to_x j c)
 
 pub call_ordinary : (events : Bool) (m : Sent) (r : Row) (x y : End) (to_y to_x : Piece) → Joined events x y to_y to_x → IsCallOf events x m r → r.announces ≡ Nothing → r.destroys ≡ false →

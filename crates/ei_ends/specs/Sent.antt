@@ -9,6 +9,7 @@ use Rattle.ei_spec.specs.Interface.{Interface, Known, named}
 use Rattle.ei_spec.specs.Rows.{Row, Announces, Nothing, Fixed, Named, row_at, new_id, version_of, name_in}
 use Rattle.ei_spec.specs.Table.{table}
 use Rattle.ei_spec.specs.Message.{Raw, message, bytes_of, size}
+use Rattle.ei_spec.specs.declared.limits.TheConstants.{MOST_MESSAGE_BYTES}
 
 -- a message: its target, with what that was announced as, the opcode and the arguments, in which a new id is a number of 64 bits
 pub record Sent : Type 0 where
@@ -88,7 +89,7 @@ pub record IsCall (events : Bool) (m : Sent) (r : Row) : Type 0 where
   pub kinds : AreOf r.kinds m.values
   pub target : m.target < 2 ^ 64
   pub opcode : m.opcode < 2 ^ 32
-  pub short : size (raw_of m) ≤ 1048576
+  pub short : size (raw_of m) ≤ MOST_MESSAGE_BYTES
 
 -- ---- alike but for handles
 

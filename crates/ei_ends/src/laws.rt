@@ -13,7 +13,7 @@ ghost use Rattle.ei_spec.specs.Rows.{Row, Nothing};
 ghost use Rattle.ei_spec.specs.Piece.{Piece};
 ghost use Rattle.ei_spec.specs.Message.{all_bytes};
 ghost use Rattle.ei_backend.specs.Table.{found};
-ghost use Rattle.ei_backend.specs.Backend.{BackendView, Waits, Refused, Gone, Message, next, unsent_of, sent, sent_new, removed, after_row, after_new};
+ghost use Rattle.ei_backend.specs.Backend.{BackendView, Waits, Refused, Gone, Message, next, unsent_of, sent, sent_new, removed, after_row};
 ghost use Rattle.ei_ends.specs.Sent.{other, Sent, Got, Took, Missed, New, new_of, row_of, raw_of};
 ghost use Rattle.ei_ends.specs.Announced.{next_own};
 ghost use Rattle.ei_ends.specs.Agree.{oldest, handles_sent, handles_got, IsTaken, Agree, AreTimes, KeepsHandles, AllEqual, NeedNoHandles, all_got};
@@ -21,6 +21,7 @@ ghost use Rattle.ei_ends.specs.Way.{End, alive, onto};
 ghost use Rattle.ei_ends.specs.Steps.{called, with_sent, after_call, after_calls, after_read, after_reads, with_taken, stored};
 ghost use Rattle.ei_ends.specs.Steps.{behind, no_piece, flushed, delivered, closed_end, ringed, roomy, IsPiece, handed, left_over};
 ghost use Rattle.ei_ends.specs.Joined.{new_end, Joined, IsCallOf, AgreeSoFar, AllDelivered, AreCalls, AreListedCalls, ArePlain, IsSame};
+ghost use Rattle.ei_spec.specs.declared.limits.TheConstants.{MOST_UNREAD_HANDLES};
 
 /// Two new ends are joined, and each step keeps them so, whichever end makes it.
 pub fn steps()
@@ -70,12 +71,8 @@ pub fn calls()
 
 /// What the calls of the proxies do, by their rows, is a step of a call.
 pub fn calls_of_rows()
-    ensures row { (events : Bool) (m : Sent) (r : Row) (target : ObjectView) (b : BackendView) →
-        row_of events m ≡ Some r → r.announces ≡ Nothing → target.id ≡ m.target →
-        after_row (Some (m.opcode, r)) target m.values b ≡ called events m b }
-    ensures new { (events : Bool) (m : Sent) (r : Row) (n : New) (target : ObjectView) (b : BackendView) →
-        row_of events m ≡ Some r → new_of events m ≡ Some n → target.id ≡ m.target →
-        after_new (Some (m.opcode, r)) target m.values n.interface n.version b ≡ called events m b }
+    ensures { (events : Bool) (m : Sent) (r : Row) (target : ObjectView) (b : BackendView) →
+        row_of events m ≡ Some r → target.id ≡ m.target → after_row (Some (m.opcode, r)) target m.values b ≡ called events m b }
 {}
 
 /// Several messages in turn: they are calls, and plain ones add their bytes alone.
@@ -101,7 +98,7 @@ pub fn ends()
     ensures equal { (events : Bool) (x y : End) (to_y to_x : Piece) (a b : List Sent) (c d : List Got) → Joined events x y to_y to_x →
         oldest (length y.taken) x.sent ≡ a ++ b → y.taken ≡ c ++ d → length a ≡ length c → KeepsHandles b d → AllEqual b d }
     ensures few_handles { (events : Bool) (x y : End) (to_y to_x p left : Piece) → Joined events x y to_y to_x → y.backend.closed ≡ false →
-        IsPiece p left to_y → length (handles_sent x.sent) ≤ 4096 → length y.backend.handles + length p.handles ≤ 4096 }
+        IsPiece p left to_y → length (handles_sent x.sent) ≤ MOST_UNREAD_HANDLES → length y.backend.handles + length p.handles ≤ MOST_UNREAD_HANDLES }
     // where nothing is on its way any more, all was taken
     ensures all { (events : Bool) (x y : End) (to_y to_x : Piece) → Joined events x y to_y to_x → AllDelivered x y to_y →
         next events y.backend ≡ (Waits, y.backend) → length y.taken ≡ length x.sent }

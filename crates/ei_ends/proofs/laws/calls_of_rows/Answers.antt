@@ -1,5 +1,5 @@
-use Rattle.ei_ends.proofs.JoinedSteps.{row_called, new_called}
+use Rattle.ei_ends.proofs.JoinedSteps.{row_called}
 use Rattle.ei_ends.proofs.laws.calls_of_rows.Goals as goal
 
 pub returns : goal.returns
-returns c = record { row = row_called; new = new_called }
+returns c = row_called
