@@ -11,8 +11,6 @@ mod header;
 mod names;
 mod sealed;
 mod stream;
-#[cfg(test)]
-mod tests;
 mod text;
 
 pub use arg::{Arg, OwnedArg, RawFloat, no_proper_prefix, no_spelling, read_back, spelled};

@@ -1,131 +1,16 @@
-//! The ring of the bytes that are unread: messages that lie across its end.
+//! The ring of the bytes that are unread: messages that lie across its end, and how it grows.
 
-ghost use Rattle.std.specs.Prelude.{[], ◌∷◌, false};
-ghost use Rattle.ei_spec.specs.Value.{Word, Letters};
-
-use crate::{
-    Backend, Fault, InterfaceName, LastAnswer, MessageEnum, Object, PendingRequestResult, Source,
-    Table, Taken,
-};
-use ei_spec::{Handle, KnownInterface};
-use ei_wire::{Arg, ByteStream, EiText, NoMemory, ParseError, ReadError};
+use crate::version::{InterfaceVersion, PIECE, give};
+use ei_backend::{Backend, PendingRequestResult, Pieces};
+use ei_wire::NoMemory;
 use std::alloc::Global;
 use std::test::Fail;
-
-/// The most bytes of a piece.
-const PIECE: usize = 65536;
 
 /// An id that no object has.
 const NOBODY: u64 = 5;
 
 /// The version in each `interface_version`.
 const VERSION: u32 = 7;
-
-/// The `interface_version` of the handshake, the one message that the tests read.
-#[derive(Debug, Drop)]
-struct InterfaceVersion {
-    object: Object,
-    name: EiText,
-    version: u32,
-}
-
-impl MessageEnum for InterfaceVersion {
-    ghost events = { false };
-
-    ghost target = { λ m. m.object };
-
-    ghost code = { λ _. 4 };
-
-    ghost values = { λ m. Letters m.name ∷ Word m.version ∷ [] };
-
-    fn parse(
-        _alloc: Global,
-        object: Object,
-        opcode: u32,
-        bytes: &mut ByteStream<'_>,
-        _table: &mut Table,
-    ) -> Result<InterfaceVersion, ParseError> {
-        let InterfaceName::Known(KnownInterface::Handshake) = object.interface_name() else {
-            return Err(ParseError::NoMemory);
-        };
-        if opcode != 4 {
-            return Err(ParseError::NoMemory);
-        }
-        let name = bytes.read_arg()?;
-        let version = bytes.read_arg()?;
-        Ok(InterfaceVersion {
-            object,
-            name,
-            version,
-        })
-    }
-
-    // No test here shows the arguments.
-    fn args(&self, _alloc: Global) -> Result<Vec<Arg<'_>>, NoMemory> {
-        Err(NoMemory)
-    }
-
-    fn object(&self) -> &Object {
-        &self.object
-    }
-
-    fn opcode(&self) -> u32 {
-        4
-    }
-}
-
-/// A source of the bytes that were put into it, as one piece, with so many handles.
-#[derive(Drop)]
-struct Feed {
-    bytes: Vec<u8>,
-    handles: usize,
-    last: LastAnswer,
-}
-
-impl Source for Feed {
-    ghost use Rattle.std.specs.Prelude.{None};
-
-    ghost left = { λ _. None };
-
-    ghost faults = { λ _. 0 };
-
-    ghost last = { λ f. f.last };
-
-    ghost later = { λ _ _. Unit {0} };
-
-    ghost later_refl = { λ _. tt };
-
-    ghost later_trans = { λ _ _ _ _ _. tt };
-
-    fn take(&mut self, bytes: &mut [u8], handles: &mut [Handle]) -> Result<Taken, Fault> {
-        let count = self.bytes.len();
-        if count == 0 || count > PIECE || self.handles > 64 {
-            self.last = LastAnswer::End;
-            return Ok(Taken {
-                bytes: 0,
-                handles: 0,
-            });
-        }
-        bytes[..count].copy_from_slice(&self.bytes);
-        handles[..self.handles].fill(Handle(7));
-        self.bytes.clear();
-        self.last = LastAnswer::Piece;
-        Ok(Taken {
-            bytes: count,
-            handles: self.handles,
-        })
-    }
-}
-
-impl Feed {
-    fn new(alloc: Global, handles: usize) -> Feed {
-        Feed {
-            bytes: Vec::new(alloc),
-            handles,
-            last: LastAnswer::Nothing,
-        }
-    }
-}
 
 /// Whether an `interface_version` can have that length.
 fn is_version(len: u32) -> bool {
@@ -175,11 +60,12 @@ fn is_right(answer: &Option<PendingRequestResult<InterfaceVersion>>, len: u32) -
     }
 }
 
-/// An endpoint, its source, and the length of the message that comes, or 0.
+/// An endpoint, its source, the bytes that come next, and the length of the message that comes, or 0.
 #[derive(Drop)]
 struct Reader {
     backend: Backend,
-    feed: Feed,
+    pieces: Pieces,
+    next: Vec<u8>,
     waiting: u32,
 }
 
@@ -187,29 +73,26 @@ impl Reader {
     fn new(alloc: Global) -> Result<Reader, NoMemory> {
         Ok(Reader {
             backend: Backend::new(alloc, false)?,
-            feed: Feed::new(alloc, 0),
+            pieces: Pieces::new(alloc),
+            next: Vec::new(alloc),
             waiting: 0,
         })
     }
 
-    /// Lets what is in the feed come, and says whether the message that came is the right one.
+    /// Lets the next bytes come, and says whether the message that came is the right one.
     fn comes(&mut self) -> Result<bool, Fail> {
-        self.backend.read(&mut self.feed)?;
+        give(&mut self.pieces, &self.next, &[])?;
+        self.next.clear();
+        self.backend.read(&mut self.pieces)?;
         let answer = self.backend.pending()?;
         Ok(self.waiting == 0 || is_right(&answer, self.waiting))
     }
 
     /// Lets these bytes come, and says how much the ring holds then.
     fn held_after(&mut self, bytes: &[u8]) -> Result<usize, Fail> {
-        self.feed.bytes.extend_from_slice(bytes)?;
-        self.backend.read(&mut self.feed)?;
+        give(&mut self.pieces, bytes, &[])?;
+        self.backend.read(&mut self.pieces)?;
         Ok(self.backend.ring_capacity())
-    }
-
-    /// Lets one byte come, and says what reading it answered.
-    fn byte_read(&mut self) -> Result<Result<usize, ReadError>, Fail> {
-        self.feed.bytes.push(0)?;
-        Ok(self.backend.read(&mut self.feed))
     }
 
     /// Whether no message is whole, and so many bytes are unread.
@@ -220,11 +103,11 @@ impl Reader {
 
     /// Lets so many bytes of a message of this length come behind the others of the last one.
     fn begin(&mut self, alloc: Global, len: u32, before: u32) -> Result<bool, Fail> {
-        let next = message(alloc, len)?;
-        let (first, others) = next.split_at(next.len().min(before as usize));
-        self.feed.bytes.extend_from_slice(first)?;
+        let bytes = message(alloc, len)?;
+        let (first, others) = bytes.split_at(bytes.len().min(before as usize));
+        self.next.extend_from_slice(first)?;
         let came = self.comes()?;
-        self.feed.bytes.extend_from_slice(others)?;
+        self.next.extend_from_slice(others)?;
         self.waiting = len;
         Ok(came)
     }
@@ -245,7 +128,7 @@ impl Reader {
 fn near_the_end(alloc: Global) -> Result<Reader, Fail> {
     let mut reader = Reader::new(alloc)?;
     for len in [65536, 65532] {
-        reader.feed.bytes = message(alloc, len)?;
+        reader.next = message(alloc, len)?;
         reader.comes()?;
     }
     Ok(reader)
@@ -258,12 +141,12 @@ fn messages_are_read_across_the_end(rt: HostRuntime) -> Result<(), Fail> {
     let alloc = rt.alloc();
     let mut reader = near_the_end(alloc)?;
     assert!(rt; reader.holds(0)?);
-    for len in 16..=200 {
-        assert_eq!(rt; reader.begin_each(alloc, len)?, None, "{len} bytes");
+    for len in [16, 28, 31, 200] {
+        assert!(rt; reader.begin_each(alloc, len)?.is_none(), "{len} bytes");
     }
     assert!(rt; reader.comes()?);
     assert!(rt; reader.holds(0)?);
-    assert_eq!(rt; reader.backend.ring_capacity(), 131072);
+    assert!(rt; reader.backend.ring_capacity() == 131072);
     Ok(())
 }
 
@@ -290,30 +173,9 @@ fn the_ring_grows_for_the_longest_message(rt: HostRuntime) -> Result<(), Fail> {
     let mut reader = Reader::new(alloc)?;
     let bytes = message(alloc, 1048576)?;
     let (most, last) = bytes.split_at(bytes.len().min(1048575));
-    assert_eq!(rt; held_otherwise(&mut reader, most)?, None);
+    assert!(rt; held_otherwise(&mut reader, most)?.is_none());
     assert!(rt; reader.holds(1048575)?);
-    assert_eq!(rt; reader.held_after(last)?, 2097152);
+    assert!(rt; reader.held_after(last)? == 2097152);
     assert!(rt; is_right(&reader.backend.pending()?, 1048576));
-    Ok(())
-}
-
-/// A reader that has taken 64 handles with each of so many bytes.
-fn with_handles(alloc: Global, count: usize) -> Result<Reader, Fail> {
-    let mut reader = Reader::new(alloc)?;
-    reader.feed.handles = 64;
-    for _ in 0..count {
-        reader.byte_read()??;
-    }
-    Ok(reader)
-}
-
-// The piece with the handle that is one too many is dropped, and nothing is asked for after it.
-#[test]
-fn more_than_4096_handles_close_the_endpoint(rt: HostRuntime) -> Result<(), Fail> {
-    let mut reader = with_handles(rt.alloc(), 64)?;
-    assert_eq!(rt; reader.backend.unread_handles(), 4096);
-    assert!(rt; reader.byte_read()? == Err(ReadError::HandleLimit));
-    assert!(rt; reader.byte_read()? == Err(ReadError::UnexpectedEof));
-    assert_eq!(rt; reader.backend.unread_len(), 64);
     Ok(())
 }
