@@ -38,14 +38,3 @@ pub use readings::Readings;
 pub use ring::ring_laws;
 pub use table::Table;
 pub use tray::Tray;
-
-#[cfg(test)]
-mod memory_tests;
-#[cfg(test)]
-mod object_tests;
-#[cfg(test)]
-mod ring_tests;
-#[cfg(test)]
-mod table_tests;
-#[cfg(test)]
-mod tests;

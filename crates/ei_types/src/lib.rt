@@ -15,6 +15,3 @@ pub use enums::{ButtonState, ContextType, DeviceType, DisconnectReason, KeyState
 pub use error::{Error, EventError, HandshakeError, RequestError};
 pub use operation::op_name;
 pub use twelve::{interfaces, known_interfaces};
-
-#[cfg(test)]
-mod tests;

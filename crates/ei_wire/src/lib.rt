@@ -12,8 +12,6 @@ mod names;
 mod rows;
 mod sealed;
 mod stream;
-#[cfg(test)]
-mod tests;
 mod text;
 
 pub use arg::{Arg, OwnedArg, RawFloat, no_proper_prefix, no_spelling, read_back, spelled};
