@@ -43,6 +43,3 @@ pub use scroll::Scroll;
 pub use seat::Seat;
 pub use text::Text;
 pub use touchscreen::Touchscreen;
-
-#[cfg(test)]
-mod tests;

@@ -1,0 +1,127 @@
+//! One end alone over bytes, and both ends joined in memory.
+
+use crate::end::End;
+use crate::reading::{NOTHING, answer};
+use crate::row::Row;
+use crate::targets::with_targets;
+use ei_backend::{FIRST_SERVER_ID, HasBackend, Pieces, Tray};
+use ei_spec::Handle;
+use std::alloc::Global;
+use std::fmt::Write;
+use std::test::Fail;
+
+/// The bytes in pieces of this size, but for the last, and the handles with the first.
+pub(crate) fn in_pieces(
+    alloc: Global,
+    bytes: &[u8],
+    handles: &[Handle],
+    size: usize,
+) -> Result<Pieces, Fail> {
+    let mut pieces = Pieces::new(alloc);
+    let mut with = handles;
+    for piece in bytes.chunks(size.max(1)) {
+        if !piece.is_empty() && piece.len() <= 65536 && with.len() <= 64 {
+            pieces.push(piece, with)?;
+            with = &[];
+        }
+    }
+    Ok(pieces)
+}
+
+/// What the bytes of a row are read as by a fresh end, with these handles: the first answer, the second where there
+/// is one, and how many bytes are left.
+pub(crate) fn read_alone<E: End>(
+    alloc: Global,
+    row: &Row,
+    handles: &[Handle],
+) -> Result<String, Fail> {
+    let mut end: E = with_targets(alloc)?;
+    end.read(&mut in_pieces(alloc, &row.bytes, handles, 65536)?)?;
+    let mut text = answer(alloc, &mut end)?;
+    let second = answer(alloc, &mut end)?;
+    if second.as_str() != NOTHING {
+        write!(text, " | then {second}")?;
+    }
+    let left = end.unread_len();
+    if left > 0 {
+        write!(text, " | {left} bytes left")?;
+    }
+    Ok(text)
+}
+
+/// What an end sends: all its messages, flushed into a tray, and its objects then.
+#[derive(Drop)]
+pub(crate) struct Sent {
+    pub(crate) tray: Tray,
+    pub(crate) objects: String,
+}
+
+/// Sends all that the end has.
+pub(crate) fn send<S: End>(alloc: Global) -> Result<Sent, Fail> {
+    let mut sender: S = with_targets(alloc)?;
+    sender.send_all()?;
+    let mut tray = Tray::new(alloc);
+    sender.flush(&mut tray)?;
+    Ok(Sent {
+        tray,
+        objects: objects(alloc, &sender)?,
+    })
+}
+
+/// What an end reads: its messages as texts; how many bytes and handles are left, and its objects then.
+#[derive(Drop)]
+pub(crate) struct Received {
+    pub(crate) messages: Vec<String>,
+    pub(crate) bytes_left: usize,
+    pub(crate) handles_left: usize,
+    pub(crate) objects: String,
+}
+
+/// Carries what was sent to the other end in pieces of this size.
+pub(crate) fn carried<R: End>(alloc: Global, sent: &Tray, size: usize) -> Result<Received, Fail> {
+    let mut reader: R = with_targets(alloc)?;
+    let mut pieces = in_pieces(alloc, sent.bytes(), sent.handles(), size)?;
+    let mut messages = Vec::new(alloc);
+    for _ in sent.bytes().chunks(size.max(1)) {
+        reader.read(&mut pieces)?;
+        push_answers(alloc, &mut messages, &mut reader)?;
+    }
+    Ok(Received {
+        messages,
+        bytes_left: reader.unread_len(),
+        handles_left: reader.backend().unread_handles(),
+        objects: objects(alloc, &reader)?,
+    })
+}
+
+/// Adds each message that is whole.
+fn push_answers<R: End>(
+    alloc: Global,
+    messages: &mut Vec<String>,
+    reader: &mut R,
+) -> Result<(), Fail> {
+    for _ in 0..reader.unread_len() {
+        let text = answer(alloc, reader)?;
+        if text.as_str() == NOTHING {
+            break;
+        }
+        messages.push(text)?;
+    }
+    Ok(())
+}
+
+/// The objects among the first of each end.
+fn objects<E: End>(alloc: Global, end: &E) -> Result<String, Fail> {
+    let mut text = String::new(alloc);
+    for id in (0..4).chain(FIRST_SERVER_ID..FIRST_SERVER_ID + 32) {
+        if let Some(object) = end.backend().object_for_id(id) {
+            write!(
+                text,
+                " | {id:x} {} {}",
+                object.interface(),
+                object.version()
+            )?;
+        }
+    }
+    Ok(text)
+}

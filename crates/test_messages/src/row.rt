@@ -1,0 +1,65 @@
+//! The table of messages, line by line.
+
+use std::alloc::Global;
+use std::io::Input;
+use std::test::Fail;
+
+/// A message: its bytes, and what it is read as.
+#[derive(Drop)]
+pub(crate) struct Row {
+    pub(crate) bytes: Vec<u8>,
+    pub(crate) read_as: String,
+}
+
+/// The messages of each end, and those that are only read.
+#[derive(Drop)]
+pub(crate) struct Table {
+    pub(crate) events: Vec<Row>,
+    pub(crate) requests: Vec<Row>,
+    pub(crate) lone_events: Vec<Row>,
+    pub(crate) lone_requests: Vec<Row>,
+}
+
+impl Table {
+    /// The table that the input spells.
+    pub(crate) fn from_input<R: Input + AllocGlobal>(rt: &R) -> Result<Table, Fail> {
+        let alloc = rt.alloc();
+        let mut table = Table {
+            events: Vec::new(alloc),
+            requests: Vec::new(alloc),
+            lone_events: Vec::new(alloc),
+            lone_requests: Vec::new(alloc),
+        };
+        for line in rt.lines(alloc) {
+            table.push(alloc, line?.as_str())?;
+        }
+        Ok(table)
+    }
+
+    /// Adds a line.
+    fn push(&mut self, alloc: Global, line: &str) -> Result<(), Fail> {
+        let (front, read_as) = line.split_once(" | ").ok_or("no bar")?;
+        let (kind, digits) = front.split_once(' ').ok_or("no bytes")?;
+        let row = Row {
+            bytes: bytes_of(alloc, digits)?,
+            read_as: String::from_str(alloc, read_as)?,
+        };
+        match kind {
+            "event" => self.events.push(row)?,
+            "request" => self.requests.push(row)?,
+            "event-alone" => self.lone_events.push(row)?,
+            "request-alone" => self.lone_requests.push(row)?,
+            _ => return Err("another kind of line")?,
+        }
+        Ok(())
+    }
+}
+
+/// The bytes of hexadecimal digits, two for each byte.
+fn bytes_of(alloc: Global, digits: &str) -> Result<Vec<u8>, Fail> {
+    let mut bytes = Vec::new(alloc);
+    for word in digits.split(' ') {
+        bytes.extend_from_slice(&hex::decode(alloc, word)?)?;
+    }
+    Ok(bytes)
+}

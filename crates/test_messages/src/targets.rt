@@ -1,0 +1,124 @@
+//! The objects that the messages are to: one of each interface, at both ends under the same id.
+
+use crate::end::End;
+use ei_backend::{FIRST_SERVER_ID, HasBackend, Interface, InterfaceName};
+use ei_spec::KnownInterface;
+use std::alloc::Global;
+use std::test::Fail;
+
+/// An object.
+pub(crate) struct Target {
+    pub(crate) interface: KnownInterface,
+    pub(crate) id: u64,
+    version: u32,
+}
+
+/// The object of each interface. The handshake is there from the first, in version 1; the callback is the client's,
+/// and the others are the server's. Their versions are none of the protocol, and all differ.
+pub(crate) const TARGETS: [Target; 13] = [
+    Target {
+        interface: KnownInterface::Handshake,
+        id: 0,
+        version: 1,
+    },
+    Target {
+        interface: KnownInterface::Callback,
+        id: 1,
+        version: 11,
+    },
+    Target {
+        interface: KnownInterface::Connection,
+        id: FIRST_SERVER_ID,
+        version: 12,
+    },
+    Target {
+        interface: KnownInterface::Pingpong,
+        id: FIRST_SERVER_ID + 1,
+        version: 13,
+    },
+    Target {
+        interface: KnownInterface::Seat,
+        id: FIRST_SERVER_ID + 2,
+        version: 14,
+    },
+    Target {
+        interface: KnownInterface::Device,
+        id: FIRST_SERVER_ID + 3,
+        version: 15,
+    },
+    Target {
+        interface: KnownInterface::Pointer,
+        id: FIRST_SERVER_ID + 4,
+        version: 16,
+    },
+    Target {
+        interface: KnownInterface::PointerAbsolute,
+        id: FIRST_SERVER_ID + 5,
+        version: 17,
+    },
+    Target {
+        interface: KnownInterface::Scroll,
+        id: FIRST_SERVER_ID + 6,
+        version: 18,
+    },
+    Target {
+        interface: KnownInterface::Button,
+        id: FIRST_SERVER_ID + 7,
+        version: 19,
+    },
+    Target {
+        interface: KnownInterface::Keyboard,
+        id: FIRST_SERVER_ID + 8,
+        version: 20,
+    },
+    Target {
+        interface: KnownInterface::Touchscreen,
+        id: FIRST_SERVER_ID + 9,
+        version: 21,
+    },
+    Target {
+        interface: KnownInterface::Text,
+        id: FIRST_SERVER_ID + 10,
+        version: 22,
+    },
+];
+
+/// A fresh end with all of them.
+pub(crate) fn with_targets<E: End>(alloc: Global) -> Result<E, Fail> {
+    let mut end = E::new(alloc)?;
+    for target in &TARGETS {
+        if target.interface != KnownInterface::Handshake {
+            put(&mut end, target)?;
+        }
+    }
+    Ok(end)
+}
+
+/// Puts the object into the table, as its own one or as the other end's.
+fn put<E: End>(end: &mut E, target: &Target) -> Result<(), Fail> {
+    let name = InterfaceName::Known(target.interface);
+    let backend = end.backend_mut();
+    if (target.id >= FIRST_SERVER_ID) == E::IS_CLIENT {
+        backend.new_peer_object(target.id, name, target.version)?;
+    } else {
+        backend.new_object(name, target.version)?;
+    }
+    Ok(())
+}
+
+/// The id of the object of the interface of that name.
+fn id_of(name: &str) -> Option<u64> {
+    for target in &TARGETS {
+        if target.interface.name() == name {
+            return Some(target.id);
+        }
+    }
+    None
+}
+
+/// The proxy of this type over the object of its interface.
+pub(crate) fn proxy<T: Interface, C: HasBackend>(context: &C) -> Result<T, Fail> {
+    let id = id_of(T::wire_name()).ok_or("no such interface")?;
+    let object = context.backend().object_for_id(id).ok_or("no object")?;
+    Ok(object.clone()?.downcast::<T>().ok_or("another interface")?)
+}
