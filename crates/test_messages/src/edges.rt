@@ -2,10 +2,9 @@
 
 use crate::joined::in_pieces;
 use crate::targets::{proxy, with_targets};
-use ei_backend::{HasBackend, Interface, Object, PendingRequestResult, Tray};
-use ei_server::Request;
-use ei_server::handshake::Request as HandshakeRequest;
+use ei_backend::{HasBackend, Interface, MessageEnum, Object, PendingRequestResult, Tray};
 use ei_types::DisconnectReason;
+use ei_wire::Arg;
 use std::alloc::Global;
 use std::io::Print;
 use std::test::Fail;
@@ -59,13 +58,21 @@ fn letters_read(alloc: Global, sent: &Tray) -> Result<usize, Fail> {
     for _ in sent.bytes().chunks(65536) {
         server.read(&mut pieces)?;
     }
-    let answer = server.pending_request()?;
-    match &answer {
-        Some(
-            PendingRequestResult::Request(Request::Handshake(_, HandshakeRequest::Name { name })),
-        ) => Ok(name.len()),
-        _ => Err("no name")?,
+    match server.pending_request()? {
+        Some(PendingRequestResult::Request(request)) => letters_of(alloc, &request),
+        _ => Err("no request")?,
     }
+}
+
+/// How many bytes the text of the message has.
+fn letters_of<M: MessageEnum>(alloc: Global, message: &M) -> Result<usize, Fail> {
+    let mut count = 0usize;
+    for arg in &message.args(alloc)? {
+        if let Arg::String(Some(text)) = arg {
+            count = text.len();
+        }
+    }
+    Ok(count)
 }
 
 /// Whether a seat of the server has a proxy of a connection, and one of a client's seat; and a connection of the
