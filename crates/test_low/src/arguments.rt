@@ -52,18 +52,32 @@ fn is_written(
 
 /// The bytes of the first argument that is written otherwise.
 fn written_otherwise(alloc: Global) -> Result<Option<&'static [u8]>, Fail> {
-    for (arg, bytes, handles) in WRITTEN {
-        if !is_written(alloc, &arg, bytes, handles)? {
-            return Ok(Some(bytes));
+    for (arg, bytes, handles) in &WRITTEN {
+        if !is_written(alloc, arg, bytes, handles)? {
+            return Ok(Some(*bytes));
         }
     }
     Ok(None)
 }
 
-#[test]
-fn each_kind_is_written(rt: HostRuntime) -> Result<(), Fail> {
-    assert!(rt; written_otherwise(rt.alloc())?.is_none());
-    Ok(())
+/// Whether the next argument is this value.
+fn is_next<T: OwnedArg + PartialEq + Drop>(
+    stream: &mut ByteStream<'_>,
+    value: &T,
+) -> Result<bool, Fail> {
+    Ok(stream.read_arg::<T>()? == *value)
+}
+
+/// Whether all of the bytes and handles are read as the value of any kind.
+fn is_read<T: OwnedArg + PartialEq + Drop>(
+    alloc: Global,
+    value: &T,
+    bytes: &[u8],
+    handles: &[Handle],
+) -> Result<bool, Fail> {
+    let mut stream = ByteStream::new(alloc, bytes, handles);
+    let is_value = is_next(&mut stream, value)?;
+    Ok(is_value && stream.rest() == 0 && stream.handles_taken() == handles.len())
 }
 
 /// Whether all of the bytes and handles are read as the value of any kind, and it is written as they are.
@@ -73,88 +87,128 @@ fn stands_for<T: OwnedArg + PartialEq + Drop>(
     bytes: &[u8],
     handles: &[Handle],
 ) -> Result<bool, Fail> {
-    let mut stream = ByteStream::new(alloc, bytes, handles);
-    let same = stream.read_arg::<T>()? == *value;
-    let whole = stream.rest() == 0 && stream.handles_taken() == handles.len();
-    Ok(same && whole && is_written(alloc, &value.as_arg(), bytes, handles)?)
+    Ok(
+        is_read(alloc, value, bytes, handles)?
+            && is_written(alloc, &value.as_arg(), bytes, handles)?,
+    )
 }
 
-#[test]
-fn numbers_are_read(rt: HostRuntime) -> Result<(), Fail> {
-    let alloc = rt.alloc();
-    assert!(rt; stands_for(alloc, &0x01020304u32, b"\x04\x03\x02\x01", &[])?);
-    assert!(rt; stands_for(alloc, &-2i32, b"\xfe\xff\xff\xff", &[])?);
-    let long = 0x0102030405060708u64;
-    assert!(rt; stands_for(alloc, &long, b"\x08\x07\x06\x05\x04\x03\x02\x01", &[])?);
-    assert!(rt; stands_for(alloc, &-3i64, b"\xfd\xff\xff\xff\xff\xff\xff\xff", &[])?);
-    assert!(rt; stands_for(alloc, &RawFloat(0x3f800000), b"\0\0\x80\x3f", &[])?);
-    Ok(())
+/// Whether the numbers of each kind are read and written.
+fn numbers_are_read(alloc: Global) -> Result<bool, Fail> {
+    Ok(
+        stands_for(alloc, &0x01020304u32, b"\x04\x03\x02\x01", &[])?
+            && stands_for(alloc, &-2i32, b"\xfe\xff\xff\xff", &[])?
+            && stands_for(
+                alloc,
+                &0x0102030405060708u64,
+                b"\x08\x07\x06\x05\x04\x03\x02\x01",
+                &[],
+            )?
+            && stands_for(alloc, &-3i64, b"\xfd\xff\xff\xff\xff\xff\xff\xff", &[])?
+            && stands_for(alloc, &RawFloat(0x3f800000), b"\0\0\x80\x3f", &[])?,
+    )
 }
 
-#[test]
-fn texts_and_handles_are_read(rt: HostRuntime) -> Result<(), Fail> {
-    let alloc = rt.alloc();
-    assert!(rt; stands_for(alloc, &Handle(7), b"", &[Handle(7)])?);
+/// Whether a text is read and written, and one that may be null.
+fn texts_are_read(alloc: Global) -> Result<bool, Fail> {
     let text = EiText::new(alloc, "ab")?;
-    assert!(rt; stands_for(alloc, &text, b"\x03\0\0\0ab\0\0", &[])?);
-    assert!(rt; stands_for(alloc, &Some(text), b"\x03\0\0\0ab\0\0", &[])?);
-    assert!(rt; stands_for(alloc, &None::<EiText>, b"\0\0\0\0", &[])?);
-    Ok(())
+    let is_text = stands_for(alloc, &text, b"\x03\0\0\0ab\0\0", &[])?;
+    Ok(is_text && stands_for(alloc, &Some(text), b"\x03\0\0\0ab\0\0", &[])?)
 }
 
-/// Whether reading any kind is refused with this error, and takes neither a byte nor a handle.
-fn is_refused<T: OwnedArg + Drop>(stream: &mut ByteStream<'_>, want: ParseError) -> bool {
-    let before = (stream.rest(), stream.handles_taken());
+/// Whether null is read and written, and a handle.
+fn null_and_handles_are_read(alloc: Global) -> Result<bool, Fail> {
+    Ok(
+        stands_for(alloc, &None::<EiText>, b"\0\0\0\0", &[])?
+            && stands_for(alloc, &Handle(7), b"", &[Handle(7)])?,
+    )
+}
+
+/// Whether reading any kind is refused with this error.
+fn refuses<T: OwnedArg + Drop>(stream: &mut ByteStream<'_>, want: &ParseError) -> bool {
     match stream.read_arg::<T>() {
         Ok(_) => false,
-        Err(error) => error == want && (stream.rest(), stream.handles_taken()) == before,
+        Err(error) => error == *want,
     }
 }
 
+/// Whether it is refused so, and so many bytes stay, of which none is taken, and so many handles are taken.
+fn is_refused<T: OwnedArg + Drop>(
+    stream: &mut ByteStream<'_>,
+    want: &ParseError,
+    rest: usize,
+    taken: usize,
+) -> bool {
+    refuses::<T>(stream, want) && stream.rest() == rest && stream.handles_taken() == taken
+}
+
+/// Whether seven bytes are refused as numbers for which they are too few.
+fn numbers_are_refused(stream: &mut ByteStream<'_>) -> Result<bool, Fail> {
+    Ok(
+        is_refused::<u64>(stream, &ParseError::EndOfMessage, 7, 0)
+            && is_next(stream, &0x04030201u32)?
+            && is_refused::<i32>(stream, &ParseError::EndOfMessage, 3, 0),
+    )
+}
+
+/// Whether a handle is refused behind the only one.
+fn a_second_handle_is_refused(stream: &mut ByteStream<'_>) -> Result<bool, Fail> {
+    Ok(is_next(stream, &Handle(7))? && is_refused::<Handle>(stream, &ParseError::NoFd, 3, 1))
+}
+
+/// Whether what is refused stays.
+fn what_is_refused_stays(alloc: Global) -> Result<bool, Fail> {
+    let mut stream = ByteStream::new(alloc, b"\x01\x02\x03\x04\x05\x06\x07", &[Handle(7)]);
+    Ok(numbers_are_refused(&mut stream)? && a_second_handle_is_refused(&mut stream)?)
+}
+
+/// Arguments, and what they are shown as.
+const SHOWN: [(Arg<'static>, &str); 13] = [
+    (Arg::Uint32(4294967295), "4294967295"),
+    (Arg::Int32(-5), "-5"),
+    (Arg::Uint64(18446744073709551615), "18446744073709551615"),
+    (Arg::Int64(-9223372036854775808), "-9223372036854775808"),
+    (Arg::Float(0x3f800000), "3f800000"),
+    (Arg::Float(0xab), "000000ab"),
+    (Arg::Fd(Handle(3)), "fd 3"),
+    (Arg::NewId(0xff0000000000000a), "new_id ff0000000000000a"),
+    (Arg::Id(0), "id 0"),
+    (Arg::String(None), "None"),
+    (Arg::String(Some("")), "Some(\"\")"),
+    (Arg::String(Some(" az~")), "Some(\" az~\")"),
+    (
+        Arg::String(Some("\"\\\n\0\u{7f}\u{e9}")),
+        "Some(\"\\x22\\x5c\\x0a\\x00\\x7f\\xc3\\xa9\")",
+    ),
+];
+
+/// Whether a header is read from its bytes, and written as them.
+fn is_header(bytes: [u8; 16], header: Header) -> bool {
+    Header::parse(bytes) == header && header.as_bytes() == bytes
+}
+
 #[test]
-fn what_is_refused_stays(rt: HostRuntime) -> Result<(), Fail> {
-    let mut stream = ByteStream::new(rt.alloc(), b"\x01\x02\x03\x04\x05\x06\x07", &[Handle(7)]);
-    assert!(rt; is_refused::<u64>(&mut stream, ParseError::EndOfMessage));
-    assert!(rt; stream.read_arg::<u32>()? == 0x04030201);
-    assert!(rt; is_refused::<i32>(&mut stream, ParseError::EndOfMessage));
-    assert!(rt; stream.read_arg::<Handle>()? == Handle(7));
-    assert!(rt; is_refused::<Handle>(&mut stream, ParseError::NoFd));
-    assert!(rt; stream.rest() == 3 && stream.handles_taken() == 1);
+fn arguments_are_written_and_read(rt: HostRuntime) -> Result<(), Fail> {
+    assert!(rt; written_otherwise(rt.alloc())?.is_none());
+    assert!(rt; numbers_are_read(rt.alloc())?);
+    assert!(rt; texts_are_read(rt.alloc())?);
+    assert!(rt; null_and_handles_are_read(rt.alloc())?);
+    assert!(rt; what_is_refused_stays(rt.alloc())?);
     Ok(())
 }
 
 #[test]
-fn texts_of_arguments(rt: HostRuntime) -> Result<(), Fail> {
-    let rows = [
-        (Arg::Uint32(4294967295), "4294967295"),
-        (Arg::Int32(-5), "-5"),
-        (Arg::Uint64(18446744073709551615), "18446744073709551615"),
-        (Arg::Int64(-9223372036854775808), "-9223372036854775808"),
-        (Arg::Float(0x3f800000), "3f800000"),
-        (Arg::Float(0xab), "000000ab"),
-        (Arg::Fd(Handle(3)), "fd 3"),
-        (Arg::NewId(0xff0000000000000a), "new_id ff0000000000000a"),
-        (Arg::Id(0), "id 0"),
-        (Arg::String(None), "None"),
-        (Arg::String(Some("")), "Some(\"\")"),
-        (Arg::String(Some(" az~")), "Some(\" az~\")"),
-        (
-            Arg::String(Some("\"\\\n\0\u{7f}\u{e9}")),
-            "Some(\"\\x22\\x5c\\x0a\\x00\\x7f\\xc3\\xa9\")",
-        ),
-    ];
-    assert!(rt; other_text(rt.alloc(), &rows)?.is_none());
+fn arguments_are_shown(rt: HostRuntime) -> Result<(), Fail> {
+    assert!(rt; other_text(rt.alloc(), &SHOWN)?.is_none());
     Ok(())
 }
 
 #[test]
 fn header_of_a_message(rt: HostRuntime) {
-    let bytes = *b"\x01\0\0\0\0\0\0\xff\x28\0\0\0\x04\0\0\x01";
     let header = Header {
         object_id: 0xff00000000000001,
         length: 40,
         opcode: 0x01000004,
     };
-    assert!(rt; Header::parse(bytes) == header);
-    assert!(rt; header.as_bytes() == bytes);
+    assert!(rt; is_header(*b"\x01\0\0\0\0\0\0\xff\x28\0\0\0\x04\0\0\x01", header));
 }

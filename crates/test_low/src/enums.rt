@@ -1,5 +1,6 @@
 //! The enums of the protocol, capabilities and sets of them.
 
+use crate::errors::is_shown;
 use ei_types::{
     ButtonState, ContextType, DeviceCapabilities, DeviceCapability, DeviceType, DisconnectReason,
     KeyState, KeymapType,
@@ -8,94 +9,129 @@ use ei_wire::{ByteStream, EiText, OwnedArg, ParseError, RawFloat};
 use std::alloc::Global;
 use std::test::Fail;
 
-/// Whether each value is read from its number, is shown by it, and has these names; and every number of `unknown`
-/// is refused.
+/// Whether the value is read from these bytes.
+fn is_read<T: OwnedArg + PartialEq + Drop>(
+    alloc: Global,
+    value: &T,
+    bytes: &[u8],
+) -> Result<bool, Fail> {
+    let mut stream = ByteStream::new(alloc, bytes, &[]);
+    Ok(stream.read_arg::<T>()? == *value)
+}
+
+/// Whether the value is shown by its number.
+fn is_shown_by<T: OwnedArg>(alloc: Global, value: &T, number: u32) -> Result<bool, Fail> {
+    let digits = format!(in alloc; "{number}")?;
+    is_shown(alloc, &value.as_arg(), digits.as_str())
+}
+
+/// Whether each value is read from its number, is shown by it, and has these names.
 fn stand<T: OwnedArg + PartialEq + Drop>(
     alloc: Global,
-    type_name: &str,
     snake_name: &str,
     rows: &[(T, u32, &str)],
-    unknown: &[u32],
 ) -> Result<bool, Fail> {
     for (value, number, name) in rows {
-        let bytes = number.to_le_bytes();
-        let mut stream = ByteStream::new(alloc, &bytes, &[]);
-        if stream.read_arg::<T>()? != *value || value.enum_name() != Some((snake_name, *name)) {
+        let is_value = is_read(alloc, value, &number.to_le_bytes())?;
+        let is_named = value.enum_name() == Some((snake_name, *name));
+        if !is_value || !is_named || !is_shown_by(alloc, value, *number)? {
             return Ok(false);
-        }
-        let arg = value.as_arg();
-        if format!(in alloc; "{arg}")?.as_str() != format!(in alloc; "{number}")?.as_str() {
-            return Ok(false);
-        }
-    }
-    for number in unknown {
-        let bytes = number.to_le_bytes();
-        let mut stream = ByteStream::new(alloc, &bytes, &[]);
-        match stream.read_arg::<T>() {
-            Err(ParseError::InvalidVariant(name, found)) if name == type_name && found == *number =>
-                {}
-            _ => return Ok(false),
         }
     }
     Ok(true)
 }
 
+/// Whether the number in these bytes is refused by that type.
+fn is_refused<T: OwnedArg + Drop>(
+    alloc: Global,
+    type_name: &str,
+    number: u32,
+    bytes: &[u8],
+) -> bool {
+    let mut stream = ByteStream::new(alloc, bytes, &[]);
+    match stream.read_arg::<T>() {
+        Err(ParseError::InvalidVariant(name, found)) => name == type_name && found == number,
+        _ => false,
+    }
+}
+
+/// Whether each of these numbers is refused by that type.
+fn are_refused<T: OwnedArg + Drop>(alloc: Global, type_name: &str, numbers: &[u32]) -> bool {
+    for number in numbers {
+        if !is_refused::<T>(alloc, type_name, *number, &number.to_le_bytes()) {
+            return false;
+        }
+    }
+    true
+}
+
+/// The context types, their numbers and their names, and the same of the other enums.
+const CONTEXTS: [(ContextType, u32, &str); 2] = [
+    (ContextType::Receiver, 1, "receiver"),
+    (ContextType::Sender, 2, "sender"),
+];
+
+const REASONS: [(DisconnectReason, u32, &str); 6] = [
+    (DisconnectReason::Disconnected, 0, "disconnected"),
+    (DisconnectReason::Error, 1, "error"),
+    (DisconnectReason::Mode, 2, "mode"),
+    (DisconnectReason::Protocol, 3, "protocol"),
+    (DisconnectReason::Value, 4, "value"),
+    (DisconnectReason::Transport, 5, "transport"),
+];
+
+const DEVICES: [(DeviceType, u32, &str); 2] = [
+    (DeviceType::Virtual, 1, "virtual"),
+    (DeviceType::Physical, 2, "physical"),
+];
+
+const KEYMAPS: [(KeymapType, u32, &str); 1] = [(KeymapType::Xkb, 1, "xkb")];
+
+const BUTTONS: [(ButtonState, u32, &str); 2] = [
+    (ButtonState::Released, 0, "released"),
+    (ButtonState::Press, 1, "press"),
+];
+
+const KEYS: [(KeyState, u32, &str); 2] = [
+    (KeyState::Released, 0, "released"),
+    (KeyState::Press, 1, "press"),
+];
+
+/// Whether all of their values are read, and have their names.
+fn enums_are_read(alloc: Global) -> Result<bool, Fail> {
+    Ok(
+        stand(alloc, "context_type", &CONTEXTS)?
+            && stand(alloc, "disconnect_reason", &REASONS)?
+            && stand(alloc, "device_type", &DEVICES)?
+            && stand(alloc, "keymap_type", &KEYMAPS)?
+            && stand(alloc, "button_state", &BUTTONS)?
+            && stand(alloc, "key_state", &KEYS)?,
+    )
+}
+
+/// Whether all refuse other numbers.
+fn enums_refuse_others(alloc: Global) -> bool {
+    are_refused::<ContextType>(alloc, "ContextType", &[0, 3])
+        && are_refused::<DisconnectReason>(alloc, "DisconnectReason", &[6, 256])
+        && are_refused::<DeviceType>(alloc, "DeviceType", &[0, 3])
+        && are_refused::<KeymapType>(alloc, "KeymapType", &[0, 2])
+        && are_refused::<ButtonState>(alloc, "ButtonState", &[2])
+        && are_refused::<KeyState>(alloc, "KeyState", &[2, u32::MAX])
+}
+
+/// Whether a number or a text is no enum's.
+fn others_are_no_enums(alloc: Global) -> Result<bool, Fail> {
+    let text = EiText::new(alloc, "sender")?;
+    let are_numbers = 1u32.enum_name().is_none() && RawFloat(1).enum_name().is_none();
+    Ok(are_numbers && text.enum_name().is_none())
+}
+
 #[test]
-fn enums_of_a_connection(rt: HostRuntime) -> Result<(), Fail> {
-    let alloc = rt.alloc();
-    let contexts = [
-        (ContextType::Receiver, 1, "receiver"),
-        (ContextType::Sender, 2, "sender"),
-    ];
-    assert!(rt; stand(alloc, "ContextType", "context_type", &contexts, &[0, 3])?);
-    let reasons = [
-        (DisconnectReason::Disconnected, 0, "disconnected"),
-        (DisconnectReason::Error, 1, "error"),
-        (DisconnectReason::Mode, 2, "mode"),
-        (DisconnectReason::Protocol, 3, "protocol"),
-        (DisconnectReason::Value, 4, "value"),
-        (DisconnectReason::Transport, 5, "transport"),
-    ];
-    let (type_name, snake_name) = ("DisconnectReason", "disconnect_reason");
-    assert!(rt; stand(alloc, type_name, snake_name, &reasons, &[6, 256])?);
+fn enums_of_the_protocol(rt: HostRuntime) -> Result<(), Fail> {
+    assert!(rt; enums_are_read(rt.alloc())?);
+    assert!(rt; enums_refuse_others(rt.alloc()));
+    assert!(rt; others_are_no_enums(rt.alloc())?);
     assert!(rt; u32::from(DisconnectReason::Transport) == 5);
-    Ok(())
-}
-
-#[test]
-fn enums_of_a_device(rt: HostRuntime) -> Result<(), Fail> {
-    let alloc = rt.alloc();
-    let devices = [
-        (DeviceType::Virtual, 1, "virtual"),
-        (DeviceType::Physical, 2, "physical"),
-    ];
-    assert!(rt; stand(alloc, "DeviceType", "device_type", &devices, &[0, 3])?);
-    let keymaps = [(KeymapType::Xkb, 1, "xkb")];
-    assert!(rt; stand(alloc, "KeymapType", "keymap_type", &keymaps, &[0, 2])?);
-    Ok(())
-}
-
-#[test]
-fn enums_of_buttons_and_keys(rt: HostRuntime) -> Result<(), Fail> {
-    let alloc = rt.alloc();
-    let buttons = [
-        (ButtonState::Released, 0, "released"),
-        (ButtonState::Press, 1, "press"),
-    ];
-    assert!(rt; stand(alloc, "ButtonState", "button_state", &buttons, &[2])?);
-    let keys = [
-        (KeyState::Released, 0, "released"),
-        (KeyState::Press, 1, "press"),
-    ];
-    assert!(rt; stand(alloc, "KeyState", "key_state", &keys, &[2, u32::MAX])?);
-    Ok(())
-}
-
-#[test]
-fn numbers_and_texts_are_no_enums(rt: HostRuntime) -> Result<(), Fail> {
-    assert!(rt; 1u32.enum_name().is_none());
-    assert!(rt; RawFloat(1).enum_name().is_none());
-    assert!(rt; EiText::new(rt.alloc(), "sender")?.enum_name().is_none());
     Ok(())
 }
 
@@ -142,12 +178,6 @@ fn other_capability() -> Option<&'static str> {
     None
 }
 
-#[test]
-fn capabilities_by_rising_bit(rt: HostRuntime) {
-    assert!(rt; other_capability().is_none());
-    assert!(rt; DeviceCapability::from_interface_name("ei_seat").is_none());
-}
-
 /// The set of all seven, put together one by one.
 fn seven() -> DeviceCapabilities {
     let mut union = DeviceCapabilities::empty();
@@ -159,12 +189,19 @@ fn seven() -> DeviceCapabilities {
     union
 }
 
+/// Whether the set of all has each, and a set of one no other.
+fn are_sets(all: DeviceCapabilities) -> bool {
+    all == DeviceCapabilities::all()
+        && all.bits() == 127
+        && all.contains(DeviceCapabilities::TEXT)
+        && !DeviceCapabilities::POINTER.contains(DeviceCapabilities::TEXT)
+        && !DeviceCapabilities::POINTER.contains(all)
+}
+
 #[test]
-fn sets_of_capabilities(rt: HostRuntime) {
-    let all = seven();
-    assert!(rt; all == DeviceCapabilities::all() && all.bits() == 127);
-    assert!(rt; all.contains(DeviceCapabilities::TEXT));
-    assert!(rt; !DeviceCapabilities::POINTER.contains(DeviceCapabilities::TEXT));
-    assert!(rt; !DeviceCapabilities::POINTER.contains(all));
+fn capabilities_and_sets_of_them(rt: HostRuntime) {
+    assert!(rt; other_capability().is_none());
+    assert!(rt; are_sets(seven()));
+    assert!(rt; DeviceCapability::from_interface_name("ei_seat").is_none());
     assert!(rt; DeviceCapabilities::from_bits(128).is_none());
 }

@@ -2,7 +2,7 @@
 
 ghost use Rattle.std.specs.Prelude.{None};
 
-use crate::version::give;
+use crate::version::{endpoint, give, reads};
 use ei_backend::{Backend, InterfaceName, Pieces, PutError, Sink, Tray};
 use ei_spec::{Handle, KnownInterface};
 use ei_wire::{Arg, FlushError};
@@ -12,10 +12,19 @@ use std::test::Fail;
 /// The message of opcode 7 to object 0, with the word 1.
 const MESSAGE: &[u8] = b"\0\0\0\0\0\0\0\0\x14\0\0\0\x07\0\0\0\x01\0\0\0";
 
-/// A server with that message, and a handle beside it, that waits.
+/// Its arguments: the word, and a handle.
+const ARGS: [Arg<'static>; 2] = [Arg::Uint32(1), Arg::Fd(Handle(9))];
+
+/// Sends a message to object 0.
+fn send(backend: &mut Backend, opcode: u32, args: &[Arg<'_>]) -> Result<(), Fail> {
+    backend.request(0, opcode, args)?;
+    Ok(())
+}
+
+/// A server with that message, and the handle beside it, that waits.
 fn with_message(alloc: Global) -> Result<Backend, Fail> {
-    let mut backend = Backend::new(alloc, false)?;
-    backend.request(0, 7, &[Arg::Uint32(1), Arg::Fd(Handle(9))])?;
+    let mut backend = endpoint(alloc, false)?;
+    send(&mut backend, 7, &ARGS)?;
     Ok(backend)
 }
 
@@ -29,34 +38,69 @@ fn has(tray: &Tray, bytes: &[u8], handles: &[Handle]) -> bool {
     tray.bytes() == bytes && tray.handles() == handles
 }
 
-#[test]
-fn what_is_flushed_is_read(rt: HostRuntime) -> Result<(), Fail> {
-    let mut server = with_message(rt.alloc())?;
-    let mut tray = Tray::new(rt.alloc());
+/// What the server sends.
+fn sent(alloc: Global) -> Result<Tray, Fail> {
+    let mut server = with_message(alloc)?;
+    let mut tray = Tray::new(alloc);
     server.flush(&mut tray)?;
-    let mut pieces = Pieces::new(rt.alloc());
-    give(&mut pieces, tray.bytes(), tray.handles())?;
-    let mut client = Backend::new(rt.alloc(), true)?;
-    assert!(rt; client.read(&mut pieces) == Ok(20));
-    assert!(rt; client.unread_len() == 20 && client.unread_handles() == 1);
-    Ok(())
+    Ok(tray)
 }
 
-// The first call fails, and the third: the flush of nothing makes no call.
-#[test]
-fn what_a_sink_refused_waits(rt: HostRuntime) -> Result<(), Fail> {
-    let mut server = with_message(rt.alloc())?;
-    let mut tray = Tray::new(rt.alloc());
+/// A source of what was sent.
+fn source_of(alloc: Global, tray: &Tray) -> Result<Pieces, Fail> {
+    let mut pieces = Pieces::new(alloc);
+    give(&mut pieces, tray.bytes(), tray.handles())?;
+    Ok(pieces)
+}
+
+/// Whether the message and the handle come from it.
+fn comes(backend: &mut Backend, pieces: &mut Pieces) -> bool {
+    reads(backend, pieces, Ok(20)) && backend.unread_len() == 20 && backend.unread_handles() == 1
+}
+
+/// Whether what is flushed is read.
+fn what_is_flushed_is_read(alloc: Global) -> Result<bool, Fail> {
+    let tray = sent(alloc)?;
+    let mut pieces = source_of(alloc, &tray)?;
+    let mut client = endpoint(alloc, true)?;
+    Ok(comes(&mut client, &mut pieces))
+}
+
+/// Whether the sink fails.
+fn fails<K: Sink>(server: &mut Backend, sink: &mut K) -> bool {
+    server.flush(sink) == Err(FlushError::WriteFault)
+}
+
+/// Whether all that waits goes, and then nothing.
+fn goes<K: Sink>(server: &mut Backend, sink: &mut K) -> bool {
+    server.flush(sink) == Ok(()) && server.flush(sink) == Ok(())
+}
+
+/// A tray that fails at its first call, and at its third.
+fn failing_twice(alloc: Global) -> Result<Tray, Fail> {
+    let mut tray = Tray::new(alloc);
     tray.fail_at(1)?;
     tray.fail_at(3)?;
-    assert!(rt; server.flush(&mut tray) == Err(FlushError::WriteFault));
-    assert!(rt; waits(&server, MESSAGE, &[Handle(9)]) && has(&tray, &[], &[]));
-    assert!(rt; server.flush(&mut tray) == Ok(()));
-    assert!(rt; server.flush(&mut tray) == Ok(()));
-    assert!(rt; waits(&server, &[], &[]) && has(&tray, MESSAGE, &[Handle(9)]));
-    server.request(0, 8, &[])?;
-    assert!(rt; server.flush(&mut tray) == Err(FlushError::WriteFault));
-    Ok(())
+    Ok(tray)
+}
+
+/// Whether the message waits after the first call, and goes with the second.
+fn goes_second(server: &mut Backend, tray: &mut Tray) -> bool {
+    let waited = fails(server, tray) && waits(server, MESSAGE, &[Handle(9)]) && has(tray, &[], &[]);
+    waited && goes(server, tray) && waits(server, &[], &[]) && has(tray, MESSAGE, &[Handle(9)])
+}
+
+/// Whether another message is refused then: the flush of nothing makes no call.
+fn fails_third(server: &mut Backend, tray: &mut Tray) -> Result<bool, Fail> {
+    send(server, 8, &[])?;
+    Ok(fails(server, tray))
+}
+
+/// Whether what a sink refused waits.
+fn what_a_sink_refused_waits(alloc: Global) -> Result<bool, Fail> {
+    let mut server = with_message(alloc)?;
+    let mut tray = failing_twice(alloc)?;
+    Ok(goes_second(&mut server, &mut tray) && fails_third(&mut server, &mut tray)?)
 }
 
 /// A tray that takes at most three bytes a call.
@@ -82,56 +126,106 @@ impl Sink for Narrow {
     }
 }
 
-// The handles go with the first bytes, and the bytes that went before the fault aren't sent again.
-#[test]
-fn what_went_before_a_fault_is_gone(rt: HostRuntime) -> Result<(), Fail> {
-    let mut server = with_message(rt.alloc())?;
-    let mut tray = Tray::new(rt.alloc());
+/// Such a tray that fails at its third call.
+fn narrow_tray(alloc: Global) -> Result<Narrow, Fail> {
+    let mut tray = Tray::new(alloc);
     tray.fail_at(3)?;
-    let mut sink = Narrow { tray };
+    Ok(Narrow { tray })
+}
+
+/// Whether the handle goes with the first bytes, and the bytes that went before the fault aren't sent again.
+fn goes_in_two(server: &mut Backend, sink: &mut Narrow) -> bool {
     let (first, others) = MESSAGE.split_at(MESSAGE.len().min(6));
-    assert!(rt; server.flush(&mut sink) == Err(FlushError::WriteFault));
-    assert!(rt; waits(&server, others, &[]) && has(&sink.tray, first, &[Handle(9)]));
-    assert!(rt; server.flush(&mut sink) == Ok(()));
-    assert!(rt; waits(&server, &[], &[]) && has(&sink.tray, MESSAGE, &[Handle(9)]));
+    let parted = fails(server, sink)
+        && waits(server, others, &[])
+        && has(&sink.tray, first, &[Handle(9)]);
+    parted
+        && goes(server, sink)
+        && waits(server, &[], &[])
+        && has(&sink.tray, MESSAGE, &[Handle(9)])
+}
+
+/// Whether what went before a fault is gone.
+fn what_went_before_a_fault_is_gone(alloc: Global) -> Result<bool, Fail> {
+    let mut server = with_message(alloc)?;
+    let mut sink = narrow_tray(alloc)?;
+    Ok(goes_in_two(&mut server, &mut sink))
+}
+
+/// Announces a callback with these arguments.
+fn announce_with(backend: &mut Backend, args: &[Arg<'_>]) -> Result<(), Fail> {
+    let callback = InterfaceName::Known(KnownInterface::Callback);
+    backend.request_new(0, 2, args, callback, 1)?;
     Ok(())
 }
 
-/// Announces so many callbacks, each with a handle.
+/// Announces a callback, with a handle.
+fn announce(backend: &mut Backend, number: u32) -> Result<(), Fail> {
+    let id = backend.next_id();
+    announce_with(
+        backend,
+        &[Arg::NewId(id), Arg::Uint32(number), Arg::Fd(Handle(3))],
+    )
+}
+
+/// Announces so many callbacks.
 fn burst(backend: &mut Backend, count: u32) -> Result<(), Fail> {
     for number in 0..count {
-        let id = backend.next_id();
-        let args = [Arg::NewId(id), Arg::Uint32(number), Arg::Fd(Handle(3))];
-        let callback = InterfaceName::Known(KnownInterface::Callback);
-        backend.request_new(0, 2, &args, callback, 1)?;
+        announce(backend, number)?;
     }
     Ok(())
 }
 
-/// Whether so many bytes and handles wait.
-fn waits_as_many(backend: &Backend, bytes: usize, handles: usize) -> bool {
-    backend.unsent().len() == bytes && backend.unsent_handles().len() == handles
-}
-
-// No memory holds as much as is asked for last, and then nothing changes.
-#[test]
-fn a_burst_after_room_was_made(rt: HostRuntime) -> Result<(), Fail> {
-    let mut server = Backend::new(rt.alloc(), false)?;
+/// A server with room for fifty callbacks, and with them.
+fn with_burst(alloc: Global) -> Result<Backend, Fail> {
+    let mut server = endpoint(alloc, false)?;
     server.reserve(50 * 28, 50, 50)?;
     burst(&mut server, 50)?;
-    assert!(rt; waits_as_many(&server, 1400, 50));
-    assert!(rt; server.next_id() == 0xff00_0000_0000_0032);
-    assert!(rt; server.reserve(usize::MAX, 0, 1).is_err());
-    assert!(rt; server.reserve(1, usize::MAX, 1).is_err());
-    assert!(rt; waits_as_many(&server, 1400, 50));
+    Ok(server)
+}
+
+/// Whether the fifty callbacks wait.
+fn has_burst(backend: &Backend) -> bool {
+    backend.unsent().len() == 1400
+        && backend.unsent_handles().len() == 50
+        && backend.next_id() == 0xff00_0000_0000_0032
+}
+
+/// Whether room is refused that no memory holds.
+fn is_refused_room(backend: &mut Backend) -> bool {
+    backend.reserve(usize::MAX, 0, 1).is_err() && backend.reserve(1, usize::MAX, 1).is_err()
+}
+
+/// Whether a burst finds the room that was made, and room that is refused changes nothing.
+fn a_burst_finds_room(alloc: Global) -> Result<bool, Fail> {
+    let mut server = with_burst(alloc)?;
+    Ok(has_burst(&server) && is_refused_room(&mut server) && has_burst(&server))
+}
+
+/// Whether room is made for any number of objects, and the last one finds it.
+fn is_room_for_the_last(backend: &mut Backend) -> Result<bool, Fail> {
+    backend.reserve(0, 0, usize::MAX)?;
+    announce(backend, 1)?;
+    Ok(backend.ids_left() == 0)
+}
+
+/// Whether room for any number of objects is made where one id is left.
+fn one_id_finds_room(alloc: Global) -> Result<bool, Fail> {
+    let mut client = Backend::with_next_id(alloc, true, 0xff00_0000_0000_0000 - 1)?;
+    is_room_for_the_last(&mut client)
+}
+
+#[test]
+fn what_waits_is_flushed(rt: HostRuntime) -> Result<(), Fail> {
+    assert!(rt; what_is_flushed_is_read(rt.alloc())?);
+    assert!(rt; what_a_sink_refused_waits(rt.alloc())?);
+    assert!(rt; what_went_before_a_fault_is_gone(rt.alloc())?);
     Ok(())
 }
 
 #[test]
-fn room_for_one_object_where_one_id_is_left(rt: HostRuntime) -> Result<(), Fail> {
-    let mut client = Backend::with_next_id(rt.alloc(), true, 0xff00_0000_0000_0000 - 1)?;
-    client.reserve(0, 0, usize::MAX)?;
-    burst(&mut client, 1)?;
-    assert!(rt; client.ids_left() == 0);
+fn room_is_made(rt: HostRuntime) -> Result<(), Fail> {
+    assert!(rt; a_burst_finds_room(rt.alloc())?);
+    assert!(rt; one_id_finds_room(rt.alloc())?);
     Ok(())
 }

@@ -1,8 +1,6 @@
 //! Ids at the ends of their ranges, and look-ups among several objects.
 
-ghost use Rattle.std.specs.Prelude.{◌≤◌};
-ghost use Rattle.ei_backend.specs.Table.{own_start, own_limit};
-
+use crate::version::endpoint;
 use ei_backend::{Backend, FIRST_SERVER_ID, InterfaceName, Object};
 use ei_spec::KnownInterface;
 use ei_wire::{ParseError, SendError};
@@ -13,23 +11,47 @@ fn callback() -> InterfaceName {
     InterfaceName::Known(KnownInterface::Callback)
 }
 
-/// Whether an end whose ids begin at its last one makes an object of that id, and then no other.
-fn ends_at(mut backend: Backend, id: u64) -> Result<bool, Fail> {
-    let object = backend.new_object(callback(), 1)?;
-    let last = backend.new_object(callback(), 1);
-    let is_exhausted = matches!(last, Err(SendError::IdsExhausted));
-    Ok(object.id() == id && backend.ids_left() == 0 && is_exhausted)
+/// Makes the next object of an end.
+fn make(backend: &mut Backend, version: u32) -> Result<Object, SendError> {
+    backend.new_object(callback(), version)
 }
 
-#[test]
-fn own_ids_end(rt: HostRuntime) -> Result<(), Fail> {
-    let server = Backend::with_next_id(rt.alloc(), false, u64::MAX - 1)?;
-    assert!(rt; ends_at(server, u64::MAX - 1)?);
-    let client = Backend::with_next_id(rt.alloc(), true, FIRST_SERVER_ID - 1)?;
-    assert!(rt; ends_at(client, FIRST_SERVER_ID - 1)?);
-    let mut none = Backend::with_next_id(rt.alloc(), true, FIRST_SERVER_ID)?;
-    assert!(rt; none.new_object(callback(), 1).is_err());
-    Ok(())
+/// Whether the end makes an object of this id, and no id is left then.
+fn makes_last(backend: &mut Backend, id: u64) -> Result<bool, Fail> {
+    let object = make(backend, 1)?;
+    Ok(object.id() == id && backend.ids_left() == 0)
+}
+
+/// Whether the end makes no other object.
+fn is_exhausted(backend: &mut Backend) -> bool {
+    matches!(make(backend, 1), Err(SendError::IdsExhausted))
+}
+
+/// Whether an end whose ids begin at its last one makes an object of that id, and then no other.
+fn ends_at(mut backend: Backend, id: u64) -> Result<bool, Fail> {
+    Ok(makes_last(&mut backend, id)? && is_exhausted(&mut backend))
+}
+
+/// Whether the ids of a server end.
+fn ids_of_a_server_end(alloc: Global) -> Result<bool, Fail> {
+    ends_at(
+        Backend::with_next_id(alloc, false, u64::MAX - 1)?,
+        u64::MAX - 1,
+    )
+}
+
+/// Whether the ids of a client end.
+fn ids_of_a_client_end(alloc: Global) -> Result<bool, Fail> {
+    ends_at(
+        Backend::with_next_id(alloc, true, FIRST_SERVER_ID - 1)?,
+        FIRST_SERVER_ID - 1,
+    )
+}
+
+/// Whether a client begins with no id left.
+fn no_id_is_left(alloc: Global) -> Result<bool, Fail> {
+    let mut client = Backend::with_next_id(alloc, true, FIRST_SERVER_ID)?;
+    Ok(is_exhausted(&mut client))
 }
 
 /// Whether the peer's id is accepted. `None` for any other answer than the refusal of this id.
@@ -63,36 +85,47 @@ const OF_A_CLIENT: [(u64, bool); 6] = [
 ];
 
 /// The first id to which the answer is another.
-fn accepted_otherwise(mut backend: Backend, ids: &[(u64, bool)]) -> Option<u64> {
+fn accepted_otherwise(backend: &mut Backend, ids: &[(u64, bool)]) -> Option<u64> {
     for (id, want) in ids {
-        if accepts(&mut backend, *id) != Some(*want) {
+        if accepts(backend, *id) != Some(*want) {
             return Some(*id);
         }
     }
     None
 }
 
-#[test]
-fn a_peer_gives_ids_of_its_range(rt: HostRuntime) -> Result<(), Fail> {
-    let client = Backend::new(rt.alloc(), true)?;
-    assert!(rt; accepted_otherwise(client, &OF_A_SERVER).is_none());
-    let server = Backend::new(rt.alloc(), false)?;
-    assert!(rt; accepted_otherwise(server, &OF_A_CLIENT).is_none());
+/// Whether an end of that side accepts the ids so.
+fn are_accepted(alloc: Global, client: bool, ids: &[(u64, bool)]) -> Result<bool, Fail> {
+    let mut backend = endpoint(alloc, client)?;
+    Ok(accepted_otherwise(&mut backend, ids).is_none())
+}
+
+/// Adds an own object and the peer's of this id, of the two versions of that number.
+fn add_both(backend: &mut Backend, id: u64, number: u32) -> Result<(), Fail> {
+    make(backend, number.wrapping_add(21))?;
+    backend.new_peer_object(id, callback(), number.wrapping_add(11))?;
     Ok(())
+}
+
+/// Takes out the objects of these ids.
+fn remove(backend: &mut Backend, ids: &[u64]) {
+    for id in ids {
+        backend.remove_id(*id);
+    }
 }
 
 /// A client's table: own objects 1 to 6 of versions 21 to 26, and of the server's every second id from the first,
 /// of versions 11 to 16. The first and the fourth own one are taken out, the first and the third of the server's,
 /// and an id that no object has.
 fn several(alloc: Global) -> Result<Backend, Fail> {
-    let mut backend = Backend::new(alloc, true)?;
+    let mut backend = endpoint(alloc, true)?;
     for i in 0..6u32 {
-        backend.new_object(callback(), 21 + i)?;
-        backend.new_peer_object(FIRST_SERVER_ID + 2 * u64::from(i), callback(), 11 + i)?;
+        add_both(&mut backend, FIRST_SERVER_ID + 2 * u64::from(i), i)?;
     }
-    for id in [1, 4, FIRST_SERVER_ID, FIRST_SERVER_ID + 4, 9] {
-        backend.remove_id(id);
-    }
+    remove(
+        &mut backend,
+        &[1, 4, FIRST_SERVER_ID, FIRST_SERVER_ID + 4, 9],
+    );
     Ok(backend)
 }
 
@@ -134,12 +167,25 @@ fn seen_otherwise(backend: &Backend) -> Option<u64> {
     None
 }
 
-// An id that was taken out isn't given again.
+/// Whether each of several objects is found, and an id that was taken out isn't given again.
+fn each_of_several_objects_is_found(alloc: Global) -> Result<bool, Fail> {
+    let mut backend = several(alloc)?;
+    let are_seen = seen_otherwise(&backend).is_none() && backend.next_id() == 7;
+    Ok(are_seen && accepts(&mut backend, FIRST_SERVER_ID + 4) == Some(false))
+}
+
 #[test]
-fn each_of_several_objects_is_found(rt: HostRuntime) -> Result<(), Fail> {
-    let mut backend = several(rt.alloc())?;
-    assert!(rt; seen_otherwise(&backend).is_none());
-    assert!(rt; accepts(&mut backend, FIRST_SERVER_ID + 4) == Some(false));
-    assert!(rt; backend.next_id() == 7);
+fn own_ids_end(rt: HostRuntime) -> Result<(), Fail> {
+    assert!(rt; ids_of_a_server_end(rt.alloc())?);
+    assert!(rt; ids_of_a_client_end(rt.alloc())?);
+    assert!(rt; no_id_is_left(rt.alloc())?);
+    Ok(())
+}
+
+#[test]
+fn objects_are_told_by_their_ids(rt: HostRuntime) -> Result<(), Fail> {
+    assert!(rt; are_accepted(rt.alloc(), true, &OF_A_SERVER)?);
+    assert!(rt; are_accepted(rt.alloc(), false, &OF_A_CLIENT)?);
+    assert!(rt; each_of_several_objects_is_found(rt.alloc())?);
     Ok(())
 }

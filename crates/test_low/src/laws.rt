@@ -16,7 +16,8 @@ use ei_wire::{
 
 /// The laws of the kinds, through their bound.
 fn laws_of<T: OwnedArg>(value: &T)
-    ensures { (s t : Unread) → Follows (T.value value.now) s t → read T.kind s ≡ Ok (T.value value.now, t) }
+    ensures { (s t : Unread) → Follows (T.value value.now) s t →
+        read T.kind s ≡ Ok (T.value value.now, t) }
 {
     read_back(value);
     no_spelling::<T>();
@@ -26,7 +27,8 @@ fn laws_of<T: OwnedArg>(value: &T)
 
 /// The word of a key's state is read back as the state's.
 fn word_of_a_key_state(state: KeyState)
-    ensures { (s t : Unread) → Follows (Word (key_state_number state)) s t → read key_state s ≡ Ok (Word (key_state_number state), t) }
+    ensures { (s t : Unread) → Follows (Word (key_state_number state)) s t →
+        read key_state s ≡ Ok (Word (key_state_number state), t) }
 {
     laws_of(&state);
 }

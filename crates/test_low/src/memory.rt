@@ -27,86 +27,138 @@ fn is_next(taken: Result<Taken, Fault>, bytes: usize, handles: usize) -> bool {
     taken == Ok(Taken { bytes, handles })
 }
 
-#[test]
-fn hands_on_pieces(rt: HostRuntime) -> Result<(), Fail> {
-    let alloc = rt.alloc();
-    let mut bytes = bytes_room(alloc, 65536)?;
-    let mut handles = handles_room(alloc, 64)?;
+/// Whether these are the first bytes and handles.
+fn are_first(room: &[u8], handle_room: &[Handle], bytes: &[u8], handles: &[Handle]) -> bool {
+    room.starts_with(bytes) && handle_room.starts_with(handles)
+}
+
+/// Pieces of which the second and the fourth call fail.
+fn failing_pieces(alloc: Global) -> Result<Pieces, Fail> {
     let mut pieces = Pieces::new(alloc);
-    pieces.push(b"ab", &[Handle(7)])?;
-    assert!(rt; is_next(pieces.take(&mut bytes, &mut handles), 2, 1));
-    assert!(rt; bytes.starts_with(b"ab") && handles.starts_with(&[Handle(7)]));
-    assert!(rt; is_next(pieces.take(&mut bytes, &mut handles), 0, 0));
-    Ok(())
-}
-
-#[test]
-fn keeps_what_is_put(rt: HostRuntime) -> Result<(), Fail> {
-    let mut tray = Tray::new(rt.alloc());
-    assert!(rt; tray.put(b"ab", &[Handle(7)]) == Ok(2));
-    assert!(rt; tray.put(b"c", &[]) == Ok(1));
-    assert!(rt; tray.bytes() == b"abc".as_slice());
-    assert!(rt; tray.handles() == [Handle(7)].as_slice());
-    Ok(())
-}
-
-#[test]
-fn hands_on_a_text(rt: HostRuntime) -> Result<(), Fail> {
-    let mut text = MemoryText::new(rt.alloc(), b"abc")?;
-    let mut bytes = [b'-'; 2];
-    for (count, held) in [(2, b"ab"), (1, b"cb"), (0, b"cb")] {
-        assert!(rt; text.fetch(&mut bytes) == Ok(count));
-        assert!(rt; bytes.as_slice() == held.as_slice());
-    }
-    Ok(())
-}
-
-#[test]
-fn hands_on_readings(rt: HostRuntime) -> Result<(), Fail> {
-    let mut readings = Readings::new(rt.alloc(), &[5, 9])?;
-    for reading in [5, 9, 0, 0] {
-        assert!(rt; readings.now() == reading);
-    }
-    Ok(())
+    pieces.fail_at(4)?;
+    pieces.fail_at(2)?;
+    Ok(pieces)
 }
 
 /// The calls, and which of them fail.
 const CALLS: [bool; 5] = [false, true, false, true, false];
 
-#[test]
-fn takes_fail_where_named(rt: HostRuntime) -> Result<(), Fail> {
-    let mut bytes = bytes_room(rt.alloc(), 65536)?;
-    let mut handles = handles_room(rt.alloc(), 64)?;
-    let mut pieces = Pieces::new(rt.alloc());
-    pieces.fail_at(4)?;
-    pieces.fail_at(2)?;
-    for fails in CALLS {
-        assert!(rt; pieces.take(&mut bytes, &mut handles).is_err() == fails);
-    }
-    Ok(())
+/// Whether pieces of room for them are handed on, and then none.
+fn hands_on_pieces(alloc: Global) -> Result<bool, Fail> {
+    let mut room = bytes_room(alloc, 65536)?;
+    let mut handle_room = handles_room(alloc, 64)?;
+    let mut pieces = Pieces::new(alloc);
+    pieces.push(b"ab", &[Handle(7)])?;
+    let is_first = is_next(pieces.take(&mut room, &mut handle_room), 2, 1);
+    let are_moved = are_first(&room, &handle_room, b"ab", &[Handle(7)]);
+    Ok(is_first && are_moved && is_next(pieces.take(&mut room, &mut handle_room), 0, 0))
 }
 
-#[test]
-fn puts_fail_where_named(rt: HostRuntime) -> Result<(), Fail> {
-    let mut tray = Tray::new(rt.alloc());
+/// Whether a source fails where it is said to.
+fn takes_fail_where_named(alloc: Global) -> Result<bool, Fail> {
+    let mut room = bytes_room(alloc, 65536)?;
+    let mut handle_room = handles_room(alloc, 64)?;
+    let mut pieces = failing_pieces(alloc)?;
+    for fails in CALLS {
+        if pieces.take(&mut room, &mut handle_room).is_err() != fails {
+            return Ok(false);
+        }
+    }
+    Ok(true)
+}
+
+/// Whether the tray has these bytes and handles.
+fn has(tray: &Tray, bytes: &[u8], handles: &[Handle]) -> bool {
+    tray.bytes() == bytes && tray.handles() == handles
+}
+
+/// Whether a tray takes all of the bytes.
+fn is_put(tray: &mut Tray, bytes: &[u8], handles: &[Handle]) -> bool {
+    tray.put(bytes, handles) == Ok(bytes.len())
+}
+
+/// Whether a tray keeps what is put into it.
+fn keeps_what_is_put(tray: &mut Tray) -> bool {
+    is_put(tray, b"ab", &[Handle(7)]) && is_put(tray, b"c", &[]) && has(tray, b"abc", &[Handle(7)])
+}
+
+/// A tray of which the second and the fourth call fail.
+fn failing_tray(alloc: Global) -> Result<Tray, Fail> {
+    let mut tray = Tray::new(alloc);
     tray.fail_at(4)?;
     tray.fail_at(2)?;
+    Ok(tray)
+}
+
+/// Whether a tray fails where it is said to, and takes nothing then.
+fn puts_fail_where_named(tray: &mut Tray) -> bool {
     for fails in CALLS {
-        assert!(rt; tray.put(b"a", &[]).is_err() == fails);
+        if tray.put(b"a", &[]).is_err() != fails {
+            return false;
+        }
     }
-    assert!(rt; tray.bytes() == b"aaa".as_slice());
+    has(tray, b"aaa", &[])
+}
+
+/// Whether a text is handed on in parts of two bytes at most.
+fn hands_on_a_text(text: &mut MemoryText) -> bool {
+    let mut bytes = [b'-'; 2];
+    for (count, held) in [(2, b"ab"), (1, b"cb"), (0, b"cb")] {
+        if text.fetch(&mut bytes) != Ok(count) || bytes.as_slice() != held.as_slice() {
+            return false;
+        }
+    }
+    true
+}
+
+/// A text of which the second and the fourth call fail.
+fn failing_text(alloc: Global) -> Result<MemoryText, Fail> {
+    let mut text = MemoryText::new(alloc, b"abcde")?;
+    text.fail_at(4)?;
+    text.fail_at(2)?;
+    Ok(text)
+}
+
+/// Whether a text fails where it is said to, and hands on nothing then.
+fn fetches_fail_where_named(text: &mut MemoryText) -> bool {
+    let mut byte = [b'-'];
+    for fails in CALLS {
+        if text.fetch(&mut byte).is_err() != fails {
+            return false;
+        }
+    }
+    byte == [b'c']
+}
+
+/// Whether a clock shows its readings, and then 0.
+fn hands_on_readings(alloc: Global) -> Result<bool, Fail> {
+    let mut readings = Readings::new(alloc, &[5, 9])?;
+    for reading in [5, 9, 0, 0] {
+        if readings.now() != reading {
+            return Ok(false);
+        }
+    }
+    Ok(true)
+}
+
+#[test]
+fn sources(rt: HostRuntime) -> Result<(), Fail> {
+    assert!(rt; hands_on_pieces(rt.alloc())?);
+    assert!(rt; takes_fail_where_named(rt.alloc())?);
     Ok(())
 }
 
 #[test]
-fn fetches_fail_where_named(rt: HostRuntime) -> Result<(), Fail> {
-    let mut text = MemoryText::new(rt.alloc(), b"abcde")?;
-    let mut byte = [b'-'];
-    text.fail_at(4)?;
-    text.fail_at(2)?;
-    for fails in CALLS {
-        assert!(rt; text.fetch(&mut byte).is_err() == fails);
-    }
-    assert!(rt; byte == [b'c']);
+fn trays(rt: HostRuntime) -> Result<(), Fail> {
+    assert!(rt; keeps_what_is_put(&mut Tray::new(rt.alloc())));
+    assert!(rt; puts_fail_where_named(&mut failing_tray(rt.alloc())?));
+    Ok(())
+}
+
+#[test]
+fn texts_and_clocks(rt: HostRuntime) -> Result<(), Fail> {
+    assert!(rt; hands_on_a_text(&mut MemoryText::new(rt.alloc(), b"abc")?));
+    assert!(rt; fetches_fail_where_named(&mut failing_text(rt.alloc())?));
+    assert!(rt; hands_on_readings(rt.alloc())?);
     Ok(())
 }

@@ -22,9 +22,9 @@ const INTERFACES: [(KnownInterface, &str); 13] = [
 
 /// The first of the names that isn't its interface's.
 fn wrong_name() -> Option<&'static str> {
-    for (interface, name) in INTERFACES {
-        if interface.name() != name || KnownInterface::from_name(name) != Some(interface) {
-            return Some(name);
+    for (interface, name) in &INTERFACES {
+        if interface.name() != *name || KnownInterface::from_name(name) != Some(*interface) {
+            return Some(*name);
         }
     }
     None
@@ -40,12 +40,8 @@ fn known_name(names: &[&'static str]) -> Option<&'static str> {
     None
 }
 
-#[test]
-fn names_of_interfaces(rt: HostRuntime) {
-    assert!(rt; wrong_name().is_none());
-    let others = ["", "ei_", "seat", "ei_seats", "EI_SEAT", "ei_gesture"];
-    assert!(rt; known_name(&others).is_none());
-}
+/// Names that no interface has.
+const STRANGERS: [&str; 6] = ["", "ei_", "seat", "ei_seats", "EI_SEAT", "ei_gesture"];
 
 /// The interfaces that a handshake settles, and their versions, in the order in which they are announced.
 const TWELVE: [(&str, u32); 12] = [
@@ -75,11 +71,6 @@ fn misplaced() -> Option<&'static str> {
         }
     }
     None
-}
-
-#[test]
-fn twelve_interfaces(rt: HostRuntime) {
-    assert!(rt; misplaced().is_none());
 }
 
 /// The names of the requests to each interface, by opcode from 0 on.
@@ -208,7 +199,7 @@ fn count(table: &[(&str, &[&str]); 13]) -> usize {
 
 /// Whether a name that is no interface's has a message.
 fn has_stranger(events: bool) -> bool {
-    for interface in ["", "seat", "ei_seats", "EI_SEAT", "ei_gesture"] {
+    for interface in &STRANGERS {
         if op_name(events, interface, 0).is_some() {
             return true;
         }
@@ -216,11 +207,16 @@ fn has_stranger(events: bool) -> bool {
     false
 }
 
+/// Whether these are the messages, and so many.
+fn are_messages(events: bool, table: &[(&'static str, &[&str]); 13], all: usize) -> bool {
+    with_other_messages(events, table).is_none() && count(table) == all && !has_stranger(events)
+}
+
 #[test]
-fn names_of_messages(rt: HostRuntime) {
-    for (events, table, all) in [(false, REQUESTS, 36), (true, EVENTS, 48)] {
-        assert!(rt; with_other_messages(events, &table).is_none());
-        assert!(rt; count(&table) == all);
-        assert!(rt; !has_stranger(events));
-    }
+fn names_of_interfaces_and_messages(rt: HostRuntime) {
+    assert!(rt; wrong_name().is_none());
+    assert!(rt; known_name(&STRANGERS).is_none());
+    assert!(rt; misplaced().is_none());
+    assert!(rt; are_messages(false, &REQUESTS, 36));
+    assert!(rt; are_messages(true, &EVENTS, 48));
 }

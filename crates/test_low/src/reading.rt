@@ -1,6 +1,6 @@
 //! Messages that are refused, a source that fails, and an endpoint that is closed.
 
-use crate::version::{InterfaceVersion, give};
+use crate::version::{endpoint, give, next, reads};
 use ei_backend::{Backend, PendingRequestResult, Pieces};
 use ei_spec::Handle;
 use ei_wire::{NoMemory, ParseError, ReadError};
@@ -10,18 +10,34 @@ use std::test::Fail;
 /// An `interface_version` of `a`, version 7.
 const MESSAGE: &[u8] = b"\0\0\0\0\0\0\0\0\x1c\0\0\0\x04\0\0\0\x02\0\0\0a\0\0\0\x07\0\0\0";
 
+/// A source of one piece.
+fn piece(alloc: Global, bytes: &[u8], handles: &[Handle]) -> Result<Pieces, Fail> {
+    let mut pieces = Pieces::new(alloc);
+    give(&mut pieces, bytes, handles)?;
+    Ok(pieces)
+}
+
+/// Whether all of the piece comes.
+fn comes(
+    alloc: Global,
+    backend: &mut Backend,
+    bytes: &[u8],
+    handles: &[Handle],
+) -> Result<bool, Fail> {
+    let mut pieces = piece(alloc, bytes, handles)?;
+    Ok(reads(backend, &mut pieces, Ok(bytes.len())))
+}
+
 /// A server to which a piece of these bytes came, with one handle.
 fn with_piece(alloc: Global, bytes: &[u8]) -> Result<Backend, Fail> {
-    let mut backend = Backend::new(alloc, false)?;
-    let mut pieces = Pieces::new(alloc);
-    give(&mut pieces, bytes, &[Handle(7)])?;
-    backend.read(&mut pieces)?;
+    let mut backend = endpoint(alloc, false)?;
+    comes(alloc, &mut backend, bytes, &[Handle(7)])?;
     Ok(backend)
 }
 
 /// Whether the next message is the `interface_version` of `a`, version 7.
 fn is_message(backend: &mut Backend) -> Result<bool, NoMemory> {
-    match backend.pending::<InterfaceVersion>()? {
+    match next(backend)? {
         Some(PendingRequestResult::Request(message)) => {
             Ok(message.name.as_str() == "a" && message.version == 7)
         }
@@ -31,7 +47,7 @@ fn is_message(backend: &mut Backend) -> Result<bool, NoMemory> {
 
 /// Why the next message is refused.
 fn refusal(backend: &mut Backend) -> Result<Option<ParseError>, NoMemory> {
-    match backend.pending::<InterfaceVersion>()? {
+    match next(backend)? {
         Some(PendingRequestResult::ParseError(error)) => Ok(Some(error)),
         _ => Ok(None),
     }
@@ -42,25 +58,31 @@ fn has_unread(backend: &Backend, bytes: usize, handles: usize) -> bool {
     backend.unread_len() == bytes && backend.unread_handles() == handles
 }
 
+/// Whether no message is whole.
+fn is_not_whole(backend: &mut Backend) -> Result<bool, NoMemory> {
+    Ok(next(backend)?.is_none())
+}
+
 /// Whether the message is read once its other bytes come behind the first, and not before.
 fn is_read_in_two(alloc: Global, first: &[u8], others: &[u8]) -> Result<bool, Fail> {
     let mut backend = with_piece(alloc, first)?;
-    if backend.pending::<InterfaceVersion>()?.is_some() {
-        return Ok(false);
-    }
-    let mut pieces = Pieces::new(alloc);
-    give(&mut pieces, others, &[])?;
-    let came = backend.read(&mut pieces)? == others.len();
-    Ok(came && is_message(&mut backend)? && has_unread(&backend, 0, 1))
+    Ok(
+        is_not_whole(&mut backend)?
+            && comes(alloc, &mut backend, others, &[])?
+            && is_message(&mut backend)?
+            && has_unread(&backend, 0, 1),
+    )
 }
 
-#[test]
-fn a_message_is_read_once_it_is_whole(rt: HostRuntime) -> Result<(), Fail> {
+/// Whether the message is read so wherever it is cut.
+fn a_message_is_read_once_it_is_whole(alloc: Global) -> Result<bool, Fail> {
     for cut in [1, 15, 16, 27] {
         let (first, others) = MESSAGE.split_at(MESSAGE.len().min(cut));
-        assert!(rt; is_read_in_two(rt.alloc(), first, others)?);
+        if !is_read_in_two(alloc, first, others)? {
+            return Ok(false);
+        }
     }
-    Ok(())
+    Ok(true)
 }
 
 /// Messages to object 0, why each is refused, and how many of its bytes are left then.
@@ -102,31 +124,27 @@ const REFUSED: [(&[u8], ParseError, usize); 7] = [
     ),
 ];
 
+/// Whether a message is refused with that cause, so much is left, and the endpoint stays open.
+fn is_refused(alloc: Global, bytes: &[u8], want: &ParseError, left: usize) -> Result<bool, Fail> {
+    let mut backend = with_piece(alloc, bytes)?;
+    let is_cause = refusal(&mut backend)?.as_ref() == Some(want);
+    Ok(is_cause && backend.unread_len() == left && !backend.is_closed())
+}
+
 /// The bytes of the first message to which the answer is another.
 fn refused_otherwise(alloc: Global) -> Result<Option<&'static [u8]>, Fail> {
-    for (bytes, want, left) in REFUSED {
-        let mut backend = with_piece(alloc, bytes)?;
-        let is_refused = refusal(&mut backend)? == Some(want);
-        if !is_refused || backend.unread_len() != left || backend.is_closed() {
-            return Ok(Some(bytes));
+    for (bytes, want, left) in &REFUSED {
+        if !is_refused(alloc, bytes, want, *left)? {
+            return Ok(Some(*bytes));
         }
     }
     Ok(None)
 }
 
-// An unlawful header stays, and every other message that is refused goes.
-#[test]
-fn messages_are_refused_with_their_causes(rt: HostRuntime) -> Result<(), Fail> {
-    assert!(rt; refused_otherwise(rt.alloc())?.is_none());
-    Ok(())
-}
-
-#[test]
-fn want_of_memory_leaves_the_message(rt: HostRuntime) -> Result<(), Fail> {
-    let mut backend = with_piece(rt.alloc(), b"\0\0\0\0\0\0\0\0\x10\0\0\0\x03\0\0\0")?;
-    assert!(rt; refusal(&mut backend) == Err(NoMemory));
-    assert!(rt; has_unread(&backend, 16, 1));
-    Ok(())
+/// Whether the message of another opcode stays, which is refused for want of memory.
+fn want_of_memory_leaves_the_message(alloc: Global) -> Result<bool, Fail> {
+    let mut backend = with_piece(alloc, b"\0\0\0\0\0\0\0\0\x10\0\0\0\x03\0\0\0")?;
+    Ok(refusal(&mut backend) == Err(NoMemory) && has_unread(&backend, 16, 1))
 }
 
 /// Two pieces, one of 28 bytes and one of 3 with two handles. The second call fails.
@@ -146,67 +164,107 @@ const ANSWERS: [(Result<usize, ReadError>, usize, usize); 4] = [
     (Err(ReadError::UnexpectedEof), 31, 2),
 ];
 
-/// Whether each of the four calls answers so, and none closes the endpoint.
+/// Whether the next call is answered so, and leaves the endpoint open with so many bytes and handles.
+fn is_answered(
+    backend: &mut Backend,
+    pieces: &mut Pieces,
+    want: Result<usize, ReadError>,
+    bytes: usize,
+    handles: usize,
+) -> bool {
+    reads(backend, pieces, want) && has_unread(backend, bytes, handles) && !backend.is_closed()
+}
+
+/// Whether each of the four calls is answered so.
 fn are_answered(backend: &mut Backend, pieces: &mut Pieces) -> bool {
     for (want, bytes, handles) in ANSWERS {
-        let is_answered = backend.read(pieces) == want;
-        if !is_answered || !has_unread(backend, bytes, handles) || backend.is_closed() {
+        if !is_answered(backend, pieces, want, bytes, handles) {
             return false;
         }
     }
     true
 }
 
-#[test]
-fn a_source_that_failed_is_read_on(rt: HostRuntime) -> Result<(), Fail> {
-    let mut backend = Backend::new(rt.alloc(), false)?;
-    let mut pieces = two_pieces(rt.alloc())?;
-    assert!(rt; are_answered(&mut backend, &mut pieces));
-    assert!(rt; is_message(&mut backend)?);
-    assert!(rt; has_unread(&backend, 3, 2));
-    Ok(())
+/// Whether the message is read after them, and what came behind it stays.
+fn a_source_that_failed_is_read_on(alloc: Global) -> Result<bool, Fail> {
+    let mut pieces = two_pieces(alloc)?;
+    let mut backend = endpoint(alloc, false)?;
+    Ok(
+        are_answered(&mut backend, &mut pieces)
+            && is_message(&mut backend)?
+            && has_unread(&backend, 3, 2),
+    )
 }
 
-// A closed endpoint asks for nothing: the call that fails is the next reader's.
-#[test]
-fn a_closed_endpoint_reads_no_more(rt: HostRuntime) -> Result<(), Fail> {
-    let mut backend = Backend::new(rt.alloc(), false)?;
-    let mut pieces = two_pieces(rt.alloc())?;
-    backend.read(&mut pieces)?;
+/// Whether the endpoint is closed after the message came, and asks for nothing then.
+fn is_closed_behind(backend: &mut Backend, pieces: &mut Pieces) -> bool {
+    let came = reads(backend, pieces, Ok(28));
     backend.close();
-    assert!(rt; backend.is_closed());
-    assert!(rt; backend.read(&mut pieces) == Err(ReadError::UnexpectedEof));
-    assert!(rt; is_message(&mut backend)?);
-    let mut other = Backend::new(rt.alloc(), false)?;
-    assert!(rt; other.read(&mut pieces) == Err(ReadError::ReadFault));
-    assert!(rt; other.read(&mut pieces) == Ok(3));
-    Ok(())
+    came && backend.is_closed() && reads(backend, pieces, Err(ReadError::UnexpectedEof))
+}
+
+/// Whether a closed endpoint answers what came before.
+fn closes_behind_a_message(alloc: Global, pieces: &mut Pieces) -> Result<bool, Fail> {
+    let mut backend = endpoint(alloc, false)?;
+    Ok(is_closed_behind(&mut backend, pieces) && is_message(&mut backend)?)
+}
+
+/// Whether the call that fails was left to the next reader.
+fn the_next_reader_fails(alloc: Global, pieces: &mut Pieces) -> Result<bool, Fail> {
+    let mut backend = endpoint(alloc, false)?;
+    let failed = reads(&mut backend, pieces, Err(ReadError::ReadFault));
+    Ok(failed && reads(&mut backend, pieces, Ok(3)))
+}
+
+/// Whether a closed endpoint asks for nothing.
+fn a_closed_endpoint_reads_no_more(alloc: Global) -> Result<bool, Fail> {
+    let mut pieces = two_pieces(alloc)?;
+    Ok(closes_behind_a_message(alloc, &mut pieces)? && the_next_reader_fails(alloc, &mut pieces)?)
 }
 
 /// Lets 64 handles come with each of 64 bytes.
-fn fill_with_handles(backend: &mut Backend, pieces: &mut Pieces) -> Result<(), Fail> {
+fn fill_with_handles(alloc: Global, backend: &mut Backend) -> Result<(), Fail> {
     for _ in 0..64 {
-        give(pieces, b"a", &[Handle(7); 64])?;
-        backend.read(pieces)?;
+        comes(alloc, backend, b"a", &[Handle(7); 64])?;
     }
     Ok(())
 }
 
-/// Lets one more handle come, and says whether the endpoint is closed with that error and keeps what it has.
-fn closes(backend: &mut Backend, pieces: &mut Pieces, want: ReadError) -> Result<bool, Fail> {
-    give(pieces, b"b", &[Handle(8)])?;
-    let is_answered = backend.read(pieces) == Err(want);
+/// Whether a call with one more handle is answered so, and closes the endpoint, which keeps what it has.
+fn is_closed_by_a_handle(
+    alloc: Global,
+    backend: &mut Backend,
+    want: ReadError,
+) -> Result<bool, Fail> {
+    let mut pieces = piece(alloc, b"b", &[Handle(8)])?;
+    let is_answered = reads(backend, &mut pieces, Err(want));
     Ok(is_answered && backend.is_closed() && has_unread(backend, 64, 4096))
 }
 
-// The piece with the handle that is one too many is dropped, and nothing is asked for after it.
+/// Whether the piece with the handle that is one too many closes the endpoint, and nothing is asked for after it.
+fn more_than_4096_handles_close_the_endpoint(alloc: Global) -> Result<bool, Fail> {
+    let mut backend = endpoint(alloc, false)?;
+    fill_with_handles(alloc, &mut backend)?;
+    let is_full = has_unread(&backend, 64, 4096) && !backend.is_closed();
+    Ok(
+        is_full
+            && is_closed_by_a_handle(alloc, &mut backend, ReadError::HandleLimit)?
+            && is_closed_by_a_handle(alloc, &mut backend, ReadError::UnexpectedEof)?,
+    )
+}
+
 #[test]
-fn more_than_4096_handles_close_the_endpoint(rt: HostRuntime) -> Result<(), Fail> {
-    let mut pieces = Pieces::new(rt.alloc());
-    let mut backend = Backend::new(rt.alloc(), false)?;
-    fill_with_handles(&mut backend, &mut pieces)?;
-    assert!(rt; has_unread(&backend, 64, 4096) && !backend.is_closed());
-    assert!(rt; closes(&mut backend, &mut pieces, ReadError::HandleLimit)?);
-    assert!(rt; closes(&mut backend, &mut pieces, ReadError::UnexpectedEof)?);
+fn messages_are_read_or_refused(rt: HostRuntime) -> Result<(), Fail> {
+    assert!(rt; a_message_is_read_once_it_is_whole(rt.alloc())?);
+    assert!(rt; refused_otherwise(rt.alloc())?.is_none());
+    assert!(rt; want_of_memory_leaves_the_message(rt.alloc())?);
+    Ok(())
+}
+
+#[test]
+fn sources_fail_and_endpoints_close(rt: HostRuntime) -> Result<(), Fail> {
+    assert!(rt; a_source_that_failed_is_read_on(rt.alloc())?);
+    assert!(rt; a_closed_endpoint_reads_no_more(rt.alloc())?);
+    assert!(rt; more_than_4096_handles_close_the_endpoint(rt.alloc())?);
     Ok(())
 }

@@ -1,6 +1,6 @@
 //! The ring of the bytes that are unread: messages that lie across its end, and how it grows.
 
-use crate::version::{InterfaceVersion, PIECE, give};
+use crate::version::{InterfaceVersion, PIECE, endpoint, give, next};
 use ei_backend::{Backend, PendingRequestResult, Pieces};
 use ei_wire::NoMemory;
 use std::alloc::Global;
@@ -17,24 +17,53 @@ fn is_version(len: u32) -> bool {
     len >= 28 && len % 4 == 0
 }
 
-/// A message of this length, at least 16: an `interface_version` with as long a name as there is room for,
-/// where one can have that length, and else a message to no object.
-fn message(alloc: Global, len: u32) -> Result<Vec<u8>, NoMemory> {
-    let id: u64 = if is_version(len) { 0 } else { NOBODY };
-    let mut bytes = Vec::new(alloc);
+/// The header of a message of opcode 4 of this length to this object.
+fn push_header(bytes: &mut Vec<u8>, id: u64, len: u32) -> Result<(), NoMemory> {
     bytes.extend_from_slice(&id.to_le_bytes())?;
     bytes.extend_from_slice(&len.to_le_bytes())?;
     bytes.extend_from_slice(&4u32.to_le_bytes())?;
-    if len < 28 || id == NOBODY {
-        bytes.resize(len as usize, 0)?;
-        return Ok(bytes);
-    }
-    bytes.extend_from_slice(&(len - 24).to_le_bytes())?;
-    for at in 0..len - 25 {
+    Ok(())
+}
+
+/// A name of so many letters, with its length and what closes it.
+fn push_name(bytes: &mut Vec<u8>, letters: u32) -> Result<(), NoMemory> {
+    bytes.extend_from_slice(&letters.wrapping_add(1).to_le_bytes())?;
+    for at in 0..letters {
         bytes.push(letter(at))?;
     }
     bytes.push(0)?;
+    Ok(())
+}
+
+/// An `interface_version` of this length.
+fn push_version(bytes: &mut Vec<u8>, len: u32) -> Result<(), NoMemory> {
+    push_header(bytes, 0, len)?;
+    push_name(bytes, len.wrapping_sub(25))?;
     bytes.extend_from_slice(&VERSION.to_le_bytes())?;
+    Ok(())
+}
+
+/// A message of this length to no object.
+fn push_other(bytes: &mut Vec<u8>, len: u32) -> Result<(), NoMemory> {
+    push_header(bytes, NOBODY, len)?;
+    bytes.resize(len as usize, 0)?;
+    Ok(())
+}
+
+/// Adds a message of this length, at least 16: an `interface_version` with as long a name as there is room for,
+/// where one can have that length, and else a message to no object.
+fn push_message(bytes: &mut Vec<u8>, len: u32) -> Result<(), NoMemory> {
+    if is_version(len) {
+        push_version(bytes, len)
+    } else {
+        push_other(bytes, len)
+    }
+}
+
+/// A message of this length.
+fn message(alloc: Global, len: u32) -> Result<Vec<u8>, NoMemory> {
+    let mut bytes = Vec::new(alloc);
+    push_message(&mut bytes, len)?;
     Ok(bytes)
 }
 
@@ -43,18 +72,24 @@ fn letter(at: u32) -> u8 {
     b'a' + (at % 26) as u8
 }
 
+/// Whether it is the name in a message of that length.
+fn is_name(name: &[u8], len: u32) -> bool {
+    let mut at = 0u32;
+    for byte in name {
+        if *byte != letter(at) {
+            return false;
+        }
+        at = at.wrapping_add(1);
+    }
+    at.wrapping_add(25) == len
+}
+
 /// Whether the answer to a message of that length is right.
 fn is_right(answer: &Option<PendingRequestResult<InterfaceVersion>>, len: u32) -> bool {
     match answer {
         Some(PendingRequestResult::InvalidObject(id)) => !is_version(len) && *id == NOBODY,
         Some(PendingRequestResult::Request(request)) => {
-            let name = request.name.as_str().as_bytes();
-            name.len() + 25 == len as usize
-                && name
-                    .iter()
-                    .zip(0..len)
-                    .all(|(byte, at)| *byte == letter(at))
-                && request.version == VERSION
+            request.version == VERSION && is_name(request.name.as_str().as_bytes(), len)
         }
         _ => false,
     }
@@ -70,41 +105,45 @@ struct Reader {
 }
 
 impl Reader {
-    fn new(alloc: Global) -> Result<Reader, NoMemory> {
+    fn new(alloc: Global) -> Result<Reader, Fail> {
         Ok(Reader {
-            backend: Backend::new(alloc, false)?,
+            backend: endpoint(alloc, false)?,
             pieces: Pieces::new(alloc),
             next: Vec::new(alloc),
             waiting: 0,
         })
     }
 
+    /// Lets the piece come.
+    fn read(&mut self) -> Result<(), Fail> {
+        self.backend.read(&mut self.pieces)?;
+        Ok(())
+    }
+
     /// Lets the next bytes come, and says whether the message that came is the right one.
     fn comes(&mut self) -> Result<bool, Fail> {
         give(&mut self.pieces, &self.next, &[])?;
         self.next.clear();
-        self.backend.read(&mut self.pieces)?;
-        let answer = self.backend.pending()?;
+        self.read()?;
+        let answer = next(&mut self.backend)?;
         Ok(self.waiting == 0 || is_right(&answer, self.waiting))
     }
 
     /// Lets these bytes come, and says how much the ring holds then.
     fn held_after(&mut self, bytes: &[u8]) -> Result<usize, Fail> {
         give(&mut self.pieces, bytes, &[])?;
-        self.backend.read(&mut self.pieces)?;
+        self.read()?;
         Ok(self.backend.ring_capacity())
     }
 
     /// Whether no message is whole, and so many bytes are unread.
     fn holds(&mut self, count: u32) -> Result<bool, Fail> {
-        let answer = self.backend.pending::<InterfaceVersion>()?;
+        let answer = next(&mut self.backend)?;
         Ok(answer.is_none() && self.backend.unread_len() == count as usize)
     }
 
-    /// Lets so many bytes of a message of this length come behind the others of the last one.
-    fn begin(&mut self, alloc: Global, len: u32, before: u32) -> Result<bool, Fail> {
-        let bytes = message(alloc, len)?;
-        let (first, others) = bytes.split_at(bytes.len().min(before as usize));
+    /// Lets the first bytes of a message of this length come behind the others of the last one.
+    fn begin(&mut self, first: &[u8], others: &[u8], len: u32) -> Result<bool, Fail> {
         self.next.extend_from_slice(first)?;
         let came = self.comes()?;
         self.next.extend_from_slice(others)?;
@@ -112,11 +151,16 @@ impl Reader {
         Ok(came)
     }
 
-    /// Lets a message of each start come, and says at which one it was wrong.
-    fn begin_each(&mut self, alloc: Global, len: u32) -> Result<Option<u32>, Fail> {
+    /// Lets a message of this length come, of which so many bytes come first.
+    fn begin_at(&mut self, bytes: &[u8], len: u32, before: u32) -> Result<bool, Fail> {
+        let (first, others) = bytes.split_at(bytes.len().min(before as usize));
+        Ok(self.begin(first, others, len)? && self.holds(before)?)
+    }
+
+    /// Lets the message of this length come with each start, and says at which one it was wrong.
+    fn begin_each(&mut self, bytes: &[u8], len: u32) -> Result<Option<u32>, Fail> {
         for before in 1..len {
-            let came = self.begin(alloc, len, before)?;
-            if !came || !self.holds(before)? {
+            if !self.begin_at(bytes, len, before)? {
                 return Ok(Some(before));
             }
         }
@@ -124,30 +168,48 @@ impl Reader {
     }
 }
 
+/// Lets a message of this length come, and reads it.
+fn pass(alloc: Global, reader: &mut Reader, len: u32) -> Result<(), Fail> {
+    let bytes = message(alloc, len)?;
+    reader.held_after(&bytes)?;
+    next(&mut reader.backend)?;
+    Ok(())
+}
+
 /// A reader whose next byte is one of the last four of the ring.
 fn near_the_end(alloc: Global) -> Result<Reader, Fail> {
     let mut reader = Reader::new(alloc)?;
-    for len in [65536, 65532] {
-        reader.next = message(alloc, len)?;
-        reader.comes()?;
-    }
+    pass(alloc, &mut reader, 65536)?;
+    pass(alloc, &mut reader, 65532)?;
     Ok(reader)
+}
+
+/// The first start at which a message of this length is wrong.
+fn wrong_start(alloc: Global, reader: &mut Reader, len: u32) -> Result<Option<u32>, Fail> {
+    let bytes = message(alloc, len)?;
+    reader.begin_each(&bytes, len)
+}
+
+/// The first of these lengths of which a message is wrong at some start.
+fn wrong_length(alloc: Global, reader: &mut Reader) -> Result<Option<u32>, Fail> {
+    for len in [16, 28, 31, 200] {
+        if wrong_start(alloc, reader, len)?.is_some() {
+            return Ok(Some(len));
+        }
+    }
+    Ok(None)
+}
+
+/// Whether the last message comes whole, and the ring is as long as before.
+fn ends_whole(reader: &mut Reader) -> Result<bool, Fail> {
+    Ok(reader.comes()? && reader.holds(0)? && reader.backend.ring_capacity() == 131072)
 }
 
 // What lies across the end is moved to the end. So the first bytes of each message are the last of the ring, and
 // the others come with the next piece.
-#[test]
-fn messages_are_read_across_the_end(rt: HostRuntime) -> Result<(), Fail> {
-    let alloc = rt.alloc();
+fn messages_are_read_across_the_end(alloc: Global) -> Result<bool, Fail> {
     let mut reader = near_the_end(alloc)?;
-    assert!(rt; reader.holds(0)?);
-    for len in [16, 28, 31, 200] {
-        assert!(rt; reader.begin_each(alloc, len)?.is_none(), "{len} bytes");
-    }
-    assert!(rt; reader.comes()?);
-    assert!(rt; reader.holds(0)?);
-    assert!(rt; reader.backend.ring_capacity() == 131072);
-    Ok(())
+    Ok(reader.holds(0)? && wrong_length(alloc, &mut reader)?.is_none() && ends_whole(&mut reader)?)
 }
 
 /// What the ring holds after each of sixteen pieces of 65536 bytes, the last of 65535.
@@ -166,16 +228,32 @@ fn held_otherwise(reader: &mut Reader, bytes: &[u8]) -> Result<Option<usize>, Fa
     Ok(None)
 }
 
-// The ring is doubled where a piece may not find room in it.
-#[test]
-fn the_ring_grows_for_the_longest_message(rt: HostRuntime) -> Result<(), Fail> {
-    let alloc = rt.alloc();
-    let mut reader = Reader::new(alloc)?;
-    let bytes = message(alloc, 1048576)?;
+/// Whether the last byte makes the longest message whole.
+fn is_whole_with(reader: &mut Reader, last: &[u8]) -> Result<bool, Fail> {
+    let held = reader.held_after(last)?;
+    Ok(held == 2097152 && is_right(&next(&mut reader.backend)?, 1048576))
+}
+
+/// Whether the longest message is read in pieces, the last one of a byte.
+fn is_read_in_pieces(alloc: Global, bytes: &[u8]) -> Result<bool, Fail> {
     let (most, last) = bytes.split_at(bytes.len().min(1048575));
-    assert!(rt; held_otherwise(&mut reader, most)?.is_none());
-    assert!(rt; reader.holds(1048575)?);
-    assert!(rt; reader.held_after(last)? == 2097152);
-    assert!(rt; is_right(&reader.backend.pending()?, 1048576));
+    let mut reader = Reader::new(alloc)?;
+    Ok(
+        held_otherwise(&mut reader, most)?.is_none()
+            && reader.holds(1048575)?
+            && is_whole_with(&mut reader, last)?,
+    )
+}
+
+// The ring is doubled where a piece may not find room in it.
+fn the_ring_grows_for_the_longest_message(alloc: Global) -> Result<bool, Fail> {
+    let bytes = message(alloc, 1048576)?;
+    is_read_in_pieces(alloc, &bytes)
+}
+
+#[test]
+fn the_ring_is_read(rt: HostRuntime) -> Result<(), Fail> {
+    assert!(rt; messages_are_read_across_the_end(rt.alloc())?);
+    assert!(rt; the_ring_grows_for_the_longest_message(rt.alloc())?);
     Ok(())
 }

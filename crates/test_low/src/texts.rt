@@ -72,44 +72,66 @@ fn refusal(behind: usize, text: &[u8], whole: usize, place: Option<u32>) -> Opti
     }
 }
 
-/// The text at the front, and how many bytes are left.
-fn text_of(alloc: Global, bytes: &[u8], nullable: bool) -> (Result<EiText, ParseError>, usize) {
-    let mut stream = ByteStream::new(alloc, bytes, &[]);
-    let answer = if nullable {
-        match stream.read_arg::<Option<EiText>>() {
-            Ok(Some(value)) => Ok(value),
-            Ok(None) => Err(ParseError::InvalidNull),
-            Err(error) => Err(error),
-        }
-    } else {
-        stream.read_arg::<EiText>()
-    };
-    (answer, stream.rest())
+/// What is refused, where so many bytes are there with n.
+fn wanted(len: usize, text: &[u8], whole: usize, place: Option<u32>) -> Option<ParseError> {
+    match len.checked_sub(4) {
+        Some(behind) => refusal(behind, text, whole, place),
+        None => Some(ParseError::EndOfMessage),
+    }
 }
 
-/// Whether the bytes are read as the text, or refused with this error.
-fn is_read(
+/// Whether the answer is the text, or the refusal that is wanted.
+fn is_answer(answer: Result<EiText, ParseError>, want: Option<&ParseError>, text: &[u8]) -> bool {
+    match answer {
+        Ok(value) => want.is_none() && value.as_str().as_bytes() == text,
+        Err(error) => want == Some(&error),
+    }
+}
+
+/// A text that may be null, where null is refused.
+fn nullable(stream: &mut ByteStream<'_>) -> Result<EiText, ParseError> {
+    match stream.read_arg::<Option<EiText>>() {
+        Ok(Some(value)) => Ok(value),
+        Ok(None) => Err(ParseError::InvalidNull),
+        Err(error) => Err(error),
+    }
+}
+
+/// Whether a text is answered so, and so many bytes are left then.
+fn is_text(
     alloc: Global,
     bytes: &[u8],
-    nullable: bool,
     text: &[u8],
-    whole: usize,
-    place: Option<u32>,
+    want: Option<&ParseError>,
+    left: usize,
 ) -> bool {
-    let want = if bytes.len() < 4 {
-        Some(ParseError::EndOfMessage)
+    let mut stream = ByteStream::new(alloc, bytes, &[]);
+    is_answer(stream.read_arg::<EiText>(), want, text) && stream.rest() == left
+}
+
+/// The same of a text that may be null.
+fn is_nullable(
+    alloc: Global,
+    bytes: &[u8],
+    text: &[u8],
+    want: Option<&ParseError>,
+    left: usize,
+) -> bool {
+    let mut stream = ByteStream::new(alloc, bytes, &[]);
+    is_answer(nullable(&mut stream), want, text) && stream.rest() == left
+}
+
+/// Whether the bytes are read by the rule, whether the text may be null or not. What is refused stays.
+fn is_read(alloc: Global, bytes: &[u8], text: &[u8], whole: usize, place: Option<u32>) -> bool {
+    let want = wanted(bytes.len(), text, whole, place);
+    let taken = if want.is_none() {
+        whole.saturating_add(4)
     } else {
-        refusal(bytes.len() - 4, text, whole, place)
+        0
     };
-    let (answer, rest) = text_of(alloc, bytes, nullable);
-    match answer {
-        Ok(value) => {
-            want.is_none()
-                && value.as_str().as_bytes() == text
-                && rest == bytes.len().saturating_sub(4).saturating_sub(whole)
-        }
-        Err(error) => want == Some(error) && rest == bytes.len(),
-    }
+    let left = bytes.len().saturating_sub(taken);
+    is_text(alloc, bytes, text, want.as_ref(), left)
+        && is_nullable(alloc, bytes, text, want.as_ref(), left)
 }
 
 /// The first cut of the bytes at which the text isn't read by the rule.
@@ -121,35 +143,55 @@ fn wrong_cut(
     place: Option<u32>,
 ) -> Option<usize> {
     for cut in 0..bytes.len() + 1 {
-        for nullable in [false, true] {
-            if !is_read(alloc, &bytes[..cut], nullable, text, whole, place) {
-                return Some(cut);
-            }
+        if !is_read(alloc, &bytes[..cut], text, whole, place) {
+            return Some(cut);
         }
     }
     None
 }
 
-#[test]
-fn texts_are_read_at_each_cut(rt: HostRuntime) -> Result<(), Fail> {
-    for (text, n, pads, whole, place) in TEXTS {
-        for (closing, padding) in ENDINGS {
-            let bytes = with_ends(rt.alloc(), text, n, closing, &padding[..pads.min(3)])?;
-            let wrong = wrong_cut(rt.alloc(), &bytes, text, whole, place);
-            assert!(rt; wrong.is_none(), "{n} {closing} {wrong:?}");
+/// The first cut of the text at which it isn't read by the rule, with any of the endings.
+fn wrong_ending(
+    alloc: Global,
+    text: &[u8],
+    n: u8,
+    pads: usize,
+    whole: usize,
+    place: Option<u32>,
+) -> Result<Option<usize>, Fail> {
+    for (closing, padding) in &ENDINGS {
+        let bytes = with_ends(alloc, text, n, *closing, &padding[..pads.min(3)])?;
+        let wrong = wrong_cut(alloc, &bytes, text, whole, place);
+        if wrong.is_some() {
+            return Ok(wrong);
         }
     }
-    Ok(())
+    Ok(None)
 }
 
-#[test]
-fn null_is_a_text_only_where_it_may_be(rt: HostRuntime) -> Result<(), Fail> {
-    let mut stream = ByteStream::new(rt.alloc(), b"\0\0\0\0\x09", &[]);
-    assert!(rt; stream.read_arg::<EiText>() == Err(ParseError::InvalidNull));
-    assert!(rt; stream.rest() == 5);
-    assert!(rt; stream.read_arg::<Option<EiText>>()?.is_none());
-    assert!(rt; stream.rest() == 1);
-    Ok(())
+/// The first text that isn't read by the rule at each cut.
+fn wrong_text(alloc: Global) -> Result<Option<&'static [u8]>, Fail> {
+    for (text, n, pads, whole, place) in &TEXTS {
+        if wrong_ending(alloc, text, *n, *pads, *whole, *place)?.is_some() {
+            return Ok(Some(*text));
+        }
+    }
+    Ok(None)
+}
+
+/// Whether null is refused, and stays.
+fn is_no_null(stream: &mut ByteStream<'_>) -> bool {
+    stream.read_arg::<EiText>() == Err(ParseError::InvalidNull) && stream.rest() == 5
+}
+
+/// Whether null is a text only where it may be.
+fn null_is_a_text_only_where_it_may_be(alloc: Global) -> Result<bool, Fail> {
+    let mut stream = ByteStream::new(alloc, b"\0\0\0\0\x09", &[]);
+    Ok(
+        is_no_null(&mut stream)
+            && stream.read_arg::<Option<EiText>>()?.is_none()
+            && stream.rest() == 1,
+    )
 }
 
 /// Whether a text stands in this order to another, and equals it just where they have the same order.
@@ -170,19 +212,30 @@ const ORDERED: [(&str, Ordering); 5] = [
 
 /// The first text to which a text stands in another order.
 fn ordered_otherwise(alloc: Global, text: &EiText) -> Result<Option<&'static str>, Fail> {
-    for (other, order) in ORDERED {
-        if !is_ordered(text, &EiText::new(alloc, other)?, order) {
-            return Ok(Some(other));
+    for (other, order) in &ORDERED {
+        if !is_ordered(text, &EiText::new(alloc, other)?, *order) {
+            return Ok(Some(*other));
         }
     }
     Ok(None)
 }
 
+/// Whether the copy of a text equals it.
+fn equals_its_copy(alloc: Global, text: &EiText) -> Result<bool, Fail> {
+    let copy = text.copy(alloc)?;
+    Ok(*text == copy && copy.len() == 2)
+}
+
+/// Whether texts compare by their bytes.
+fn texts_compare_by_their_bytes(alloc: Global) -> Result<bool, Fail> {
+    let text = EiText::new(alloc, "ab")?;
+    Ok(ordered_otherwise(alloc, &text)?.is_none() && equals_its_copy(alloc, &text)?)
+}
+
 #[test]
-fn texts_compare_by_their_bytes(rt: HostRuntime) -> Result<(), Fail> {
-    let text = EiText::new(rt.alloc(), "ab")?;
-    assert!(rt; ordered_otherwise(rt.alloc(), &text)?.is_none());
-    let copy = text.copy(rt.alloc())?;
-    assert!(rt; text == copy && copy.len() == 2);
+fn texts_are_read_and_compared(rt: HostRuntime) -> Result<(), Fail> {
+    assert!(rt; wrong_text(rt.alloc())?.is_none());
+    assert!(rt; null_is_a_text_only_where_it_may_be(rt.alloc())?);
+    assert!(rt; texts_compare_by_their_bytes(rt.alloc())?);
     Ok(())
 }

@@ -1,11 +1,13 @@
-//! The `interface_version` of the handshake, the one message that the tests read, and pieces of bytes.
+//! The `interface_version` of the handshake, the one message that the tests read, fresh endpoints, and pieces of bytes.
 
 ghost use Rattle.std.specs.Prelude.{[], ◌∷◌, false};
 ghost use Rattle.ei_spec.specs.Value.{Word, Letters};
 
-use ei_backend::{InterfaceName, MessageEnum, Object, Pieces, Table};
+use ei_backend::{
+    Backend, InterfaceName, MessageEnum, Object, PendingRequestResult, Pieces, Table,
+};
 use ei_spec::{Handle, KnownInterface};
-use ei_wire::{Arg, ByteStream, EiText, NoMemory, ParseError};
+use ei_wire::{Arg, ByteStream, EiText, NoMemory, ParseError, ReadError};
 use std::alloc::Global;
 use std::test::Fail;
 
@@ -65,6 +67,11 @@ impl MessageEnum for InterfaceVersion {
     }
 }
 
+/// A fresh endpoint of that side.
+pub(crate) fn endpoint(alloc: Global, client: bool) -> Result<Backend, Fail> {
+    Ok(Backend::new(alloc, client)?)
+}
+
 /// Adds a piece to a source, unless it has no byte, or more bytes or handles than a piece may have.
 pub(crate) fn give(pieces: &mut Pieces, bytes: &[u8], handles: &[Handle]) -> Result<(), Fail> {
     if bytes.is_empty() || bytes.len() > PIECE || handles.len() > 64 {
@@ -72,4 +79,20 @@ pub(crate) fn give(pieces: &mut Pieces, bytes: &[u8], handles: &[Handle]) -> Res
     }
     pieces.push(bytes, handles)?;
     Ok(())
+}
+
+/// Whether the next call of the source is answered so.
+pub(crate) fn reads(
+    backend: &mut Backend,
+    pieces: &mut Pieces,
+    want: Result<usize, ReadError>,
+) -> bool {
+    backend.read(pieces) == want
+}
+
+/// What the next message is read as.
+pub(crate) fn next(
+    backend: &mut Backend,
+) -> Result<Option<PendingRequestResult<InterfaceVersion>>, NoMemory> {
+    backend.pending()
 }
