@@ -1,5 +1,6 @@
 -- The objects of a table that grew stand under their ids, and no id was given twice.
-use Rattle.std.proofs.Common.{◌≡◌, ◌≢◌, ℕ, ◌+◌, ◌<◌, ◌≤◌, Bool, true, false, cond, eqb, ltb, leb, ◌⊎◌, inl, inr, List, [], ◌∷◌, ◌++◌, Some, None, Result, Ok, Err, refl, sym, ap, subst, ◌∙◌, arith}
+use Rattle.std.proofs.Common.{◌≡◌, ◌≢◌, ℕ, ◌+◌, ◌<◌, ◌≤◌, Bool, true, false, cond, eqb, ltb, leb, ◌⊎◌, inl, inr}
+use Rattle.std.proofs.Common.{List, [], ◌∷◌, ◌++◌, Some, None, Result, Ok, Err, refl, sym, ap, subst, ◌∙◌, arith}
 use Rattle.std.specs.List.{AllByRecursion, IsDistinct}
 use Rattle.std.specs.Ordering.{nat_cmp}
 use Rattle.std.specs.FinMap.{insert, empty, get-empty}
@@ -8,7 +9,8 @@ use Rattle.std.proofs.lemmas.Bool.Decides.{nat_tests, eqb_tells}
 use Rattle.std.proofs.lemmas.Map.Keys.{IsDistinct-cons}
 use Rattle.ei_spec.specs.Reading.{Fault}
 use Rattle.ei_spec.specs.Interface.{Interface, ObjectView}
-use Rattle.ei_backend.specs.Table.{TableView, accept, found, own, own_end, own_start, own_limit, peer_end, with_own, without, new_table, first_object, first_server_id}
+use Rattle.ei_backend.specs.Table.{TableView, accept, found, own, own_end, own_start, own_limit}
+use Rattle.ei_backend.specs.Table.{peer_end, with_own, without, new_table, first_object, first_server_id}
 use Rattle.ei_backend.specs.Growth.{Step, Makes, Hears, Removes, table_after, id_after, after_step, grown, ids_given, table_grown, peer_start, IsKnownId}
 use Rattle.ei_backend.proofs.Objects.{get_with, get_without}
 

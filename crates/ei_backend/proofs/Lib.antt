@@ -13,3 +13,4 @@ pub mod FrontNeeds
 pub mod Behind
 pub mod FoundAfter
 pub mod NextIs
+pub mod IdRoom

@@ -74,3 +74,14 @@ waits_at events b c (Whole m rest) e = absurd (target_answers events b c (found 
 -- where nothing whole waits, fewer bytes than the longest message has are unread
 pub few_left : (events : Bool) (b c : BackendView) → next events b ≡ (Waits, c) → length b.unread < 1048576
 few_left events b c e = short_below b.unread (waits_at events b c (front b.unread) e)
+
+waits_stay : (events : Bool) (b c : BackendView) (f : Front) → f ≡ Short → of_front events b f ≡ (Waits, c) → b ≡ c
+waits_stay events b c Short s e = ap (λ (p : Answer × BackendView). p.1) e
+waits_stay events b c (Unlawful n) s e = absurd cc
+waits_stay events b c (Whole m rest) s e = absurd cc
+
+-- and so it is behind the call
+pub few_stay : (events : Bool) (b c : BackendView) → next events b ≡ (Waits, c) → length c.unread < 1048576
+few_stay events b c e =
+    let same : b ≡ c = waits_stay events b c (front b.unread) (waits_at events b c (front b.unread) e) e in
+    rw same at (few_left events b c e)

@@ -1,5 +1,6 @@
 -- The two vectors of a table: where an id is looked up, and what an object that comes or goes changes.
-use Rattle.std.proofs.Common.{◌≡◌, ◌≤◌, ◌<◌, ◌+◌, ◌^◌, inl, inr, eqb, ltb, leb, Ok, arith, ℕ, Bool, true, false, cond, List, [], ◌∷◌, ◌++◌, Option, Some, None, refl, sym, ap, ◌∙◌, append_assoc}
+use Rattle.std.proofs.Common.{◌≡◌, ◌≤◌, ◌<◌, ◌+◌, ◌^◌, inl, inr, eqb, ltb, leb, Ok, arith, ℕ, Bool, true}
+use Rattle.std.proofs.Common.{false, cond, List, [], ◌∷◌, ◌++◌, Option, Some, None, refl, sym, ap, ◌∙◌, append_assoc}
 use Rattle.std.specs.Option.{option_or}
 use Rattle.std.specs.Ordering.{nat_cmp}
 use Rattle.std.specs.FinMap.{FinMap, get, insert, remove}
@@ -7,7 +8,8 @@ use Rattle.std.proofs.lemmas.Bool.{le-ltb}
 use Rattle.std.proofs.lemmas.Bool.Decides.{nat_tests, eqb_tells}
 use Rattle.std.proofs.lemmas.List.{append-nil}
 use Rattle.ei_spec.specs.Interface.{Interface, ObjectView}
-use Rattle.ei_backend.specs.Table.{TableView, RiseWithin, Rise, by_id, is_own, own_end, peer_end, table_of, Stands, first_server_id, first_object, own_start, own_limit, accept, own, with_own, without}
+use Rattle.ei_backend.specs.Table.{TableView, RiseWithin, Rise, by_id, is_own, own_end, peer_end, table_of, Stands}
+use Rattle.ei_backend.specs.Table.{first_server_id, first_object, own_start, own_limit, accept, own, with_own, without}
 use Rattle.ei_backend.proofs.Objects.{at, get_at, range_le, widened, below_range, above_range, same_objects, get_with, get_without}
 use Rattle.ei_backend.proofs.FirstObject.{first_kept, first_left, first_there}
 

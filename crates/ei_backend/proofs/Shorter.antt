@@ -1,11 +1,14 @@
 -- What is left after reading is no longer than what was there.
-use Rattle.std.proofs.Common.{◌≡◌, ℕ, ◌+◌, ◌-◌, ◌≤◌, Bool, true, false, cond, ltb, eqb, List, [], ◌∷◌, length, take, drop, Option, Some, None, Result, Ok, Err, subst, arith, length-drop}
+use Rattle.std.proofs.Common.{◌≡◌, ℕ, ◌+◌, ◌-◌, ◌≤◌, Bool, true, false, cond, ltb, eqb, List, []}
+use Rattle.std.proofs.Common.{◌∷◌, length, take, drop, Option, Some, None, Result, Ok, Err, subst, arith, length-drop}
 use Rattle.std.specs.Prelude.{nat_eq, slice_get, MatchResult}
 use Rattle.std.specs.Int.{Width, w32, w64, byte_len, from_le_bytes, cast_signed}
 use Rattle.std.specs.List.{list_any}
 use Rattle.ei_spec.specs.declared.handle.Handle.{Handle as Descriptor}
-use Rattle.ei_spec.specs.Value.{Kind, U32, I32, U64, I64, Float, Text, Nullable, Handle, New, Choice, Value, Word, Long, Signed, SignedLong, Letters, padding}
-use Rattle.ei_spec.specs.Reading.{Fault, ◌>>=◌, Unread, Read, number_at, letters_at, text_at, some_text, or_null, choice_at, of_bytes, of_handle, read, utf8, EndOfMessage, InvalidVariant, Stop, ◌then◌, stopping, all_at}
+use Rattle.ei_spec.specs.Value.{Kind, U32, I32, U64, I64, Float, Text, Nullable, Handle, New, Choice, OpenChoice, Value, Word, Long, Signed, SignedLong}
+use Rattle.ei_spec.specs.Value.{Letters, padding}
+use Rattle.ei_spec.specs.Reading.{Fault, ◌>>=◌, Unread, Read, number_at, letters_at, text_at, some_text, or_null, choice_at, of_bytes, of_handle, read, utf8}
+use Rattle.ei_spec.specs.Reading.{EndOfMessage, InvalidVariant, Stop, ◌then◌, stopping, all_at}
 use Rattle.ei_spec.specs.Interface.{Interface, Known, Other, short_of}
 use Rattle.ei_backend.specs.Table.{TableView}
 use Rattle.ei_spec.specs.Rows.{Row, row_at}
@@ -78,6 +81,7 @@ read_leaves Handle s = handle_leaves s (slice_get s.handles s.taken)
 read_leaves (Choice name values) s = of_bytes_leaves Word s (length s.bytes) (choice_at name values s.bytes)
     (bound (length s.bytes) (number_at w32 s.bytes) (λ n. cond (list_any (nat_eq n.0) values) (Ok n) (Err (InvalidVariant name n.0))) (number_within w32 s.bytes)
     (λ n le. either (Within (length s.bytes)) (list_any (nat_eq n.0) values) (Ok n) (Err (InvalidVariant name n.0)) le tt))
+read_leaves OpenChoice s = of_bytes_leaves Word s (length s.bytes) (number_at w32 s.bytes) (number_within w32 s.bytes)
 
 abbrev AllLeaves : ℕ → Result (List Value × Unread) Stop → Type 0
 AllLeaves n r = MatchResult r (λ x. length x.1.bytes ≤ n) (λ _. Unit {0})

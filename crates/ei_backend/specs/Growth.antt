@@ -1,5 +1,5 @@
 -- How a table grows, and which ids its objects are given.
-use Rattle.std.specs.Prelude.{◌≡◌, ℕ, ◌<◌, ◌≤◌, Bool, ◌⊎◌, List, [], ◌∷◌, ◌++◌, Result, Ok, Err, nat_lt, if◌then◌else◌}
+use Rattle.std.specs.Prelude.{◌≡◌, ℕ, ◌+◌, ◌<◌, ◌≤◌, Bool, ◌⊎◌, List, [], ◌∷◌, ◌++◌, Result, Ok, Err, nat_lt, if◌then◌else◌}
 use Rattle.ei_spec.specs.Reading.{Fault}
 use Rattle.ei_spec.specs.Interface.{Interface, ObjectView}
 use Rattle.ei_backend.specs.Table.{TableView, accept, without, own_end, with_own, new_table, first_server_id}
@@ -44,6 +44,12 @@ grown t (s ∷ steps) = grown (after_step t s) steps
 abbrev pub ids_given : TableView → List Step → List ℕ
 ids_given t [] = []
 ids_given t (s ∷ steps) = step_ids t s ++ ids_given (after_step t s) steps
+
+-- how many of the steps make an object of this end
+abbrev pub made_by : List Step → ℕ
+made_by [] = 0
+made_by (Makes interface version ∷ steps) = made_by steps + 1
+made_by (s ∷ steps) = made_by steps
 
 -- a new endpoint gives its own ids from the first on, and its table stands so after the steps
 abbrev pub table_grown : Bool → ℕ → List Step → TableView

@@ -16,12 +16,13 @@ pub record PiecesView : Type 0 where
   pub faults : ℕ
   pub last : LastAnswer
 
--- a sink: what it took, the calls that fail, the calls and faults so far
+-- a sink: what it took, the calls that fail, the calls, faults and wants of memory so far
 pub record TrayView : Type 0 where
   pub held : Piece
   pub fails : List ℕ
   pub calls : ℕ
   pub faults : ℕ
+  pub wants : ℕ
 
 -- an input: the text left, the calls that fail, the calls and faults so far
 pub record TextView : Type 0 where
@@ -59,3 +60,9 @@ abbrev pub faults_after_put : Result ℕ PutError → ℕ → ℕ
 faults_after_put (Ok n) faults = faults
 faults_after_put (Err put_errors.Fault) faults = counted faults
 faults_after_put (Err put_errors.NoMemory) faults = faults
+
+-- the count of wants of memory after a put: a fault is none
+abbrev pub wants_after_put : Result ℕ PutError → ℕ → ℕ
+wants_after_put (Ok n) wants = wants
+wants_after_put (Err put_errors.Fault) wants = wants
+wants_after_put (Err put_errors.NoMemory) wants = counted wants

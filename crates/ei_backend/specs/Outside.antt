@@ -1,5 +1,6 @@
 -- What the calls of a source, a sink, an input and a clock do.
-use Rattle.std.specs.Prelude.{◌≡◌, ◌<◌, ◌≤◌, ℕ, zero, suc, ◌+◌, ◌-◌, ◌^◌, min, List, [], ◌++◌, length, take, drop, slice_get, slice_index, Option, Some, Result, Ok, Err, OnErr, IsErrOf}
+use Rattle.std.specs.Prelude.{◌≡◌, ◌<◌, ◌≤◌, ℕ, zero, suc, ◌+◌, ◌-◌, ◌^◌, min, List, [], ◌++◌, length, take, drop, slice_get, slice_index, Option, Some, Result}
+use Rattle.std.specs.Prelude.{Ok, Err, OnOk, OnErr, IsErrOf}
 pub use Rattle.ei_spec.specs.Piece.{Piece}
 use Rattle.ei_spec.specs.declared.handle.Handle.{Handle}
 use Rattle.ei_backend.specs.declared.outside.Fault.{Fault}
@@ -14,15 +15,25 @@ use Rattle.ei_spec.specs.declared.limits.TheConstants.{MOST_PIECE_BYTES, MOST_PI
 abbrev pub Rose : ℕ → ℕ → Type 0
 Rose before now = min (before + 1) (2 ^ 64 - 1) ≤ now
 
--- the count has not fallen, and a fault is answered only where it rose
+-- the count of faults has not fallen: it goes up with a fault, and with no other answer
 pub record HasCause {T : Type 0} (before now : ℕ) (result : Result T Fault) : Type 0 where
   pub later : before ≤ now
   pub failed : OnErr result (Rose before now)
+  pub kept : OnOk result (now ≡ before)
 
 -- the same of a sink, which may also want memory
 pub record HasPutCause {T : Type 0} (before now : ℕ) (result : Result T PutError) : Type 0 where
   pub later : before ≤ now
   pub failed : IsErrOf result put_errors.Fault → Rose before now
+  pub kept : OnOk result (now ≡ before)
+  pub kept_wanting : IsErrOf result put_errors.NoMemory → now ≡ before
+
+-- the count of wants of memory has not fallen: it goes up with such a want, and with no other answer
+pub record HasPutWant {T : Type 0} (before now : ℕ) (result : Result T PutError) : Type 0 where
+  pub later : before ≤ now
+  pub wanted : IsErrOf result put_errors.NoMemory → Rose before now
+  pub kept : OnOk result (now ≡ before)
+  pub kept_failing : IsErrOf result put_errors.Fault → now ≡ before
 
 -- at most the bytes and handles of a piece, and no handle without a byte
 pub record IsPieceSize (taken : Taken) : Type 0 where

@@ -1,5 +1,6 @@
 -- The objects of one endpoint.
-use Rattle.std.specs.Prelude.{◌≡◌, ℕ, ◌+◌, ◌^◌, ◌<◌, ◌≤◌, Bool, ◌||◌, List, [], ◌∷◌, ◌++◌, length, Option, Some, Result, Ok, Err, nat_lt, nat_le, min, max, if◌then◌else◌}
+use Rattle.std.specs.Prelude.{◌≡◌, ℕ, ◌+◌, ◌^◌, ◌<◌, ◌≤◌, Bool, ◌||◌, List, [], ◌∷◌, ◌++◌}
+use Rattle.std.specs.Prelude.{length, Option, Some, Result, Ok, Err, nat_lt, nat_le, min, max, if◌then◌else◌}
 use Rattle.std.specs.List.{HoldsAt}
 use Rattle.std.specs.Ordering.{nat_cmp}
 use Rattle.std.specs.FinMap as map
@@ -87,6 +88,10 @@ with_own t interface version = record { objects = map.insert t.objects t.next_ow
 -- the table in which so many more own objects are made without want of memory, as far as there are ids
 abbrev pub with_room : ℕ → TableView → TableView
 with_room objects t = record t { room = max t.room (min (t.next_own + objects) (own_end t)) }
+
+-- the next own object is made without want of memory, if there is an id for it
+abbrev pub HasIdRoom : TableView → Type 0
+HasIdRoom t = t.next_own < own_end t → t.next_own < t.room
 
 -- ---- how a table is kept
 

@@ -1,6 +1,7 @@
 //! One endpoint: its objects, what came to it and what waits to be sent.
 
-ghost use Rattle.std.specs.Prelude.{◌≡◌, ℕ, ◌+◌, ◌-◌, ◌≤◌, ◌<◌, ◌^◌, ◌↔◌, true, false, List, length, drop, IfOk, OnErr, OnOk, IfSome, Ok, Err, Some, IsErrOf, IsTrue, IsSome, map, if◌then◌else◌};
+ghost use Rattle.std.specs.Prelude.{◌≡◌, ℕ, ◌+◌, ◌-◌, ◌≤◌, ◌<◌, ◌^◌, ◌↔◌, true, false, List, [], length, drop, None, IsOk, IfOk, OnErr, OnOk, IfSome, Ok, Err};
+ghost use Rattle.std.specs.Prelude.{Some, IsErrOf, IsTrue, IsSome, map, if◌then◌else◌};
 ghost use Rattle.std.specs.Option.{option_copied};
 ghost use Rattle.ei_spec.specs.Message.{message, size};
 ghost use Rattle.ei_wire.specs.Gives.{Gives, value_of_arg};
@@ -13,8 +14,9 @@ ghost use Rattle.ei_backend.specs.Object.{interface_view, HasFixedName};
 ghost use Rattle.ei_backend.specs.Table.{new_table, first_object, first_server_id, found, accept, own, own_end, own_start, own_limit, with_own};
 ghost use Rattle.ei_backend.specs.Outside.{Piece, Rose};
 ghost use Rattle.ei_backend.specs.Outgoing.{StopsAfter, Flushes, HasRoomFor, with_message};
-ghost use Rattle.ei_backend.specs.Backend.{new_backend, ReadsOn, ReadsPiece, body_read, Says, next, Answers, Shortens, sent, sent_new, with_object, with_room, removed, closed_of, unsent_of, with_unsent};
-ghost use Rattle.ei_spec.specs.declared.limits.TheConstants.{MOST_MESSAGE_BYTES};
+ghost use Rattle.ei_backend.specs.Backend.{new_backend, ReadsOn, ReadsPiece, body_read, Says, next, Answers, Shortens, sent, sent_new, with_object, with_room};
+ghost use Rattle.ei_backend.specs.Backend.{removed, closed_of, unsent_of, with_unsent};
+ghost use Rattle.ei_spec.specs.declared.limits.TheConstants.{MOST_MESSAGE_BYTES, MOST_PIECE_BYTES};
 
 use crate::incoming::Incoming;
 use crate::interface::InterfaceName;
@@ -82,8 +84,9 @@ impl Backend {
     /// Takes one piece from the source, and puts it behind what is unread. It answers how many bytes came.
     ///
     /// `UnexpectedEof` on a closed endpoint, which doesn't ask the source, and at the source's end;
-    /// `NoMemory` before the source is asked; `ReadFault` where the source failed; `HandleLimit` exactly
-    /// where more than 4096 handles would be unread: the piece is dropped and the endpoint closed.
+    /// `NoMemory` before the source is asked, and only where the ring has to grow; `ReadFault` where the
+    /// source failed; `HandleLimit` exactly where more than 4096 handles would be unread: the piece is
+    /// dropped and the endpoint closed.
     pub fn read<S: Source>(&mut self, source: &mut S) -> Result<usize, ReadError>
         // on a closed endpoint
         ensures closed { self.old.closed ≡ true → IsErrOf result read_error.UnexpectedEof }
@@ -94,7 +97,9 @@ impl Backend {
         ensures told { self.old.closed ≡ false → (pieces : List Piece) → S.left source.old ≡ Some pieces → ReadsPiece pieces (S.left source.new) result self.old self.new }
         // what the source says
         ensures memory { IsErrOf result read_error.NoMemory → source.new ≡ source.old }
+        ensures room { length self.old.unread + MOST_PIECE_BYTES ≤ self.old.capacity → IsErrOf result read_error.NoMemory → ⊥ }
         ensures fault { IsErrOf result read_error.ReadFault → Rose (S.faults source.old) (S.faults source.new) }
+        ensures risen { S.faults source.old < S.faults source.new → IsErrOf result read_error.ReadFault }
         ensures last_piece { OnOk result (S.last source.new ≡ answers.Piece) }
         ensures last_limit { IsErrOf result read_error.HandleLimit → S.last source.new ≡ answers.Piece }
         ensures last_end { self.old.closed ≡ false → IsErrOf result read_error.UnexpectedEof → S.last source.new ≡ answers.End }
@@ -113,13 +118,23 @@ impl Backend {
     /// Puts all that waits to be sent into the sink, all handles with the first bytes. After a refusal the
     /// rest waits.
     ///
-    /// `WriteFault` where the sink failed, `NoMemory` where it wants memory.
+    /// `WriteFault` where the sink failed, `NoMemory` where it wants memory. Where nothing waits the sink
+    /// isn't asked.
     pub fn flush<K: Sink>(&mut self, sink: &mut K) -> Result<(), FlushError>
         ensures stops { StopsAfter (unsent_of self.old) result (unsent_of self.new) }
         ensures took { (held : Piece) → K.taken sink.old ≡ Some held → Flushes held (unsent_of self.old) result (unsent_of self.new) (K.taken sink.new) }
         ensures kept { self.new ≡ with_unsent (unsent_of self.new) self.old }
+        // where nothing waits
+        ensures nothing { self.old.unsent ≡ [] → IsOk result }
+        ensures nothing_kept { self.old.unsent ≡ [] → self.new ≡ self.old }
+        ensures nothing_put { self.old.unsent ≡ [] → sink.new ≡ sink.old }
+        // what the sink says
         ensures fault { IsErrOf result flush_error.WriteFault → Rose (K.faults sink.old) (K.faults sink.new) }
+        ensures risen { K.faults sink.old < K.faults sink.new → IsErrOf result flush_error.WriteFault }
         ensures count { K.faults sink.old ≤ K.faults sink.new }
+        ensures want { IsErrOf result flush_error.NoMemory → Rose (K.wants sink.old) (K.wants sink.new) }
+        ensures want_risen { K.wants sink.old < K.wants sink.new → IsErrOf result flush_error.NoMemory }
+        ensures want_count { K.wants sink.old ≤ K.wants sink.new }
         ensures later { K.later sink.old sink.new }
     {
         self.outgoing.flush(sink)
@@ -134,6 +149,7 @@ impl Backend {
         T: Drop,
         ensures ok { IfOk result (λ answer. Answers T.target T.code T.values answer self.new (next T.events self.old)) }
         ensures shorter { IfOk result (λ answer. Shortens self.old.unread self.new.unread answer) }
+        ensures few_left { result ≡ Ok None → length self.new.unread < MOST_MESSAGE_BYTES }
         ensures err { OnErr result (self.new ≡ self.old) }
     {
         self.incoming.next(self.alloc, &mut self.table)

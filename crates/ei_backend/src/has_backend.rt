@@ -9,7 +9,8 @@ use crate::backend::Backend;
 
 /// A value that has an endpoint in it: an endpoint itself, or the context of one end.
 ///
-/// What is done to the endpoint by `backend_mut` is done to the value, and nothing else of it changes.
+/// What is done to the endpoint by `backend_mut` is done to the value, and nothing else of it changes. Two
+/// changes, one after the other, are the second alone.
 pub trait HasBackend {
     /// The endpoint in the value.
     ghost seen: { Self → BackendView };
@@ -29,6 +30,8 @@ pub trait HasBackend {
     ghost seen_with: { (x : Self) (b : BackendView) → seen (with_backend x b) ≡ b };
 
     ghost with_seen: { (x : Self) → with_backend x (seen x) ≡ x };
+
+    ghost with_twice: { (x : Self) (b c : BackendView) → with_backend (with_backend x b) c ≡ with_backend x c };
 }
 
 impl HasBackend for Backend {
@@ -41,6 +44,8 @@ impl HasBackend for Backend {
     ghost seen_with = { λ x b. refl };
 
     ghost with_seen = { λ x. refl };
+
+    ghost with_twice = { λ x b c. refl };
 
     fn backend(&self) -> &Backend {
         self

@@ -7,6 +7,7 @@ ghost use Rattle.ei_backend.specs.declared.outside.LastAnswer.TheVariants as ans
 ghost use Rattle.ei_backend.specs.Incoming.{none_unread, Reads, ReadsPiece};
 ghost use Rattle.ei_backend.specs.Backend.{BackendView, next, Answers, Shortens};
 ghost use Rattle.ei_backend.specs.Step.{holding};
+ghost use Rattle.ei_spec.specs.declared.limits.TheConstants.{MOST_PIECE_BYTES};
 
 use crate::message::{MessageEnum, PendingRequestResult};
 use crate::outside::Source;
@@ -116,13 +117,15 @@ impl Incoming {
 
     /// Takes a piece from the source, and puts it behind what is there. It answers how many bytes came.
     ///
-    /// `NoMemory` before the source is asked; `ReadFault` where the source failed; `UnexpectedEof` at its
+    /// `NoMemory` before the source is asked, and only where the ring has to grow; `ReadFault` where the source failed; `UnexpectedEof` at its
     /// end; `HandleLimit` where more than 4096 handles would be unread: the piece is dropped.
     pub(crate) fn read<S: Source>(&mut self, source: &mut S) -> Result<usize, ReadError>
         ensures reads { Reads result self.old self.new }
         ensures told { (pieces : List Piece) → S.left source.old ≡ Some pieces → ReadsPiece pieces (S.left source.new) result self.old self.new }
         ensures memory { IsErrOf result read_error.NoMemory → source.new ≡ source.old }
+        ensures room { length self.old.bytes + MOST_PIECE_BYTES ≤ self.old.capacity → IsErrOf result read_error.NoMemory → ⊥ }
         ensures fault { IsErrOf result read_error.ReadFault → Rose (S.faults source.old) (S.faults source.new) }
+        ensures risen { S.faults source.old < S.faults source.new → IsErrOf result read_error.ReadFault }
         ensures last_piece { OnOk result (S.last source.new ≡ answers.Piece) }
         ensures last_limit { IsErrOf result read_error.HandleLimit → S.last source.new ≡ answers.Piece }
         ensures last_end { IsErrOf result read_error.UnexpectedEof → S.last source.new ≡ answers.End }

@@ -8,12 +8,12 @@ ghost use Rattle.ei_spec.specs.Rows.{Row};
 ghost use Rattle.ei_spec.specs.Piece.{Piece};
 ghost use Rattle.ei_spec.specs.Message.{Raw, IsLawful, message, size, bytes_of, front, Short};
 ghost use Rattle.ei_spec.specs.Interface.{Interface, ObjectView};
-ghost use Rattle.ei_backend.specs.Table.{TableView, accept, found, own, own_start, own_limit, peer_end, with_own, without, new_table};
+ghost use Rattle.ei_backend.specs.Table.{TableView, HasIdRoom, accept, found, own, own_start, own_limit, peer_end, with_own, without, new_table};
 ghost use Rattle.ei_backend.specs.Outgoing.{HasSpare, HasRoomFor};
 ghost use Rattle.ei_backend.specs.Step.{reading};
 ghost use Rattle.ei_backend.specs.Next.{IsOfRow, HasAtFront};
 ghost use Rattle.ei_backend.specs.Backend.{BackendView, Waits, Gone, Message, next, unsent_of, sent, with_room};
-ghost use Rattle.ei_backend.specs.Growth.{Step, table_grown, ids_given, IsKnownId};
+ghost use Rattle.ei_backend.specs.Growth.{Step, grown, made_by, table_grown, ids_given, IsKnownId};
 
 /// Ids only rise, and none is given twice.
 pub fn tables()
@@ -37,13 +37,16 @@ pub fn tables()
 {}
 
 /// Room that was made is there, and a message takes of it what it has, so a burst of messages fits that has no
-/// more bytes and handles in all.
+/// more bytes and handles in all. So does each new object, of as many as the room was made for.
 pub fn bursts()
     ensures made { (bytes handles objects : ℕ) (b : BackendView) → HasSpare bytes handles (unsent_of b) (with_room bytes handles objects b).room }
     ensures fits { (bytes handles id opcode : ℕ) (values : List Value) (b : BackendView) → HasSpare (size (message id opcode values) + bytes) (length (flat_map handles_of values) + handles) (unsent_of b) b.room →
         HasRoomFor id opcode values (unsent_of b) b.room }
     ensures left { (bytes handles id opcode : ℕ) (values : List Value) (b : BackendView) → HasSpare (size (message id opcode values) + bytes) (length (flat_map handles_of values) + handles) (unsent_of b) b.room →
         HasSpare bytes handles (unsent_of (sent b id opcode values)) (sent b id opcode values).room }
+    // new objects, whatever the peer announces and whatever goes meanwhile, as far as there are own ids
+    ensures objects { (bytes handles objects : ℕ) (steps : List Step) (b : BackendView) → made_by steps < objects →
+        HasIdRoom (grown (with_room bytes handles objects b).table steps) }
 {}
 
 /// What a call for the next message answers, and what it leaves, where the front of what is unread is known.

@@ -1,13 +1,15 @@
 //! What waits to be sent: messages are written to it, and it is flushed to a sink.
 
-ghost use Rattle.std.specs.Prelude.{◌≡◌, ◌++◌, ◌+◌, ◌<◌, ◌≤◌, ◌↔◌, ℕ, List, [], length, map, take, drop, vec_len, vec_capacity, Option, IsOk, OnOk, OnErr, IfOk, Ok, Err, Some, IsErrOf};
+ghost use Rattle.std.specs.Prelude.{◌≡◌, ◌++◌, ◌+◌, ◌<◌, ◌≤◌, ◌↔◌, ℕ, List, [], length, map, take};
+ghost use Rattle.std.specs.Prelude.{drop, vec_len, vec_capacity, Option, IsOk, OnOk, OnErr, IfOk, Ok, Err, Some, IsErrOf};
 ghost use Rattle.ei_spec.specs.Value.{written};
 ghost use Rattle.ei_spec.specs.Message.{header, bytes_of, message, size};
 ghost use Rattle.ei_wire.specs.Gives.{value_of_arg};
 ghost use Rattle.ei_wire.specs.declared.error.SendError.TheVariants as send_error;
 ghost use Rattle.ei_wire.specs.declared.error.FlushError.TheVariants as flush_error;
 ghost use Rattle.ei_backend.specs.Outside.{Piece, Rose, with_more};
-ghost use Rattle.ei_backend.specs.Outgoing.{nothing, no_room, more_room, HasRoomFor, args_body, args_handles, with_message, beside, kept_beside, StopsAfter, Flushes};
+ghost use Rattle.ei_backend.specs.Outgoing.{nothing, no_room, more_room, HasRoomFor, args_body, args_handles};
+ghost use Rattle.ei_backend.specs.Outgoing.{with_message, beside, kept_beside, StopsAfter, Flushes};
 
 use crate::outside::{PutError, Sink};
 use ei_spec::Handle;
@@ -128,8 +130,17 @@ impl Outgoing {
         ensures stops { StopsAfter self.old.waiting result self.new.waiting }
         ensures took { (held : Piece) → K.taken sink.old ≡ Some held → Flushes held self.old.waiting result self.new.waiting (K.taken sink.new) }
         ensures kept { self.new.room ≡ self.old.room }
+        // where nothing waits
+        ensures nothing { self.old.waiting.bytes ≡ [] → IsOk result }
+        ensures nothing_kept { self.old.waiting.bytes ≡ [] → self.new ≡ self.old }
+        ensures nothing_put { self.old.waiting.bytes ≡ [] → sink.new ≡ sink.old }
+        // what the sink says
         ensures fault { IsErrOf result flush_error.WriteFault → Rose (K.faults sink.old) (K.faults sink.new) }
+        ensures risen { K.faults sink.old < K.faults sink.new → IsErrOf result flush_error.WriteFault }
         ensures count { K.faults sink.old ≤ K.faults sink.new }
+        ensures want { IsErrOf result flush_error.NoMemory → Rose (K.wants sink.old) (K.wants sink.new) }
+        ensures want_risen { K.wants sink.old < K.wants sink.new → IsErrOf result flush_error.NoMemory }
+        ensures want_count { K.wants sink.old ≤ K.wants sink.new }
         ensures later { K.later sink.old sink.new }
     {
         let (done, put) = put_all(sink, &self.bytes, &self.handles);
@@ -236,8 +247,14 @@ fn put_all<K: Sink>(
     ensures within { result.0 ≤ length bytes.now }
     ensures ok { OnOk result.1 (result.0 ≡ length bytes.now) }
     ensures took { (held : Piece) → K.taken sink.old ≡ Some held → K.taken sink.new ≡ Some (with_more (take result.0 bytes.now) (beside result.0 handles.now) held) }
+    ensures nothing { bytes.now ≡ [] → IsOk result.1 }
+    ensures nothing_put { bytes.now ≡ [] → sink.new ≡ sink.old }
     ensures fault { IsErrOf result.1 flush_error.WriteFault → Rose (K.faults sink.old) (K.faults sink.new) }
+    ensures risen { K.faults sink.old < K.faults sink.new → IsErrOf result.1 flush_error.WriteFault }
     ensures count { K.faults sink.old ≤ K.faults sink.new }
+    ensures want { IsErrOf result.1 flush_error.NoMemory → Rose (K.wants sink.old) (K.wants sink.new) }
+    ensures want_risen { K.wants sink.old < K.wants sink.new → IsErrOf result.1 flush_error.NoMemory }
+    ensures want_count { K.wants sink.old ≤ K.wants sink.new }
     ensures later { K.later sink.old sink.new }
 {
     let mut done = 0;

@@ -1,12 +1,13 @@
 //! The traits of the outside: where pieces come from, where bytes go, a text and a clock.
 //!
 //! What a type tells of itself is optional: a source may tell the pieces that it has left, a sink what
-//! it took. Each counts its faults, and answers one only where the count rose in that call or stands at
-//! its last value. Each has a relation "later" between two of its values, which every call keeps.
+//! it took. Each counts its faults: the count goes up with each fault, unless it stands at its last value,
+//! and stays at every other answer. A sink counts its wants of memory in the same way. Each has a relation
+//! "later" between two of its values, which every call keeps.
 
 ghost use Rattle.std.specs.Prelude.{◌≡◌, ◌<◌, ◌≤◌, List, ℕ, Option, Some, length, IfOk};
 ghost use Rattle.ei_backend.specs.declared.outside.LastAnswer.{LastAnswer};
-ghost use Rattle.ei_backend.specs.Outside.{Piece, HasCause, HasPutCause, IsPieceSize, Takes, last_of, Puts, IsPutSize, Fetches, Reads};
+ghost use Rattle.ei_backend.specs.Outside.{Piece, HasCause, HasPutCause, HasPutWant, IsPieceSize, Takes, last_of, Puts, IsPutSize, Fetches, Reads};
 ghost use Rattle.ei_spec.specs.declared.limits.TheConstants.{MOST_PIECE_BYTES, MOST_PIECE_HANDLES};
 
 use ei_spec::Handle;
@@ -81,6 +82,9 @@ pub trait Sink {
     /// How often it failed.
     ghost faults: { Self → ℕ };
 
+    /// How often it wanted memory.
+    ghost wants: { Self → ℕ };
+
     /// The second may come of the first by calls of this trait.
     ghost later: { Self → Self → Type 0 };
 
@@ -92,6 +96,7 @@ pub trait Sink {
         ensures size { IfOk result (λ n. IsPutSize n bytes.now) }
         ensures taken { Puts (taken self.old) (taken self.new) result bytes.now handles.now }
         ensures cause { HasPutCause (faults self.old) (faults self.new) result }
+        ensures want { HasPutWant (wants self.old) (wants self.new) result }
         ensures later { later self.old self.new };
 
     ghost later_refl: { (x : Self) → later x x };

@@ -1,6 +1,6 @@
 //! How the ring of unread bytes grows.
 
-ghost use Rattle.std.specs.Prelude.{◌≡◌, ◌≢◌, ℕ, ◌+◌, ◌*◌, ◌/◌, ◌^◌, ◌<◌, ◌≤◌, length, OnOk, OnErr, MatchOption};
+ghost use Rattle.std.specs.Prelude.{◌≡◌, ◌≢◌, ℕ, ◌+◌, ◌*◌, ◌/◌, ◌^◌, ◌<◌, ◌≤◌, length, IsOk, OnOk, OnErr, MatchOption};
 ghost use Rattle.circular_buffer.specs.Buffer.{buffer};
 ghost use Rattle.ei_backend.specs.Ring.{first_capacity, grown};
 
@@ -39,14 +39,17 @@ fn capacity_for(len: usize, capacity: usize) -> Option<usize>
 
 /// Lets a ring hold one more piece behind what is in it.
 ///
-/// `NoMemory`; then the ring is as it was.
+/// `NoMemory`, but not where it has that room; then the ring is as it was.
 pub(crate) fn make_room(bytes: &mut HeapCircularBuffer<u8>) -> Result<(), NoMemory>
     ensures ok { OnOk result (bytes.new ≡ buffer bytes.old.items (grown (length bytes.old.items) bytes.old.capacity)) }
     ensures err { OnErr result (bytes.new ≡ bytes.old) }
+    ensures room { length bytes.old.items + MOST_PIECE_BYTES ≤ bytes.old.capacity → IsOk result }
 {
     let Some(capacity) = capacity_for(bytes.len(), bytes.capacity()) else {
         return Err(NoMemory);
     };
-    bytes.resize(capacity)?;
+    if capacity != bytes.capacity() {
+        bytes.resize(capacity)?;
+    }
     Ok(())
 }

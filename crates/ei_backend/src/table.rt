@@ -5,7 +5,8 @@ ghost use Rattle.std.specs.Option.{option_copied};
 ghost use Rattle.ei_wire.specs.Gives.{Gives};
 ghost use Rattle.ei_wire.specs.declared.error.SendError.TheVariants as send_error;
 ghost use Rattle.ei_backend.specs.Object.{interface_view, HasFixedName};
-ghost use Rattle.ei_backend.specs.Table.{accept, found, peer_end, without, own, own_end, own_start, own_limit, with_own, with_room, new_table, first_object, first_server_id, is_own};
+ghost use Rattle.ei_backend.specs.Table.{accept, found, peer_end, without, own, own_end, own_start};
+ghost use Rattle.ei_backend.specs.Table.{own_limit, with_own, with_room, new_table, first_object, first_server_id, is_own};
 
 use crate::interface::InterfaceName;
 use crate::object::Object;

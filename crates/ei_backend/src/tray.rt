@@ -1,8 +1,8 @@
 //! A sink that keeps what it takes.
 
 ghost use Rattle.std.specs.Prelude.{◌≡◌, ◌↔◌, [], ◌∷◌, ◌++◌, Some, length, OnOk, OnErr, IfOk, IsErrOf, Contains};
-ghost use Rattle.ei_backend.specs.Outside.{HasPutCause, Puts, IsPutSize, with_more};
-ghost use Rattle.ei_backend.specs.Memory.{TrayView, counted, faults_after_put};
+ghost use Rattle.ei_backend.specs.Outside.{HasPutCause, HasPutWant, Puts, IsPutSize, with_more};
+ghost use Rattle.ei_backend.specs.Memory.{TrayView, counted, faults_after_put, wants_after_put};
 
 use crate::outside::{PutError, Sink};
 use ei_spec::Handle;
@@ -18,6 +18,7 @@ pub struct Tray {
     fails: Vec<u64>,
     calls: u64,
     faults: u64,
+    wants: u64,
 }
 
 impl Model for Tray {
@@ -30,6 +31,7 @@ impl Model for Tray {
       fails = s.fails.items;
       calls = s.calls;
       faults = s.faults;
+      wants = s.wants;
     } };
 }
 
@@ -37,7 +39,7 @@ impl Tray {
     /// A sink that took nothing yet, and never fails.
     pub fn new(alloc: Global) -> Tray
         ensures { result ≡
-            record { held = record { bytes = []; handles = [] }; fails = []; calls = 0; faults = 0 } }
+            record { held = record { bytes = []; handles = [] }; fails = []; calls = 0; faults = 0; wants = 0 } }
     {
         Tray {
             bytes: Vec::new(alloc),
@@ -45,6 +47,7 @@ impl Tray {
             fails: Vec::new(alloc),
             calls: 0,
             faults: 0,
+            wants: 0,
         }
     }
 
@@ -72,10 +75,33 @@ impl Tray {
     }
 }
 
+/// Puts bytes and handles behind others, or neither.
+fn extend_both(
+    bytes: &mut Vec<u8>,
+    handles: &mut Vec<Handle>,
+    more_bytes: &[u8],
+    more_handles: &[Handle],
+) -> Result<(), NoMemory>
+    ensures ok { OnOk result (bytes.new.items ≡ bytes.old.items ++ more_bytes.now) }
+    ensures ok_handles { OnOk result (handles.new.items ≡ handles.old.items ++ more_handles.now) }
+    ensures err { OnErr result (bytes.new.items ≡ bytes.old.items) }
+    ensures err_handles { OnErr result (handles.new.items ≡ handles.old.items) }
+{
+    let before = bytes.len();
+    bytes.extend_from_slice(more_bytes)?;
+    if handles.extend_from_slice(more_handles).is_err() {
+        bytes.truncate(before);
+        return Err(NoMemory);
+    }
+    Ok(())
+}
+
 impl Sink for Tray {
     ghost taken = { λ s. Some s.held };
 
     ghost faults = { λ s. s.faults };
+
+    ghost wants = { λ s. s.wants };
 
     ghost later = { λ _ _. Unit {0} };
 
@@ -87,6 +113,7 @@ impl Sink for Tray {
         ensures size { IfOk result (λ n. IsPutSize n bytes.now) }
         ensures taken { Puts (Some self.old.held) (Some self.new.held) result bytes.now handles.now }
         ensures cause { HasPutCause self.old.faults self.new.faults result }
+        ensures want { HasPutWant self.old.wants self.new.wants result }
         // beyond the trait's: which calls fail, and all that was handed to it
         ensures fails { IsErrOf result PutError.Fault ↔ Contains self.old.fails (counted self.old.calls) }
         ensures all { IfOk result (λ n. n ≡ length bytes.now) }
@@ -95,6 +122,7 @@ impl Sink for Tray {
         // what it counts, and what stays
         ensures calls { self.new.calls ≡ counted self.old.calls }
         ensures faults { self.new.faults ≡ faults_after_put result self.old.faults }
+        ensures wants { self.new.wants ≡ wants_after_put result self.old.wants }
         ensures same_fails { self.new.fails ≡ self.old.fails }
     {
         self.calls = self.calls.saturating_add(1);
@@ -102,12 +130,8 @@ impl Sink for Tray {
             self.faults = self.faults.saturating_add(1);
             return Err(PutError::Fault);
         }
-        let before = self.bytes.len();
-        if self.bytes.extend_from_slice(bytes).is_err() {
-            return Err(PutError::NoMemory);
-        }
-        if self.handles.extend_from_slice(handles).is_err() {
-            self.bytes.truncate(before);
+        if extend_both(&mut self.bytes, &mut self.handles, bytes, handles).is_err() {
+            self.wants = self.wants.saturating_add(1);
             return Err(PutError::NoMemory);
         }
         Ok(bytes.len())

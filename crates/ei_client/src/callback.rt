@@ -2,8 +2,7 @@
 
 ghost use Rattle.std.specs.Prelude.{◌≡◌, IfOk, true};
 ghost use Rattle.ei_spec.specs.declared.interface.KnownInterface.TheVariants as known;
-ghost use Rattle.ei_backend.specs.Message.{ReadsRow};
-ghost use Rattle.ei_backend.specs.Shown.{Shows};
+ghost use Rattle.ei_backend.specs.Proxies.{ReadsRow, Shows};
 ghost use Rattle.ei_client.specs.Callback.{code_of, values_of};
 
 use crate::proxy::Proxy;
@@ -34,10 +33,9 @@ impl Event {
         ensures table { objects.new ≡ objects.old }
     {
         match opcode {
-            0 => {
-                let callback_data = read_one(bytes)?;
-                Ok(Event::Done { callback_data })
-            }
+            0 => Ok(Event::Done {
+                callback_data: read_one(bytes)?,
+            }),
             _ => Err(ParseError::InvalidOpcode("callback", opcode)),
         }
     }
@@ -54,9 +52,8 @@ impl Event {
     pub(crate) fn args(&self, alloc: Global) -> Result<Vec<Arg<'_>>, NoMemory>
         ensures { IfOk result (λ args. Shows true known.Callback (code_of self.now) (values_of self.now) args.items) }
     {
-        let args = match self {
+        Ok(match self {
             Event::Done { callback_data } => Vec::from_array(alloc, [Arg::Uint64(*callback_data)])?,
-        };
-        Ok(args)
+        })
     }
 }

@@ -1,18 +1,11 @@
 //! `ei_connection`: the connection, which stands until one end ends it.
 
 ghost use Rattle.std.specs.Prelude.{◌≡◌, IfOk, OnErr, true, codes, [], ◌∷◌};
-ghost use Rattle.ei_spec.specs.Value.{Word, Long};
+ghost use Rattle.ei_backend.specs.Proxies.{Word, Long, ReadsRow, Shows, Sends, SendsNew};
 ghost use Rattle.ei_spec.specs.declared.interface.KnownInterface.TheVariants as known;
-ghost use Rattle.ei_backend.specs.Message.{ReadsRow};
-ghost use Rattle.ei_backend.specs.Shown.{Shows};
-ghost use Rattle.ei_backend.specs.Sends.{Sends, SendsNew};
 ghost use Rattle.ei_client.specs.Connection.{code_of, values_of, request};
 
-use crate::callback::Callback;
-use crate::context::Context;
-use crate::pingpong::Pingpong;
-use crate::proxy::Proxy;
-use crate::seat::Seat;
+use crate::{Callback, Context, Pingpong, Proxy, Seat};
 use ei_backend::{HasBackend, Interface, Table, kinds};
 use ei_types::DisconnectReason;
 use ei_wire::{
@@ -129,7 +122,7 @@ impl Event {
     pub(crate) fn args(&self, alloc: Global) -> Result<Vec<Arg<'_>>, NoMemory>
         ensures { IfOk result (λ args. Shows true known.Connection (code_of self.now) (values_of self.now) args.items) }
     {
-        let args = match self {
+        Ok(match self {
             Event::Disconnected {
                 last_serial,
                 reason,
@@ -150,7 +143,6 @@ impl Event {
                 invalid_id,
             } => { Vec::from_array(alloc, [Arg::Uint32(*last_serial), Arg::Uint64(*invalid_id)])? }
             Event::Ping { ping } => Vec::from_array(alloc, [ping.as_arg()])?,
-        };
-        Ok(args)
+        })
     }
 }

@@ -1,6 +1,6 @@
 //! The client's endpoint.
 
-ghost use Rattle.std.specs.Prelude.{◌≡◌, ◌≤◌, ℕ, List, Some, IfOk, OnOk, OnErr, IsErrOf, true, false, length};
+ghost use Rattle.std.specs.Prelude.{◌≡◌, ◌<◌, ◌≤◌, ◌+◌, ℕ, List, [], Some, None, Ok, IsOk, IfOk, OnOk, OnErr, IsErrOf, true, false, length};
 ghost use Rattle.ei_wire.specs.declared.error.ReadError.TheVariants as read_error;
 ghost use Rattle.ei_wire.specs.declared.error.FlushError.TheVariants as flush_error;
 ghost use Rattle.ei_backend.specs.declared.outside.LastAnswer.TheVariants as answers;
@@ -8,6 +8,7 @@ ghost use Rattle.ei_backend.specs.Outside.{Piece, Rose};
 ghost use Rattle.ei_backend.specs.Table.{found, new_table};
 ghost use Rattle.ei_backend.specs.Outgoing.{StopsAfter, Flushes};
 ghost use Rattle.ei_backend.specs.Backend.{new_backend, ReadsOn, ReadsPiece, Answers, Shortens, next, unsent_of, with_unsent};
+ghost use Rattle.ei_spec.specs.declared.limits.TheConstants.{MOST_MESSAGE_BYTES, MOST_PIECE_BYTES};
 ghost use Rattle.ei_client.specs.Event.{target_of, code_of, values_of};
 
 use crate::event::Event;
@@ -45,6 +46,8 @@ impl HasBackend for Context {
 
     ghost with_seen = { λ c. refl };
 
+    ghost with_twice = { λ x b c. refl };
+
     fn backend(&self) -> &Backend {
         &self.backend
     }
@@ -67,8 +70,9 @@ impl Context {
     /// Takes one piece from the source, and puts it behind what is unread. It answers how many bytes came.
     ///
     /// `UnexpectedEof` on a closed endpoint, which doesn't ask the source, and at the source's end;
-    /// `NoMemory` before the source is asked; `ReadFault` where the source failed; `HandleLimit` exactly
-    /// where more than 4096 handles would be unread: the piece is dropped and the endpoint closed.
+    /// `NoMemory` before the source is asked, and only where the ring has to grow; `ReadFault` where the
+    /// source failed; `HandleLimit` exactly where more than 4096 handles would be unread: the piece is
+    /// dropped and the endpoint closed.
     pub fn read<S: Source>(&mut self, source: &mut S) -> Result<usize, ReadError>
         // on a closed endpoint
         ensures closed { self.old.closed ≡ true → IsErrOf result read_error.UnexpectedEof }
@@ -80,7 +84,9 @@ impl Context {
             → ReadsPiece pieces (S.left source.new) result self.old self.new }
         // what the source says
         ensures memory { IsErrOf result read_error.NoMemory → source.new ≡ source.old }
+        ensures room { length self.old.unread + MOST_PIECE_BYTES ≤ self.old.capacity → IsErrOf result read_error.NoMemory → ⊥ }
         ensures fault { IsErrOf result read_error.ReadFault → Rose (S.faults source.old) (S.faults source.new) }
+        ensures risen { S.faults source.old < S.faults source.new → IsErrOf result read_error.ReadFault }
         ensures last_piece { OnOk result (S.last source.new ≡ answers.Piece) }
         ensures last_limit { IsErrOf result read_error.HandleLimit → S.last source.new ≡ answers.Piece }
         ensures last_end { self.old.closed ≡ false → IsErrOf result read_error.UnexpectedEof
@@ -95,14 +101,24 @@ impl Context {
     /// Puts all that waits to be sent into the sink, all handles with the first bytes. After a refusal the
     /// rest waits.
     ///
-    /// `WriteFault` where the sink failed, `NoMemory` where it wants memory.
+    /// `WriteFault` where the sink failed, `NoMemory` where it wants memory. Where nothing waits the sink
+    /// isn't asked.
     pub fn flush<K: Sink>(&mut self, sink: &mut K) -> Result<(), FlushError>
         ensures stops { StopsAfter (unsent_of self.old) result (unsent_of self.new) }
         ensures took { (held : Piece) → K.taken sink.old ≡ Some held
             → Flushes held (unsent_of self.old) result (unsent_of self.new) (K.taken sink.new) }
         ensures kept { self.new ≡ with_unsent (unsent_of self.new) self.old }
+        // where nothing waits
+        ensures nothing { self.old.unsent ≡ [] → IsOk result }
+        ensures nothing_kept { self.old.unsent ≡ [] → self.new ≡ self.old }
+        ensures nothing_put { self.old.unsent ≡ [] → sink.new ≡ sink.old }
+        // what the sink says
         ensures fault { IsErrOf result flush_error.WriteFault → Rose (K.faults sink.old) (K.faults sink.new) }
+        ensures risen { K.faults sink.old < K.faults sink.new → IsErrOf result flush_error.WriteFault }
         ensures count { K.faults sink.old ≤ K.faults sink.new }
+        ensures want { IsErrOf result flush_error.NoMemory → Rose (K.wants sink.old) (K.wants sink.new) }
+        ensures want_risen { K.wants sink.old < K.wants sink.new → IsErrOf result flush_error.NoMemory }
+        ensures want_count { K.wants sink.old ≤ K.wants sink.new }
         ensures later { K.later sink.old sink.new }
     {
         self.backend.flush(sink)
@@ -122,7 +138,8 @@ impl Context {
         self.backend.ring_capacity()
     }
 
-    /// The handshake; `None` exactly where object 0 isn't there, after the connection came.
+    /// The handshake; `None` exactly where object 0 isn't there. What a server destroys stays in a client's table, so
+    /// it is there after the connection came, too.
     pub fn handshake(&self) -> Option<Handshake>
         ensures { result ≡ found self.now.table 0 }
     {
@@ -137,6 +154,7 @@ impl Context {
     pub fn pending_event(&mut self) -> Result<Option<PendingRequestResult<Event>>, NoMemory>
         ensures ok { IfOk result (λ answer. Answers target_of code_of values_of answer self.new (next true self.old)) }
         ensures shorter { IfOk result (λ answer. Shortens self.old.unread self.new.unread answer) }
+        ensures few_left { result ≡ Ok None → length self.new.unread < MOST_MESSAGE_BYTES }
         ensures err { OnErr result (self.new ≡ self.old) }
     {
         self.backend.pending()

@@ -1,18 +1,14 @@
 //! `ei_device`: a device, which has interfaces for input.
 
 ghost use Rattle.std.specs.Prelude.{◌≡◌, IfOk, OnErr, true, codes, [], ◌∷◌};
-ghost use Rattle.ei_spec.specs.Value.{Word, Long};
+ghost use Rattle.ei_backend.specs.Proxies.{Word, Long, ReadsRow, Shows, Sends};
 ghost use Rattle.ei_spec.specs.Interface.{named, bytes_of};
 ghost use Rattle.ei_spec.specs.declared.interface.KnownInterface.TheVariants as known;
 ghost use Rattle.ei_wire.specs.Gives.{Gives};
-ghost use Rattle.ei_backend.specs.Message.{ReadsRow};
-ghost use Rattle.ei_backend.specs.Shown.{Shows};
 ghost use Rattle.ei_backend.specs.Table.{accept};
-ghost use Rattle.ei_backend.specs.Sends.{Sends};
 ghost use Rattle.ei_client.specs.Device.{code_of, values_of, request};
 
-use crate::context::Context;
-use crate::proxy::Proxy;
+use crate::{Context, Proxy};
 use ei_backend::{Interface, InterfaceName, Object, Table, kinds};
 use ei_types::DeviceType;
 use ei_wire::{
@@ -182,18 +178,15 @@ impl Event {
         ensures err { OnErr result (objects.new ≡ objects.old) }
     {
         match opcode {
-            0 => {
-                let serial = read_one(bytes)?;
-                Ok(Event::Destroyed { serial })
-            }
-            1 => {
-                let name = read_one(bytes)?;
-                Ok(Event::Name { name })
-            }
-            2 => {
-                let device_type = read_one(bytes)?;
-                Ok(Event::DeviceType { device_type })
-            }
+            0 => Ok(Event::Destroyed {
+                serial: read_one(bytes)?,
+            }),
+            1 => Ok(Event::Name {
+                name: read_one(bytes)?,
+            }),
+            2 => Ok(Event::DeviceType {
+                device_type: read_one(bytes)?,
+            }),
             3 => {
                 let (width, height) = read_two(bytes)?;
                 Ok(Event::Dimensions { width, height })
@@ -214,30 +207,26 @@ impl Event {
                 Ok(Event::Interface { object })
             }
             6 => Ok(Event::Done),
-            7 => {
-                let serial = read_one(bytes)?;
-                Ok(Event::Resumed { serial })
-            }
-            8 => {
-                let serial = read_one(bytes)?;
-                Ok(Event::Paused { serial })
-            }
+            7 => Ok(Event::Resumed {
+                serial: read_one(bytes)?,
+            }),
+            8 => Ok(Event::Paused {
+                serial: read_one(bytes)?,
+            }),
             9 => {
                 let (serial, sequence) = read_two(bytes)?;
                 Ok(Event::StartEmulating { serial, sequence })
             }
-            10 => {
-                let serial = read_one(bytes)?;
-                Ok(Event::StopEmulating { serial })
-            }
+            10 => Ok(Event::StopEmulating {
+                serial: read_one(bytes)?,
+            }),
             11 => {
                 let (serial, timestamp) = read_two(bytes)?;
                 Ok(Event::Frame { serial, timestamp })
             }
-            12 => {
-                let mapping_id = read_one(bytes)?;
-                Ok(Event::RegionMappingId { mapping_id })
-            }
+            12 => Ok(Event::RegionMappingId {
+                mapping_id: read_one(bytes)?,
+            }),
             _ => Err(ParseError::InvalidOpcode("device", opcode)),
         }
     }
@@ -266,7 +255,7 @@ impl Event {
     pub(crate) fn args(&self, alloc: Global) -> Result<Vec<Arg<'_>>, NoMemory>
         ensures { IfOk result (λ args. Shows true known.Device (code_of self.now) (values_of self.now) args.items) }
     {
-        let args = match self {
+        Ok(match self {
             Event::Destroyed { serial } => Vec::from_array(alloc, [Arg::Uint32(*serial)])?,
             Event::Name { name } => Vec::from_array(alloc, [Arg::String(Some(name.as_str()))])?,
             Event::DeviceType { device_type } => {
@@ -307,7 +296,6 @@ impl Event {
             Event::RegionMappingId { mapping_id } => {
                 Vec::from_array(alloc, [Arg::String(Some(mapping_id.as_str()))])?
             }
-        };
-        Ok(args)
+        })
     }
 }

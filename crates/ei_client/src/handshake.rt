@@ -1,17 +1,12 @@
 //! `ei_handshake`: the object that is there from the first.
 
 ghost use Rattle.std.specs.Prelude.{◌≡◌, IfOk, OnErr, true, codes, [], ◌∷◌};
-ghost use Rattle.ei_spec.specs.Value.{Word, Letters};
+ghost use Rattle.ei_backend.specs.Proxies.{Word, Letters, ReadsRow, Shows, Sends, SendsText};
 ghost use Rattle.ei_spec.specs.declared.interface.KnownInterface.TheVariants as known;
 ghost use Rattle.ei_types.specs.Enums.{context_type_number};
-ghost use Rattle.ei_backend.specs.Message.{ReadsRow};
-ghost use Rattle.ei_backend.specs.Shown.{Shows};
-ghost use Rattle.ei_backend.specs.Sends.{Sends, SendsText};
 ghost use Rattle.ei_client.specs.Handshake.{code_of, values_of, request};
 
-use crate::connection::Connection;
-use crate::context::Context;
-use crate::proxy::Proxy;
+use crate::{Connection, Context, Proxy};
 use ei_backend::{Interface, Table, kinds};
 use ei_types::ContextType;
 use ei_wire::{
@@ -111,10 +106,9 @@ impl Event {
         ensures err { OnErr result (objects.new ≡ objects.old) }
     {
         match opcode {
-            0 => {
-                let version = read_one(bytes)?;
-                Ok(Event::HandshakeVersion { version })
-            }
+            0 => Ok(Event::HandshakeVersion {
+                version: read_one(bytes)?,
+            }),
             1 => {
                 let (name, version) = read_two(bytes)?;
                 Ok(Event::InterfaceVersion { name, version })
@@ -142,7 +136,7 @@ impl Event {
     pub(crate) fn args(&self, alloc: Global) -> Result<Vec<Arg<'_>>, NoMemory>
         ensures { IfOk result (λ args. Shows true known.Handshake (code_of self.now) (values_of self.now) args.items) }
     {
-        let args = match self {
+        Ok(match self {
             Event::HandshakeVersion { version } => Vec::from_array(alloc, [Arg::Uint32(*version)])?,
             Event::InterfaceVersion { name, version } => {
                 Vec::from_array(
@@ -153,7 +147,6 @@ impl Event {
             Event::Connection { serial, connection } => {
                 Vec::from_array(alloc, [Arg::Uint32(*serial), connection.as_arg()])?
             }
-        };
-        Ok(args)
+        })
     }
 }

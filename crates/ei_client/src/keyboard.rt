@@ -1,16 +1,12 @@
 //! `ei_keyboard`: the keys of a device.
 
 ghost use Rattle.std.specs.Prelude.{◌≡◌, IfOk, true, codes, [], ◌∷◌};
-ghost use Rattle.ei_spec.specs.Value.{Word};
+ghost use Rattle.ei_backend.specs.Proxies.{Word, ReadsRow, Shows, Sends};
 ghost use Rattle.ei_spec.specs.declared.interface.KnownInterface.TheVariants as known;
 ghost use Rattle.ei_types.specs.Enums.{key_state_number};
-ghost use Rattle.ei_backend.specs.Message.{ReadsRow};
-ghost use Rattle.ei_backend.specs.Shown.{Shows};
-ghost use Rattle.ei_backend.specs.Sends.{Sends};
 ghost use Rattle.ei_client.specs.Keyboard.{code_of, values_of, request};
 
-use crate::context::Context;
-use crate::proxy::Proxy;
+use crate::{Context, Proxy};
 use ei_backend::{Interface, Table, kinds};
 use ei_types::{KeyState, KeymapType};
 use ei_wire::{
@@ -86,10 +82,9 @@ impl Event {
         ensures table { objects.new ≡ objects.old }
     {
         match opcode {
-            0 => {
-                let serial = read_one(bytes)?;
-                Ok(Event::Destroyed { serial })
-            }
+            0 => Ok(Event::Destroyed {
+                serial: read_one(bytes)?,
+            }),
             1 => {
                 let (keymap_type, size, keymap) = read_three(bytes)?;
                 Ok(Event::Keymap {
@@ -130,7 +125,7 @@ impl Event {
     pub(crate) fn args(&self, alloc: Global) -> Result<Vec<Arg<'_>>, NoMemory>
         ensures { IfOk result (λ args. Shows true known.Keyboard (code_of self.now) (values_of self.now) args.items) }
     {
-        let args = match self {
+        Ok(match self {
             Event::Destroyed { serial } => Vec::from_array(alloc, [Arg::Uint32(*serial)])?,
             Event::Keymap {
                 keymap_type,
@@ -167,7 +162,6 @@ impl Event {
                     ],
                 )?
             }
-        };
-        Ok(args)
+        })
     }
 }

@@ -3,7 +3,7 @@
 //!
 //! There is no handshake here. Begin with `Context` and `Event`.
 //!
-//! No call that sends wants memory within the room that `Backend::reserve` made: its clause is `room`.
+//! No call that sends wants memory within the room that `Backend::reserve` made: `room` of its clause `sends`.
 #![tactic(auto)]
 
 pub mod button;

@@ -1,12 +1,10 @@
 //! `ei_pingpong`: a ping of the server, which the client answers. No event is sent to it.
 
 ghost use Rattle.std.specs.Prelude.{codes, [], ◌∷◌};
-ghost use Rattle.ei_spec.specs.Value.{Long};
-ghost use Rattle.ei_backend.specs.Sends.{Sends};
+ghost use Rattle.ei_backend.specs.Proxies.{Long, Sends};
 ghost use Rattle.ei_client.specs.Pingpong.{request};
 
-use crate::context::Context;
-use crate::proxy::Proxy;
+use crate::{Context, Proxy};
 use ei_backend::kinds;
 use ei_wire::{Arg, SendError};
 

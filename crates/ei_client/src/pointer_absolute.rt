@@ -1,15 +1,11 @@
 //! `ei_pointer_absolute`: the motion of a device to points of its regions.
 
 ghost use Rattle.std.specs.Prelude.{◌≡◌, IfOk, true, codes, [], ◌∷◌};
-ghost use Rattle.ei_spec.specs.Value.{Word};
+ghost use Rattle.ei_backend.specs.Proxies.{Word, ReadsRow, Shows, Sends};
 ghost use Rattle.ei_spec.specs.declared.interface.KnownInterface.TheVariants as known;
-ghost use Rattle.ei_backend.specs.Message.{ReadsRow};
-ghost use Rattle.ei_backend.specs.Shown.{Shows};
-ghost use Rattle.ei_backend.specs.Sends.{Sends};
 ghost use Rattle.ei_client.specs.PointerAbsolute.{code_of, values_of, request};
 
-use crate::context::Context;
-use crate::proxy::Proxy;
+use crate::{Context, Proxy};
 use ei_backend::{Table, kinds};
 use ei_wire::{Arg, ByteStream, NoMemory, ParseError, RawFloat, SendError, read_one, read_two};
 use std::alloc::Global;
@@ -65,10 +61,9 @@ impl Event {
         ensures table { objects.new ≡ objects.old }
     {
         match opcode {
-            0 => {
-                let serial = read_one(bytes)?;
-                Ok(Event::Destroyed { serial })
-            }
+            0 => Ok(Event::Destroyed {
+                serial: read_one(bytes)?,
+            }),
             1 => {
                 let (x, y) = read_two(bytes)?;
                 Ok(Event::MotionAbsolute { x, y })
@@ -90,13 +85,12 @@ impl Event {
         ensures { IfOk result
             (λ args. Shows true known.PointerAbsolute (code_of self.now) (values_of self.now) args.items) }
     {
-        let args = match self {
+        Ok(match self {
             Event::Destroyed { serial } => Vec::from_array(alloc, [Arg::Uint32(*serial)])?,
             Event::MotionAbsolute { x, y } => Vec::from_array(
                 alloc,
                 [Arg::Float(x.0), Arg::Float(y.0)],
             )?,
-        };
-        Ok(args)
+        })
     }
 }

@@ -1,15 +1,11 @@
 //! `ei_scroll`: the scrolling of a device.
 
 ghost use Rattle.std.specs.Prelude.{◌≡◌, IfOk, true, codes, [], ◌∷◌};
-ghost use Rattle.ei_spec.specs.Value.{Word, Signed};
+ghost use Rattle.ei_backend.specs.Proxies.{Word, Signed, ReadsRow, Shows, Sends};
 ghost use Rattle.ei_spec.specs.declared.interface.KnownInterface.TheVariants as known;
-ghost use Rattle.ei_backend.specs.Message.{ReadsRow};
-ghost use Rattle.ei_backend.specs.Shown.{Shows};
-ghost use Rattle.ei_backend.specs.Sends.{Sends};
 ghost use Rattle.ei_client.specs.Scroll.{code_of, values_of, request};
 
-use crate::context::Context;
-use crate::proxy::Proxy;
+use crate::{Context, Proxy};
 use ei_backend::{Table, kinds};
 use ei_wire::{
     Arg, ByteStream, NoMemory, ParseError, RawFloat, SendError, read_one, read_three, read_two,
@@ -93,10 +89,9 @@ impl Event {
         ensures table { objects.new ≡ objects.old }
     {
         match opcode {
-            0 => {
-                let serial = read_one(bytes)?;
-                Ok(Event::Destroyed { serial })
-            }
+            0 => Ok(Event::Destroyed {
+                serial: read_one(bytes)?,
+            }),
             1 => {
                 let (x, y) = read_two(bytes)?;
                 Ok(Event::Scroll { x, y })
@@ -127,7 +122,7 @@ impl Event {
     pub(crate) fn args(&self, alloc: Global) -> Result<Vec<Arg<'_>>, NoMemory>
         ensures { IfOk result (λ args. Shows true known.Scroll (code_of self.now) (values_of self.now) args.items) }
     {
-        let args = match self {
+        Ok(match self {
             Event::Destroyed { serial } => Vec::from_array(alloc, [Arg::Uint32(*serial)])?,
             Event::Scroll { x, y } => Vec::from_array(alloc, [Arg::Float(x.0), Arg::Float(y.0)])?,
             Event::ScrollDiscrete { x, y } => Vec::from_array(
@@ -140,7 +135,6 @@ impl Event {
                     [Arg::Uint32(*x), Arg::Uint32(*y), Arg::Uint32(*is_cancel)],
                 )?
             }
-        };
-        Ok(args)
+        })
     }
 }

@@ -1,16 +1,11 @@
 //! `ei_seat`: a seat, which offers capabilities.
 
 ghost use Rattle.std.specs.Prelude.{◌≡◌, IfOk, OnErr, true, codes, [], ◌∷◌};
-ghost use Rattle.ei_spec.specs.Value.{Long};
+ghost use Rattle.ei_backend.specs.Proxies.{Long, ReadsRow, Shows, Sends};
 ghost use Rattle.ei_spec.specs.declared.interface.KnownInterface.TheVariants as known;
-ghost use Rattle.ei_backend.specs.Message.{ReadsRow};
-ghost use Rattle.ei_backend.specs.Shown.{Shows};
-ghost use Rattle.ei_backend.specs.Sends.{Sends};
 ghost use Rattle.ei_client.specs.Seat.{code_of, values_of, request};
 
-use crate::context::Context;
-use crate::device::Device;
-use crate::proxy::Proxy;
+use crate::{Context, Device, Proxy};
 use ei_backend::{Interface, Table, kinds};
 use ei_wire::{Arg, ByteStream, EiText, NoMemory, ParseError, SendError, read_one, read_two};
 use std::alloc::Global;
@@ -75,14 +70,12 @@ impl Event {
         ensures err { OnErr result (objects.new ≡ objects.old) }
     {
         match opcode {
-            0 => {
-                let serial = read_one(bytes)?;
-                Ok(Event::Destroyed { serial })
-            }
-            1 => {
-                let name = read_one(bytes)?;
-                Ok(Event::Name { name })
-            }
+            0 => Ok(Event::Destroyed {
+                serial: read_one(bytes)?,
+            }),
+            1 => Ok(Event::Name {
+                name: read_one(bytes)?,
+            }),
             2 => {
                 let (mask, interface) = read_two(bytes)?;
                 Ok(Event::Capability { mask, interface })
@@ -113,7 +106,7 @@ impl Event {
     pub(crate) fn args(&self, alloc: Global) -> Result<Vec<Arg<'_>>, NoMemory>
         ensures { IfOk result (λ args. Shows true known.Seat (code_of self.now) (values_of self.now) args.items) }
     {
-        let args = match self {
+        Ok(match self {
             Event::Destroyed { serial } => Vec::from_array(alloc, [Arg::Uint32(*serial)])?,
             Event::Name { name } => Vec::from_array(alloc, [Arg::String(Some(name.as_str()))])?,
             Event::Capability { mask, interface } => {
@@ -124,7 +117,6 @@ impl Event {
             }
             Event::Done => Vec::new(alloc),
             Event::Device { device } => Vec::from_array(alloc, [device.as_arg()])?,
-        };
-        Ok(args)
+        })
     }
 }

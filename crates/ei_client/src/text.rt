@@ -1,16 +1,12 @@
 //! `ei_text`: the keysyms and the text of a device.
 
 ghost use Rattle.std.specs.Prelude.{◌≡◌, IfOk, true, codes, [], ◌∷◌};
-ghost use Rattle.ei_spec.specs.Value.{Word, Letters};
+ghost use Rattle.ei_backend.specs.Proxies.{Word, Letters, ReadsRow, Shows, Sends, SendsText};
 ghost use Rattle.ei_spec.specs.declared.interface.KnownInterface.TheVariants as known;
 ghost use Rattle.ei_types.specs.Enums.{key_state_number};
-ghost use Rattle.ei_backend.specs.Message.{ReadsRow};
-ghost use Rattle.ei_backend.specs.Shown.{Shows};
-ghost use Rattle.ei_backend.specs.Sends.{Sends, SendsText};
 ghost use Rattle.ei_client.specs.Text.{code_of, values_of, request};
 
-use crate::context::Context;
-use crate::proxy::Proxy;
+use crate::{Context, Proxy};
 use ei_backend::{Interface, Table, kinds};
 use ei_types::KeyState;
 use ei_wire::{
@@ -76,18 +72,16 @@ impl Event {
         ensures table { objects.new ≡ objects.old }
     {
         match opcode {
-            0 => {
-                let serial = read_one(bytes)?;
-                Ok(Event::Destroyed { serial })
-            }
+            0 => Ok(Event::Destroyed {
+                serial: read_one(bytes)?,
+            }),
             1 => {
                 let (keysym, state) = read_two(bytes)?;
                 Ok(Event::Keysym { keysym, state })
             }
-            2 => {
-                let text = read_one(bytes)?;
-                Ok(Event::Utf8 { text })
-            }
+            2 => Ok(Event::Utf8 {
+                text: read_one(bytes)?,
+            }),
             _ => Err(ParseError::InvalidOpcode("text", opcode)),
         }
     }
@@ -105,7 +99,7 @@ impl Event {
     pub(crate) fn args(&self, alloc: Global) -> Result<Vec<Arg<'_>>, NoMemory>
         ensures { IfOk result (λ args. Shows true known.Text (code_of self.now) (values_of self.now) args.items) }
     {
-        let args = match self {
+        Ok(match self {
             Event::Destroyed { serial } => Vec::from_array(alloc, [Arg::Uint32(*serial)])?,
             Event::Keysym { keysym, state } => {
                 Vec::from_array(
@@ -114,7 +108,6 @@ impl Event {
                 )?
             }
             Event::Utf8 { text } => Vec::from_array(alloc, [Arg::String(Some(text.as_str()))])?,
-        };
-        Ok(args)
+        })
     }
 }

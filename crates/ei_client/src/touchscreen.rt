@@ -1,15 +1,11 @@
 //! `ei_touchscreen`: the touches on a device.
 
 ghost use Rattle.std.specs.Prelude.{◌≡◌, IfOk, true, codes, [], ◌∷◌};
-ghost use Rattle.ei_spec.specs.Value.{Word};
+ghost use Rattle.ei_backend.specs.Proxies.{Word, ReadsRow, Shows, Sends};
 ghost use Rattle.ei_spec.specs.declared.interface.KnownInterface.TheVariants as known;
-ghost use Rattle.ei_backend.specs.Message.{ReadsRow};
-ghost use Rattle.ei_backend.specs.Shown.{Shows};
-ghost use Rattle.ei_backend.specs.Sends.{Sends};
 ghost use Rattle.ei_client.specs.Touchscreen.{code_of, values_of, request};
 
-use crate::context::Context;
-use crate::proxy::Proxy;
+use crate::{Context, Proxy};
 use ei_backend::{Table, kinds};
 use ei_wire::{Arg, ByteStream, NoMemory, ParseError, RawFloat, SendError, read_one, read_three};
 use std::alloc::Global;
@@ -122,10 +118,9 @@ impl Event {
         ensures table { objects.new ≡ objects.old }
     {
         match opcode {
-            0 => {
-                let serial = read_one(bytes)?;
-                Ok(Event::Destroyed { serial })
-            }
+            0 => Ok(Event::Destroyed {
+                serial: read_one(bytes)?,
+            }),
             1 => {
                 let (touchid, x, y) = read_three(bytes)?;
                 Ok(Event::Down { touchid, x, y })
@@ -134,14 +129,12 @@ impl Event {
                 let (touchid, x, y) = read_three(bytes)?;
                 Ok(Event::Motion { touchid, x, y })
             }
-            3 => {
-                let touchid = read_one(bytes)?;
-                Ok(Event::Up { touchid })
-            }
-            4 => {
-                let touchid = read_one(bytes)?;
-                Ok(Event::Cancel { touchid })
-            }
+            3 => Ok(Event::Up {
+                touchid: read_one(bytes)?,
+            }),
+            4 => Ok(Event::Cancel {
+                touchid: read_one(bytes)?,
+            }),
             _ => Err(ParseError::InvalidOpcode("touchscreen", opcode)),
         }
     }
@@ -162,7 +155,7 @@ impl Event {
         ensures { IfOk result
             (λ args. Shows true known.Touchscreen (code_of self.now) (values_of self.now) args.items) }
     {
-        let args = match self {
+        Ok(match self {
             Event::Destroyed { serial } => Vec::from_array(alloc, [Arg::Uint32(*serial)])?,
             Event::Down { touchid, x, y } => {
                 Vec::from_array(
@@ -178,7 +171,6 @@ impl Event {
             }
             Event::Up { touchid } => Vec::from_array(alloc, [Arg::Uint32(*touchid)])?,
             Event::Cancel { touchid } => Vec::from_array(alloc, [Arg::Uint32(*touchid)])?,
-        };
-        Ok(args)
+        })
     }
 }

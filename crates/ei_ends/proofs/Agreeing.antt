@@ -1,5 +1,6 @@
 -- What was taken still agrees, and what is known at one end is known at the other.
-use Rattle.std.proofs.Common.{◌≡◌, ℕ, suc, ◌≤◌, Bool, true, false, ◌||◌, ◌&&◌, inl, inr, List, [], ◌∷◌, length, drop, Some, None, refl, ap, ◌∙◌, arith, subst, sym}
+use Rattle.std.proofs.Common.{◌≡◌, ℕ, suc, ◌≤◌, Bool, true, false, ◌||◌, ◌&&◌, inl, inr, List, [], ◌∷◌, length, drop, Some, None, refl, ap, ◌∙◌, arith, subst}
+use Rattle.std.proofs.Common.{sym}
 use Rattle.std.specs.Prelude.{◌-◌}
 use Rattle.ei_ends.specs.Sent.{other, Sent, Got, Took, Missed, New, new_of}
 use Rattle.ei_ends.specs.Announced.{announced, destroyed, first, known_by, is_named}

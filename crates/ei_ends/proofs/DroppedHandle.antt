@@ -5,7 +5,8 @@ use Rattle.ei_ends.specs.Sent.{Sent, Got, Took, Missed, handles_in, spelled, IsA
 use Rattle.ei_ends.specs.Agree.{after_of, afters, dropped, IsTaken, handles_sent, handles_got}
 use Rattle.ei_ends.specs.Steps.{no_piece}
 use Rattle.ei_ends.specs.Joined.{Joined, AreListedCalls}
-use Rattle.ei_ends.specs.Worked.{server_says, client_writes, silence, connection, disconnect, seat, device, keyboard, keymap, talk_keyboard, talk_keymap, talk_keymaps}
+use Rattle.ei_ends.specs.Worked.{server_says, client_writes, silence, connection, disconnect, seat, device, keyboard, keymap, talk_keyboard, talk_keymap}
+use Rattle.ei_ends.specs.Worked.{talk_keymaps}
 use Rattle.ei_ends.proofs.JoinedSteps.{handles_in_order}
 use Rattle.ei_ends.proofs.EqualHandles.{same_message}
 use Rattle.ei_ends.proofs.Flowing.{alike_handles}

@@ -4,7 +4,8 @@ use Rattle.ei_spec.specs.declared.handle.Handle.{Handle}
 use Rattle.std.proofs.lemmas.List.{take-append-drop, length-take, length-drop}
 use Rattle.std.proofs.lemmas.Bool.{cases_lt}
 use Rattle.std.specs.Prelude.{if◌then◌else◌}
-use Rattle.std.proofs.Common.{◌≡◌, ℕ, ◌+◌, ◌≤◌, Bool, true, false, inl, inr, List, [], ◌++◌, length, Some, None, refl, sym, ap, subst, ◌∙◌, arith, append_assoc, append-nil, map, ◌∷◌, ◌⊎◌, take, drop}
+use Rattle.std.proofs.Common.{◌≡◌, ℕ, ◌+◌, ◌≤◌, Bool, true, false, inl, inr, List, [], ◌++◌, length, Some, None, refl, sym, ap, subst, ◌∙◌, arith, append_assoc}
+use Rattle.std.proofs.Common.{append-nil, map, ◌∷◌, ◌⊎◌, take, drop}
 use Rattle.ei_spec.specs.declared.interface.KnownInterface.{KnownInterface}
 use Rattle.ei_spec.specs.Value.{Kind, Value}
 use Rattle.ei_spec.specs.Reading.{Fault}
@@ -12,12 +13,14 @@ use Rattle.ei_spec.specs.Interface.{Known, ObjectView, Interface, named}
 use Rattle.ei_spec.specs.Rows.{Row, Announces, Nothing, Fixed, Named, version_of, name_in}
 use Rattle.ei_spec.specs.Piece.{Piece}
 use Rattle.ei_spec.specs.Message.{all_bytes}
-use Rattle.ei_backend.specs.Backend.{BackendView, Answer, Waits, Refused, Gone, Message, next, unsent_of, after_row, with_announced, with_object, without_target, sent, sent_new, removed}
+use Rattle.ei_backend.specs.Backend.{BackendView, Answer, Waits, Refused, Gone, Message, next, unsent_of, after_row, with_announced, with_object}
+use Rattle.ei_backend.specs.Backend.{without_target, sent, sent_new, removed}
 use Rattle.ei_ends.specs.Sent.{other, Sent, Got, Took, Missed, New, new_by, new_in, new_of, row_of, destroys, ends_target, bytes_in, handles_in, raw_of}
 use Rattle.ei_ends.specs.Announced.{next_own}
 use Rattle.ei_ends.specs.Agree.{oldest, handles_sent, KeepsHandles, AllEqual, handles_got, AreTimes}
 use Rattle.ei_ends.specs.Way.{HasNextId, MaySend, End, Cut, Tied, alive}
-use Rattle.ei_ends.specs.Steps.{behind, no_piece, table_after, table_with, called, after_call, flushed, delivered, closed_end, with_taken, ringed, roomy, IsPiece, stored, after_calls, with_sent, having_read, having_answered, after_read, handed, left_over}
+use Rattle.ei_ends.specs.Steps.{behind, no_piece, table_after, table_with, called, after_call, flushed, delivered, closed_end, with_taken, ringed, roomy}
+use Rattle.ei_ends.specs.Steps.{IsPiece, stored, after_calls, with_sent, having_read, having_answered, after_read, handed, left_over}
 use Rattle.ei_ends.specs.Joined.{new_end, Joined, AllDelivered, IsCallOf, AgreeSoFar, AreCalls, ArePlain}
 use Rattle.ei_ends.proofs.ReadsNext.{Misses, Takes, cut_shorter}
 use Rattle.ei_ends.proofs.Begins.{start}

@@ -1,5 +1,6 @@
 -- What is taken once all was delivered, and what an end may send, by the lists alone.
-use Rattle.std.proofs.Common.{◌≡◌, ℕ, ◌+◌, ◌≤◌, Bool, true, false, ◌⊎◌, inl, inr, List, [], ◌∷◌, ◌++◌, length, Option, Some, None, refl, sym, ap, subst, ◌∙◌, append-nil, length-append, arith}
+use Rattle.std.proofs.Common.{◌≡◌, ℕ, ◌+◌, ◌≤◌, Bool, true, false, ◌⊎◌, inl, inr, List, [], ◌∷◌, ◌++◌, length, Option, Some, None, refl, sym, ap, subst, ◌∙◌}
+use Rattle.std.proofs.Common.{append-nil, length-append, arith}
 use Rattle.ei_spec.specs.Interface.{ObjectView, Known}
 use Rattle.ei_spec.specs.Rows.{Row}
 use Rattle.ei_spec.specs.Message.{Raw, Front, Short, Unlawful, Whole, front, size}

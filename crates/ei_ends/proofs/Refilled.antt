@@ -3,7 +3,8 @@ use Rattle.std.proofs.Common.{◌≡◌, ◌≤◌, List, [], ◌∷◌, ◌++�
 use Rattle.std.specs.List.{flat_map}
 use Rattle.std.proofs.lemmas.List.{length-append}
 use Rattle.ei_spec.specs.declared.handle.Handle.{Handle as Descriptor}
-use Rattle.ei_spec.specs.Value.{Kind, U32, I32, U64, I64, Float, Text, Nullable, Handle, New, Choice, Value, Word, Long, Signed, SignedLong, Letters, Null, Fd, IsOf, written, handles_of}
+use Rattle.ei_spec.specs.Value.{Kind, U32, I32, U64, I64, Float, Text, Nullable, Handle, New, Choice, OpenChoice, Value, Word, Long, Signed, SignedLong}
+use Rattle.ei_spec.specs.Value.{Letters, Null, Fd, IsOf, written, handles_of}
 use Rattle.ei_spec.specs.Arguments.{AreOf}
 use Rattle.ei_ends.specs.Sent.{bare}
 
@@ -28,6 +29,7 @@ any_handle Nullable g h x = x
 any_handle Handle g h x = x
 any_handle New g h x = x
 any_handle (Choice n vs) g h x = x
+any_handle OpenChoice g h x = x
 
 -- a value that isn't a handle stays
 kept : (k : Kind) (ks : List Kind) (v : Value) (vs : List Value) (hs : List Descriptor) → handles_of v ≡ [] → IsOf k v → Refilled ks vs hs → Refilled (k ∷ ks) (v ∷ vs) hs

@@ -1,38 +1,28 @@
 -- Reasons and states are read by their numbers.
-use Rattle.std.proofs.Common.{◌≡◌, ℕ, List, [], ◌∷◌, Some, None, refl}
+use Rattle.std.proofs.Common.{◌≡◌, ℕ, List, [], ◌∷◌, Some, None, refl, ap}
 use Rattle.std.specs.Prelude.{codes}
 use Rattle.ei_spec.specs.declared.interface.KnownInterface.TheVariants as known
 use Rattle.ei_spec.specs.Value.{Word, Letters, Null}
 use Rattle.ei_types.specs.declared.enums.DisconnectReason.{DisconnectReason}
-use Rattle.ei_types.specs.declared.enums.DisconnectReason.TheVariants as reason
 use Rattle.ei_types.specs.declared.enums.ButtonState.{ButtonState}
 use Rattle.ei_types.specs.declared.enums.ButtonState.TheVariants as button_state
 use Rattle.ei_types.specs.declared.enums.KeyState.{KeyState}
 use Rattle.ei_types.specs.declared.enums.KeyState.TheVariants as key_state
-use Rattle.ei_types.specs.Enums.{disconnect_reason_number, button_state_number, key_state_number}
+use Rattle.ei_types.specs.Enums.{IsReason, disconnect_reason_number, button_state_number, key_state_number}
+use Rattle.ei_types.proofs.EnumNumbers.{reason_again}
 use Rattle.ei_types.specs.Inputs.{Button, KeyboardKey, TextKeysym}
 use Rattle.ei_reported.specs.Event.{event}
 use Rattle.ei_reported.specs.Said.{Disconnects, Inputs, said}
 
-pub disconnected : (id last_serial : ℕ) (why : DisconnectReason) (t : List ℕ) →
+pub disconnected : (id last_serial : ℕ) (why : DisconnectReason) (t : List ℕ) → IsReason why →
     said (event known.Connection (codes "disconnected") id (Word last_serial ∷ Word (disconnect_reason_number why) ∷ Letters t ∷ [])) ≡ Disconnects last_serial why (Some t)
 unfolding said
-disconnected id s reason.Disconnected t = refl
-disconnected id s reason.Error t = refl
-disconnected id s reason.Mode t = refl
-disconnected id s reason.Protocol t = refl
-disconnected id s reason.Value t = refl
-disconnected id s reason.Transport t = refl
+disconnected id s why t is = ap (λ (r : DisconnectReason). Disconnects s r (Some t)) (reason_again why is)
 
-pub without_text : (id last_serial : ℕ) (why : DisconnectReason) →
+pub without_text : (id last_serial : ℕ) (why : DisconnectReason) → IsReason why →
     said (event known.Connection (codes "disconnected") id (Word last_serial ∷ Word (disconnect_reason_number why) ∷ Null ∷ [])) ≡ Disconnects last_serial why None
 unfolding said
-without_text id s reason.Disconnected = refl
-without_text id s reason.Error = refl
-without_text id s reason.Mode = refl
-without_text id s reason.Protocol = refl
-without_text id s reason.Value = refl
-without_text id s reason.Transport = refl
+without_text id s why is = ap (λ (r : DisconnectReason). Disconnects s r None) (reason_again why is)
 
 pub button : (id code : ℕ) (state : ButtonState) → said (event known.Button (codes "button") id (Word code ∷ Word (button_state_number state) ∷ [])) ≡ Inputs id (Button code state)
 unfolding said

@@ -4,7 +4,7 @@ use Rattle.std.specs.Option.{option_map}
 use Rattle.ei_spec.specs.declared.interface.KnownInterface.{KnownInterface}
 use Rattle.ei_spec.specs.declared.interface.KnownInterface.TheVariants as known
 use Rattle.ei_types.specs.declared.enums.DisconnectReason.{DisconnectReason}
-use Rattle.ei_types.specs.declared.enums.DisconnectReason.TheVariants as reason
+use Rattle.ei_types.specs.Enums.{reason_of}
 use Rattle.ei_spec.specs.Value.{Value, Word, Long, Letters, Null}
 use Rattle.ei_spec.specs.FromValues.{first, none, whatever, one, two, new}
 use Rattle.ei_types.specs.Inputs.{Input, input_by}
@@ -46,15 +46,6 @@ pub data Said : Type 0 where
   Goes : (interface : KnownInterface) → (id serial : ℕ) → Said
 
 -- ---- by the arguments
-
--- a reason by its number
-abbrev pub reason_of : ℕ → DisconnectReason
-reason_of number =
-    if number == 0 then reason.Disconnected else
-    (if number == 1 then reason.Error else
-    (if number == 2 then reason.Mode else
-    (if number == 3 then reason.Protocol else
-    (if number == 4 then reason.Value else reason.Transport))))
 
 -- the end of the connection: the last serial, the reason, and a text or none
 abbrev pub disconnects : Option (List Value) → Option Said

@@ -30,6 +30,7 @@ connection =
     ∷ event known.Callback (codes "done") 1 (Long 0 ∷ [])
     ∷ event known.Connection (codes "disconnected") 100 (Word 9 ∷ Word 3 ∷ Null ∷ [])
     ∷ event known.Connection (codes "disconnected") 100 (Word 9 ∷ Word 5 ∷ Letters (codes "bye") ∷ [])
+    ∷ event known.Connection (codes "disconnected") 100 (Word 7 ∷ Word 9 ∷ Null ∷ [])
     ∷ []
 
 -- a seat: what is refused before it comes, while it is pending, and once it is added

@@ -11,7 +11,7 @@ ghost use Rattle.ei_spec.specs.Groups.{Other, Free};
 ghost use Rattle.ei_types.specs.declared.enums.DisconnectReason.{DisconnectReason};
 ghost use Rattle.ei_types.specs.declared.enums.ButtonState.{ButtonState};
 ghost use Rattle.ei_types.specs.declared.enums.KeyState.{KeyState};
-ghost use Rattle.ei_types.specs.Enums.{disconnect_reason_number, button_state_number, key_state_number};
+ghost use Rattle.ei_types.specs.Enums.{IsReason, disconnect_reason_number, button_state_number, key_state_number};
 ghost use Rattle.ei_types.specs.declared.error.EventError.TheVariants as error;
 ghost use Rattle.ei_types.specs.Capability.{capability_named};
 ghost use Rattle.ei_types.specs.Inputs.{Input, PointerMotion, PointerMotionAbsolute, Button, ScrollDelta, ScrollStop};
@@ -41,11 +41,11 @@ pub fn connection_events()
         said (event known.Connection (codes "ping") id (Long ping ∷ Word version ∷ [])) ≡ Aside }
     ensures invalid_object { (id serial invalid : ℕ) →
         said (event known.Connection (codes "invalid_object") id (Word serial ∷ Long invalid ∷ [])) ≡ Aside }
-    ensures disconnected { (id last_serial : ℕ) (why : DisconnectReason) (t : List ℕ) →
+    ensures disconnected { (id last_serial : ℕ) (why : DisconnectReason) (t : List ℕ) → IsReason why →
         said (event known.Connection (codes "disconnected") id
         (Word last_serial ∷ Word (disconnect_reason_number why) ∷ Letters t ∷ [])) ≡
         Disconnects last_serial why (Some t) }
-    ensures without_text { (id last_serial : ℕ) (why : DisconnectReason) →
+    ensures without_text { (id last_serial : ℕ) (why : DisconnectReason) → IsReason why →
         said (event known.Connection (codes "disconnected") id
         (Word last_serial ∷ Word (disconnect_reason_number why) ∷ Null ∷ [])) ≡
         Disconnects last_serial why None }

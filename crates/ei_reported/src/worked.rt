@@ -55,7 +55,8 @@ pub fn handshake()
 /// Events of the connection, and the end of a callback.
 pub fn connection()
     ensures told { told lists.connection ≡ Plain (Disconnected 9 reason.Protocol None)
-        ∷ Plain (Disconnected 9 reason.Transport (Some (codes "bye"))) ∷ [] }
+        ∷ Plain (Disconnected 9 reason.Transport (Some (codes "bye")))
+        ∷ Plain (Disconnected 7 (reason.Other 9) None) ∷ [] }
     ensures refused { refused lists.connection ≡ [] }
     ensures serial { serial_after lists.connection ≡ 5 }
 {}

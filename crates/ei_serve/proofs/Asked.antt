@@ -5,7 +5,8 @@ use Rattle.ei_spec.specs.declared.interface.KnownInterface.{KnownInterface}
 use Rattle.ei_spec.specs.declared.interface.KnownInterface.TheVariants as interfaces
 use Rattle.ei_spec.specs.Value.{Value}
 use Rattle.ei_spec.specs.Interface.{Known, ObjectView}
-use Rattle.ei_spec.specs.Reading.{Fault, EndOfMessage, Utf8, InvalidId, NoFd, InvalidOpcode, InvalidVariant, InvalidInterface, HeaderLength, MessageLength, InvalidNull}
+use Rattle.ei_spec.specs.Reading.{Fault, EndOfMessage, Utf8, InvalidId, NoFd, InvalidOpcode, InvalidVariant, InvalidInterface, HeaderLength, MessageLength}
+use Rattle.ei_spec.specs.Reading.{InvalidNull}
 use Rattle.ei_spec.specs.Message.{Raw, Front, Short, Unlawful, Whole, front}
 use Rattle.ei_spec.proofs.Faults.{IsNoHeader}
 use Rattle.ei_backend.specs.Table.{found}

@@ -1,5 +1,6 @@
 -- What a server sends when it goes over to the connection, and what stands then.
-use Rattle.std.proofs.Common.{◌≡◌, ℕ, zero, suc, Bool, true, false, cond, ◌==◌, ◌&&◌, List, [], ◌∷◌, ◌++◌, take, Option, Some, None, is_some, unwrap_or, Result, Err, refl, sym, ap, ◌∙◌, append_assoc}
+use Rattle.std.proofs.Common.{◌≡◌, ℕ, zero, suc, Bool, true, false, cond, ◌==◌, ◌&&◌, List, [], ◌∷◌, ◌++◌, take, Option, Some, None, is_some, unwrap_or, Result}
+use Rattle.std.proofs.Common.{Err, refl, sym, ap, ◌∙◌, append_assoc}
 use Rattle.std.specs.List.{filter_map, cons_option}
 use Rattle.std.proofs.lemmas.Bool.{eqb-true}
 use Rattle.ei_spec.specs.declared.handle.Handle.{Handle}

@@ -1,5 +1,6 @@
 -- What a session stands for after one more piece, and what the first pieces leave of the whole.
-use Rattle.std.proofs.Common.{◌≡◌, ℕ, ◌+◌, ◌-◌, ◌<◌, ◌≤◌, zero, suc, ◌⊎◌, Bool, true, false, not, cond, ltb, ◌||◌, List, [], ◌∷◌, ◌++◌, length, take, drop, refl, sym, ap, subst, ◌∙◌, arith, inl, inr}
+use Rattle.std.proofs.Common.{◌≡◌, ℕ, ◌+◌, ◌-◌, ◌<◌, ◌≤◌, zero, suc, ◌⊎◌, Bool, true, false, not, cond, ltb, ◌||◌, List, [], ◌∷◌, ◌++◌, length, take, drop}
+use Rattle.std.proofs.Common.{refl, sym, ap, subst, ◌∙◌, arith, inl, inr}
 use Rattle.std.proofs.lemmas.Bool.{cases_lt, both_ways, or_from, or_left, or_right, not_from_false, le-ltb, lt-ltb}
 use Rattle.std.proofs.lemmas.List.{append-nil, length-take, length_push, take_all, take_at, take-take, take-append-le, take-append-drop}
 use Rattle.std.proofs.lemmas.List.Sums.{sum_by_push}
@@ -10,7 +11,8 @@ use Rattle.ei_spec.specs.Stream.{Stop, Waiting, Ended, HeaderLength, Refusal, Re
 use Rattle.ei_spec.proofs.GoesOn as goes_on
 use Rattle.ei_session.specs.Setup.{Setup}
 use Rattle.ei_session.specs.Built.{Refusal as Cause, judge}
-use Rattle.ei_session.specs.Session.{reading_of, accepted, read_first, is_waiting, too_many_handles, is_over, Answer, PieceLimit, HandleLimit, End, UnexpectedEof, Stopped, Outcome, over_at, at_end, session}
+use Rattle.ei_session.specs.Session.{reading_of, accepted, read_first, is_waiting, too_many_handles, is_over, Answer, PieceLimit, HandleLimit, End}
+use Rattle.ei_session.specs.Session.{UnexpectedEof, Stopped, Outcome, over_at, at_end, session}
 use Rattle.ei_session.proofs.Least.{session_over, session_end}
 use Rattle.ei_serve.specs.Taking.{with_next}
 use Rattle.ei_serve.proofs.Going.{extends}

@@ -1,7 +1,8 @@
 -- Arguments without handles take none.
 use Rattle.std.proofs.Common.{◌≡◌, ℕ, List, [], ◌∷◌, Result, Ok, Err, refl, subst}
 use Rattle.std.specs.Int.{w32, w64, cast_signed}
-use Rattle.ei_spec.specs.Value.{Kind, U32, I32, U64, I64, Float, Text, Nullable, Handle, New, Choice, Value, Word, Long, Signed, SignedLong, Letters}
+use Rattle.ei_spec.specs.Value.{Kind, U32, I32, U64, I64, Float, Text, Nullable, Handle, New, Choice, OpenChoice, Value, Word, Long, Signed, SignedLong}
+use Rattle.ei_spec.specs.Value.{Letters}
 use Rattle.ei_spec.specs.Reading.{Fault, ◌>>=◌, Unread, Read, number_at, text_at, some_text, or_null, choice_at, of_bytes, read, Stop, ◌then◌, stopping, all_at}
 use Rattle.ei_spec.proofs.Handleless.{IsNoHandle, AreNoHandles}
 
@@ -31,6 +32,7 @@ read_keeps Text s n = of_bytes_keeps Letters s (text_at s.bytes >>= λ t. some_t
 read_keeps Nullable s n = of_bytes_keeps or_null s (text_at s.bytes)
 read_keeps Handle s n = absurd n
 read_keeps (Choice name values) s n = of_bytes_keeps Word s (choice_at name values s.bytes)
+read_keeps OpenChoice s n = of_bytes_keeps Word s (number_at w32 s.bytes)
 
 list_keeps : (n : ℕ) (v : Value) (r : Result (List Value × Unread) Stop) → KeepsTaken n r → KeepsTaken {A = List Value} n (list_then v r)
 list_keeps n v (Ok x) h = h

@@ -1,5 +1,6 @@
 -- A whole session, turn by turn.
-use Rattle.std.proofs.Common.{◌≡◌, ℕ, ◌+◌, ◌-◌, ◌≤◌, ◌<◌, inl, inr, Bool, true, false, cond, List, [], ◌∷◌, ◌++◌, length, take, drop, Option, Some, None, Result, Ok, Err, refl, ap, sym, subst, ◌∙◌, append_assoc, arith}
+use Rattle.std.proofs.Common.{◌≡◌, ℕ, ◌+◌, ◌-◌, ◌≤◌, ◌<◌, inl, inr, Bool, true, false, cond, List, [], ◌∷◌, ◌++◌, length, take, drop, Option, Some, None}
+use Rattle.std.proofs.Common.{Result, Ok, Err, refl, ap, sym, subst, ◌∙◌, append_assoc, arith}
 use Rattle.std.specs.Prelude.{map, OnOk, IfErr, IsErrOf}
 use Rattle.std.proofs.lemmas.Bool.{cases_lt, lt-ltb}
 use Rattle.std.proofs.lemmas.List.{append-nil, take_all, take-append-drop}
@@ -16,7 +17,8 @@ use Rattle.ei_session.specs.Built.{NotBuilt}
 use Rattle.ei_session.specs.Built.{Refusal as Cause}
 use Rattle.ei_session.specs.Framed.{Request, framed}
 use Rattle.ei_session.specs.Replies.{replies, greeting}
-use Rattle.ei_session.specs.Session.{Answer, PieceLimit, HandleLimit, End, UnexpectedEof, Stopped, Outcome, session, is_over, is_waiting, reading_of, accepted, at_end, IsValid}
+use Rattle.ei_session.specs.Session.{Answer, PieceLimit, HandleLimit, End, UnexpectedEof, Stopped, Outcome, session, is_over, is_waiting, reading_of, accepted}
+use Rattle.ei_session.specs.Session.{at_end, IsValid}
 use Rattle.ei_session.proofs.Parts.{replies_prefix}
 use Rattle.ei_backend.specs.Outside.{with_more}
 use Rattle.ei_request.specs.Converter.{asked_of}
@@ -31,9 +33,11 @@ use Rattle.ei_serve.specs.Causes.{Greeted, GreetedInPart, RefusesToStart}
 use Rattle.ei_serve.specs.Steps.{Gives, Replies, RepliesInPart, Goes}
 use Rattle.ei_serve.specs.Taking.{Hands, HasNone, with_next}
 use Rattle.ei_serve.specs.Turning.{Closes, Finds, Stays, BreaksOff, Turns, IsAtEnd}
-use Rattle.ei_serve.specs.Serving.{AnswersAs, IsDecided, IsCutShort, IsOfSession, IsSourceEnd, TookPieces, AreReadings, HandsOut, Replied, RepliedInPart, RepliedAtLeast, ReadValid, Handled, HandledInPart, OwesLast}
+use Rattle.ei_serve.specs.Serving.{AnswersAs, IsDecided, IsCutShort, IsOfSession, IsSourceEnd, TookPieces, AreReadings, HandsOut, Replied, RepliedInPart}
+use Rattle.ei_serve.specs.Serving.{RepliedAtLeast, ReadValid, Handled, HandledInPart, OwesLast}
 use Rattle.ei_serve.proofs.Going.{none_more, more_more, gives_none, gives_then, goes_none}
-use Rattle.ei_serve.proofs.Histories.{GoesOn as GoingOn, IsEarly, goes_on_more, going, stopped, too_many_pieces, too_many_handles_come, session_front, front_same, accepted_front, handled_front, handled_next}
+use Rattle.ei_serve.proofs.Histories.{GoesOn as GoingOn, IsEarly, goes_on_more, going, stopped, too_many_pieces, too_many_handles_come, session_front}
+use Rattle.ei_serve.proofs.Histories.{front_same, accepted_front, handled_front, handled_next}
 use Rattle.ei_serve.proofs.Running.{Running, Took, took_more, replied_then}
 
 -- ---- requests

@@ -6,7 +6,8 @@ ghost use Rattle.ei_types.specs.declared.error.Error.TheVariants as error;
 ghost use Rattle.ei_backend.specs.Outside.{Piece, Rose};
 ghost use Rattle.ei_backend.specs.declared.outside.LastAnswer.TheVariants as answers;
 ghost use Rattle.ei_serve.specs.Standing.{setup_of};
-ghost use Rattle.ei_serve.specs.Serving.{AnswersAs, IsDecided, IsCutShort, IsOfSession, IsSourceEnd, TookPieces, HandsOut, Replied, ReadValid, Handled, HandledInPart, OwesLast};
+ghost use Rattle.ei_serve.specs.Serving.{AnswersAs, IsDecided, IsCutShort, IsOfSession, IsSourceEnd, TookPieces, HandsOut, Replied, ReadValid, Handled};
+ghost use Rattle.ei_serve.specs.Serving.{HandledInPart, OwesLast};
 
 use crate::session::{Ended, Session, Setup, Turn};
 use ei_backend::{Clock, Sink, Source};

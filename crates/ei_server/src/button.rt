@@ -1,16 +1,12 @@
 //! `ei_button`: the buttons of a device.
 
 ghost use Rattle.std.specs.Prelude.{◌≡◌, IfOk, false, codes, [], ◌∷◌};
-ghost use Rattle.ei_spec.specs.Value.{Word};
+ghost use Rattle.ei_backend.specs.Proxies.{Word, ReadsRow, Shows, Sends};
 ghost use Rattle.ei_spec.specs.declared.interface.KnownInterface.TheVariants as known;
 ghost use Rattle.ei_types.specs.Enums.{button_state_number};
-ghost use Rattle.ei_backend.specs.Message.{ReadsRow};
-ghost use Rattle.ei_backend.specs.Shown.{Shows};
-ghost use Rattle.ei_backend.specs.Sends.{Sends};
 ghost use Rattle.ei_server.specs.Button.{code_of, values_of, event};
 
-use crate::context::Context;
-use crate::proxy::Proxy;
+use crate::{Context, Proxy};
 use ei_backend::{Interface, Table, kinds};
 use ei_types::ButtonState;
 use ei_wire::{Arg, ByteStream, NoMemory, OwnedArg, ParseError, SendError, read_two};
@@ -87,7 +83,7 @@ impl Request {
     pub(crate) fn args(&self, alloc: Global) -> Result<Vec<Arg<'_>>, NoMemory>
         ensures { IfOk result (λ args. Shows false known.Button (code_of self.now) (values_of self.now) args.items) }
     {
-        let args = match self {
+        Ok(match self {
             Request::Release => Vec::new(alloc),
             Request::Button { button, state } => {
                 Vec::from_array(
@@ -95,7 +91,6 @@ impl Request {
                     [Arg::Uint32(*button), Arg::Uint32(u32::from(*state))],
                 )?
             }
-        };
-        Ok(args)
+        })
     }
 }

@@ -2,14 +2,12 @@
 
 ghost use Rattle.std.specs.Prelude.{◌≡◌, IfOk, OnErr, false, codes, [], ◌∷◌};
 ghost use Rattle.std.specs.Option.{option_copied};
-ghost use Rattle.ei_spec.specs.Value.{Word, Long, IsOf, Nullable};
+ghost use Rattle.ei_backend.specs.Proxies.{Word, Long, ReadsRow, Shows, Sends, SendsText, SendsNew};
+ghost use Rattle.ei_spec.specs.Value.{IsOf, Nullable};
 ghost use Rattle.ei_spec.specs.Reading.{or_null};
 ghost use Rattle.ei_spec.specs.declared.interface.KnownInterface.TheVariants as known;
 ghost use Rattle.ei_types.specs.Enums.{disconnect_reason_number};
 ghost use Rattle.ei_wire.specs.Gives.{value_of_arg};
-ghost use Rattle.ei_backend.specs.Message.{ReadsRow};
-ghost use Rattle.ei_backend.specs.Shown.{Shows};
-ghost use Rattle.ei_backend.specs.Sends.{Sends, SendsText, SendsNew};
 ghost use Rattle.ei_server.specs.Connection.{code_of, values_of, event};
 
 use crate::callback::Callback;
@@ -148,10 +146,9 @@ impl Request {
         ensures { IfOk result
             (λ args. Shows false known.Connection (code_of self.now) (values_of self.now) args.items) }
     {
-        let args = match self {
+        Ok(match self {
             Request::Sync { callback } => Vec::from_array(alloc, [callback.as_arg()])?,
             Request::Disconnect => Vec::new(alloc),
-        };
-        Ok(args)
+        })
     }
 }

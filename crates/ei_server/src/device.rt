@@ -1,13 +1,10 @@
 //! `ei_device`: a device, which has interfaces for input.
 
 ghost use Rattle.std.specs.Prelude.{◌≡◌, IfOk, false, codes, [], ◌∷◌};
-ghost use Rattle.ei_spec.specs.Value.{Word, Long, Letters};
+ghost use Rattle.ei_backend.specs.Proxies.{Word, Long, Letters, ReadsRow, Shows, Sends, SendsText, SendsNew};
 ghost use Rattle.ei_spec.specs.Interface.{name_of};
 ghost use Rattle.ei_spec.specs.declared.interface.KnownInterface.TheVariants as known;
 ghost use Rattle.ei_types.specs.Enums.{device_type_number};
-ghost use Rattle.ei_backend.specs.Message.{ReadsRow};
-ghost use Rattle.ei_backend.specs.Shown.{Shows};
-ghost use Rattle.ei_backend.specs.Sends.{Sends, SendsText, SendsNew};
 ghost use Rattle.ei_server.specs.Device.{code_of, values_of, event};
 
 use crate::context::Context;
@@ -225,10 +222,9 @@ impl Request {
                     sequence,
                 })
             }
-            2 => {
-                let last_serial = read_one(bytes)?;
-                Ok(Request::StopEmulating { last_serial })
-            }
+            2 => Ok(Request::StopEmulating {
+                last_serial: read_one(bytes)?,
+            }),
             3 => {
                 let (last_serial, timestamp) = read_two(bytes)?;
                 Ok(Request::Frame {
@@ -257,7 +253,7 @@ impl Request {
     pub(crate) fn args(&self, alloc: Global) -> Result<Vec<Arg<'_>>, NoMemory>
         ensures { IfOk result (λ args. Shows false known.Device (code_of self.now) (values_of self.now) args.items) }
     {
-        let args = match self {
+        Ok(match self {
             Request::Release | Request::Ready => Vec::new(alloc),
             Request::StartEmulating {
                 last_serial,
@@ -271,7 +267,6 @@ impl Request {
                 last_serial,
                 timestamp,
             } => Vec::from_array(alloc, [Arg::Uint32(*last_serial), Arg::Uint64(*timestamp)])?,
-        };
-        Ok(args)
+        })
     }
 }

@@ -1,16 +1,12 @@
 //! `ei_handshake`: the object that is there from the first.
 
 ghost use Rattle.std.specs.Prelude.{◌≡◌, IfOk, false, codes, [], ◌∷◌};
-ghost use Rattle.ei_spec.specs.Value.{Word, Long, Letters};
+ghost use Rattle.ei_backend.specs.Proxies.{Word, Long, Letters, ReadsRow, Shows, Sends, SendsText, SendsNew};
 ghost use Rattle.ei_spec.specs.declared.interface.KnownInterface.TheVariants as known;
-ghost use Rattle.ei_backend.specs.Message.{ReadsRow};
-ghost use Rattle.ei_backend.specs.Shown.{Shows};
-ghost use Rattle.ei_backend.specs.Sends.{Sends, SendsText, SendsNew};
 ghost use Rattle.ei_server.specs.Handshake.{code_of, values_of, event};
 
 use crate::connection::Connection;
-use crate::context::Context;
-use crate::proxy::Proxy;
+use crate::{Context, Proxy};
 use ei_backend::{HasBackend, Table, kinds};
 use ei_types::ContextType;
 use ei_wire::{Arg, ByteStream, EiText, NoMemory, ParseError, SendError, read_one, read_two};
@@ -99,19 +95,16 @@ impl Request {
         ensures table { objects.new ≡ objects.old }
     {
         match opcode {
-            0 => {
-                let version = read_one(bytes)?;
-                Ok(Request::HandshakeVersion { version })
-            }
+            0 => Ok(Request::HandshakeVersion {
+                version: read_one(bytes)?,
+            }),
             1 => Ok(Request::Finish),
-            2 => {
-                let context_type = read_one(bytes)?;
-                Ok(Request::ContextType { context_type })
-            }
-            3 => {
-                let name = read_one(bytes)?;
-                Ok(Request::Name { name })
-            }
+            2 => Ok(Request::ContextType {
+                context_type: read_one(bytes)?,
+            }),
+            3 => Ok(Request::Name {
+                name: read_one(bytes)?,
+            }),
             4 => {
                 let (name, version) = read_two(bytes)?;
                 Ok(Request::InterfaceVersion { name, version })
@@ -136,7 +129,7 @@ impl Request {
     pub(crate) fn args(&self, alloc: Global) -> Result<Vec<Arg<'_>>, NoMemory>
         ensures { IfOk result (λ args. Shows false known.Handshake (code_of self.now) (values_of self.now) args.items) }
     {
-        let args = match self {
+        Ok(match self {
             Request::HandshakeVersion { version } => Vec::from_array(
                 alloc,
                 [Arg::Uint32(*version)],
@@ -152,7 +145,6 @@ impl Request {
                     [Arg::String(Some(name.as_str())), Arg::Uint32(*version)],
                 )?
             }
-        };
-        Ok(args)
+        })
     }
 }

@@ -1,16 +1,12 @@
 //! `ei_keyboard`: the keys of a device.
 
 ghost use Rattle.std.specs.Prelude.{◌≡◌, IfOk, false, codes, [], ◌∷◌};
-ghost use Rattle.ei_spec.specs.Value.{Word, Fd};
+ghost use Rattle.ei_backend.specs.Proxies.{Word, Fd, ReadsRow, Shows, Sends};
 ghost use Rattle.ei_spec.specs.declared.interface.KnownInterface.TheVariants as known;
 ghost use Rattle.ei_types.specs.Enums.{key_state_number, keymap_type_number};
-ghost use Rattle.ei_backend.specs.Message.{ReadsRow};
-ghost use Rattle.ei_backend.specs.Shown.{Shows};
-ghost use Rattle.ei_backend.specs.Sends.{Sends};
 ghost use Rattle.ei_server.specs.Keyboard.{code_of, values_of, event};
 
-use crate::context::Context;
-use crate::proxy::Proxy;
+use crate::{Context, Proxy};
 use ei_backend::{Interface, Table, kinds};
 use ei_types::{KeyState, KeymapType};
 use ei_wire::{Arg, ByteStream, Handle, NoMemory, OwnedArg, ParseError, SendError, read_two};
@@ -127,12 +123,11 @@ impl Request {
     pub(crate) fn args(&self, alloc: Global) -> Result<Vec<Arg<'_>>, NoMemory>
         ensures { IfOk result (λ args. Shows false known.Keyboard (code_of self.now) (values_of self.now) args.items) }
     {
-        let args = match self {
+        Ok(match self {
             Request::Release => Vec::new(alloc),
             Request::Key { key, state } => {
                 Vec::from_array(alloc, [Arg::Uint32(*key), Arg::Uint32(u32::from(*state))])?
             }
-        };
-        Ok(args)
+        })
     }
 }

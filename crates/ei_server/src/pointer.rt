@@ -1,15 +1,11 @@
 //! `ei_pointer`: the relative motion of a device.
 
 ghost use Rattle.std.specs.Prelude.{◌≡◌, IfOk, false, codes, [], ◌∷◌};
-ghost use Rattle.ei_spec.specs.Value.{Word};
+ghost use Rattle.ei_backend.specs.Proxies.{Word, ReadsRow, Shows, Sends};
 ghost use Rattle.ei_spec.specs.declared.interface.KnownInterface.TheVariants as known;
-ghost use Rattle.ei_backend.specs.Message.{ReadsRow};
-ghost use Rattle.ei_backend.specs.Shown.{Shows};
-ghost use Rattle.ei_backend.specs.Sends.{Sends};
 ghost use Rattle.ei_server.specs.Pointer.{code_of, values_of, event};
 
-use crate::context::Context;
-use crate::proxy::Proxy;
+use crate::{Context, Proxy};
 use ei_backend::{Table, kinds};
 use ei_wire::{Arg, ByteStream, NoMemory, ParseError, RawFloat, SendError, read_two};
 use std::alloc::Global;
@@ -86,12 +82,11 @@ impl Request {
     pub(crate) fn args(&self, alloc: Global) -> Result<Vec<Arg<'_>>, NoMemory>
         ensures { IfOk result (λ args. Shows false known.Pointer (code_of self.now) (values_of self.now) args.items) }
     {
-        let args = match self {
+        Ok(match self {
             Request::Release => Vec::new(alloc),
             Request::MotionRelative { x, y } => {
                 Vec::from_array(alloc, [Arg::Float(x.0), Arg::Float(y.0)])?
             }
-        };
-        Ok(args)
+        })
     }
 }

@@ -1,15 +1,11 @@
 //! `ei_scroll`: the scrolling of a device.
 
 ghost use Rattle.std.specs.Prelude.{◌≡◌, IfOk, false, codes, [], ◌∷◌};
-ghost use Rattle.ei_spec.specs.Value.{Word, Signed};
+ghost use Rattle.ei_backend.specs.Proxies.{Word, Signed, ReadsRow, Shows, Sends};
 ghost use Rattle.ei_spec.specs.declared.interface.KnownInterface.TheVariants as known;
-ghost use Rattle.ei_backend.specs.Message.{ReadsRow};
-ghost use Rattle.ei_backend.specs.Shown.{Shows};
-ghost use Rattle.ei_backend.specs.Sends.{Sends};
 ghost use Rattle.ei_server.specs.Scroll.{code_of, values_of, event};
 
-use crate::context::Context;
-use crate::proxy::Proxy;
+use crate::{Context, Proxy};
 use ei_backend::{Table, kinds};
 use ei_wire::{Arg, ByteStream, NoMemory, ParseError, RawFloat, SendError, read_three, read_two};
 use std::alloc::Global;
@@ -122,7 +118,7 @@ impl Request {
     pub(crate) fn args(&self, alloc: Global) -> Result<Vec<Arg<'_>>, NoMemory>
         ensures { IfOk result (λ args. Shows false known.Scroll (code_of self.now) (values_of self.now) args.items) }
     {
-        let args = match self {
+        Ok(match self {
             Request::Release => Vec::new(alloc),
             Request::Scroll { x, y } => {
                 Vec::from_array(alloc, [Arg::Float(x.0), Arg::Float(y.0)])?
@@ -136,7 +132,6 @@ impl Request {
                     [Arg::Uint32(*x), Arg::Uint32(*y), Arg::Uint32(*is_cancel)],
                 )?
             }
-        };
-        Ok(args)
+        })
     }
 }

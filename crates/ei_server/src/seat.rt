@@ -1,11 +1,8 @@
 //! `ei_seat`: a seat, which offers capabilities.
 
 ghost use Rattle.std.specs.Prelude.{◌≡◌, IfOk, false, codes, [], ◌∷◌};
-ghost use Rattle.ei_spec.specs.Value.{Word, Long, Letters};
+ghost use Rattle.ei_backend.specs.Proxies.{Word, Long, Letters, ReadsRow, Shows, Sends, SendsText, SendsNew};
 ghost use Rattle.ei_spec.specs.declared.interface.KnownInterface.TheVariants as known;
-ghost use Rattle.ei_backend.specs.Message.{ReadsRow};
-ghost use Rattle.ei_backend.specs.Shown.{Shows};
-ghost use Rattle.ei_backend.specs.Sends.{Sends, SendsText, SendsNew};
 ghost use Rattle.ei_server.specs.Seat.{code_of, values_of, event};
 
 use crate::context::Context;
@@ -97,14 +94,12 @@ impl Request {
     {
         match opcode {
             0 => Ok(Request::Release),
-            1 => {
-                let capabilities = read_one(bytes)?;
-                Ok(Request::Bind { capabilities })
-            }
-            2 => {
-                let capabilities = read_one(bytes)?;
-                Ok(Request::RequestDevice { capabilities })
-            }
+            1 => Ok(Request::Bind {
+                capabilities: read_one(bytes)?,
+            }),
+            2 => Ok(Request::RequestDevice {
+                capabilities: read_one(bytes)?,
+            }),
             _ => Err(ParseError::InvalidOpcode("seat", opcode)),
         }
     }
@@ -123,12 +118,11 @@ impl Request {
     pub(crate) fn args(&self, alloc: Global) -> Result<Vec<Arg<'_>>, NoMemory>
         ensures { IfOk result (λ args. Shows false known.Seat (code_of self.now) (values_of self.now) args.items) }
     {
-        let args = match self {
+        Ok(match self {
             Request::Release => Vec::new(alloc),
             Request::Bind { capabilities } | Request::RequestDevice { capabilities } => {
                 Vec::from_array(alloc, [Arg::Uint64(*capabilities)])?
             }
-        };
-        Ok(args)
+        })
     }
 }

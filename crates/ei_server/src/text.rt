@@ -1,16 +1,12 @@
 //! `ei_text`: the keysyms and the text of a device.
 
 ghost use Rattle.std.specs.Prelude.{◌≡◌, IfOk, false, codes, [], ◌∷◌};
-ghost use Rattle.ei_spec.specs.Value.{Word, Letters};
+ghost use Rattle.ei_backend.specs.Proxies.{Word, Letters, ReadsRow, Shows, Sends, SendsText};
 ghost use Rattle.ei_spec.specs.declared.interface.KnownInterface.TheVariants as known;
 ghost use Rattle.ei_types.specs.Enums.{key_state_number};
-ghost use Rattle.ei_backend.specs.Message.{ReadsRow};
-ghost use Rattle.ei_backend.specs.Shown.{Shows};
-ghost use Rattle.ei_backend.specs.Sends.{Sends, SendsText};
 ghost use Rattle.ei_server.specs.Text.{code_of, values_of, event};
 
-use crate::context::Context;
-use crate::proxy::Proxy;
+use crate::{Context, Proxy};
 use ei_backend::{Interface, Table, kinds};
 use ei_types::KeyState;
 use ei_wire::{
@@ -81,10 +77,9 @@ impl Request {
                 let (keysym, state) = read_two(bytes)?;
                 Ok(Request::Keysym { keysym, state })
             }
-            2 => {
-                let text = read_one(bytes)?;
-                Ok(Request::Utf8 { text })
-            }
+            2 => Ok(Request::Utf8 {
+                text: read_one(bytes)?,
+            }),
             _ => Err(ParseError::InvalidOpcode("text", opcode)),
         }
     }
@@ -102,7 +97,7 @@ impl Request {
     pub(crate) fn args(&self, alloc: Global) -> Result<Vec<Arg<'_>>, NoMemory>
         ensures { IfOk result (λ args. Shows false known.Text (code_of self.now) (values_of self.now) args.items) }
     {
-        let args = match self {
+        Ok(match self {
             Request::Release => Vec::new(alloc),
             Request::Keysym { keysym, state } => {
                 Vec::from_array(
@@ -113,7 +108,6 @@ impl Request {
             Request::Utf8 { text } => {
                 Vec::from_array(alloc, [Arg::String(Some(text.as_str()))])?
             }
-        };
-        Ok(args)
+        })
     }
 }

@@ -1,15 +1,11 @@
 //! `ei_touchscreen`: the touches on a device.
 
 ghost use Rattle.std.specs.Prelude.{◌≡◌, IfOk, false, codes, [], ◌∷◌};
-ghost use Rattle.ei_spec.specs.Value.{Word};
+ghost use Rattle.ei_backend.specs.Proxies.{Word, ReadsRow, Shows, Sends};
 ghost use Rattle.ei_spec.specs.declared.interface.KnownInterface.TheVariants as known;
-ghost use Rattle.ei_backend.specs.Message.{ReadsRow};
-ghost use Rattle.ei_backend.specs.Shown.{Shows};
-ghost use Rattle.ei_backend.specs.Sends.{Sends};
 ghost use Rattle.ei_server.specs.Touchscreen.{code_of, values_of, event};
 
-use crate::context::Context;
-use crate::proxy::Proxy;
+use crate::{Context, Proxy};
 use ei_backend::{Table, kinds};
 use ei_wire::{Arg, ByteStream, NoMemory, ParseError, RawFloat, SendError, read_one, read_three};
 use std::alloc::Global;
@@ -129,14 +125,12 @@ impl Request {
                 let (touchid, x, y) = read_three(bytes)?;
                 Ok(Request::Motion { touchid, x, y })
             }
-            3 => {
-                let touchid = read_one(bytes)?;
-                Ok(Request::Up { touchid })
-            }
-            4 => {
-                let touchid = read_one(bytes)?;
-                Ok(Request::Cancel { touchid })
-            }
+            3 => Ok(Request::Up {
+                touchid: read_one(bytes)?,
+            }),
+            4 => Ok(Request::Cancel {
+                touchid: read_one(bytes)?,
+            }),
             _ => Err(ParseError::InvalidOpcode("touchscreen", opcode)),
         }
     }
@@ -157,7 +151,7 @@ impl Request {
         ensures { IfOk result
             (λ args. Shows false known.Touchscreen (code_of self.now) (values_of self.now) args.items) }
     {
-        let args = match self {
+        Ok(match self {
             Request::Release => Vec::new(alloc),
             Request::Down { touchid, x, y } => {
                 Vec::from_array(
@@ -173,7 +167,6 @@ impl Request {
             }
             Request::Up { touchid } => { Vec::from_array(alloc, [Arg::Uint32(*touchid)])? }
             Request::Cancel { touchid } => { Vec::from_array(alloc, [Arg::Uint32(*touchid)])? }
-        };
-        Ok(args)
+        })
     }
 }

@@ -15,7 +15,8 @@ use Rattle.ei_session.specs.Replies.{settled_events, capability_events, finish_e
 use Rattle.ei_session.specs.Session.{least, too_many_handles}
 use Rattle.ei_session.specs.Asked.{asked, asks}
 use Rattle.ei_session.specs.Devices.{interfaces_of, releases_seat, seat_is_open, asked_mask, made, ids_given, next_id, exhausts, makes, device_interfaces}
-use Rattle.ei_session.specs.Objects.{new_device, handed_over, introduces, introduced, is_release, was_device, is_of, removes, says, object, interfaces_left, gone}
+use Rattle.ei_session.specs.Objects.{new_device, handed_over, introduces, introduced, is_release, was_device, is_of, removes, says, object, interfaces_left}
+use Rattle.ei_session.specs.Objects.{gone}
 use Rattle.ei_session.specs.Serial.{steps, serial}
 use Rattle.ei_session.specs.Touches.{input, touches, is_down, puts, touches_down}
 use Rattle.ei_session.specs.Refusals.{synced, may_give, came, refusal, is_disconnect, judge}

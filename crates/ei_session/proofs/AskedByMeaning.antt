@@ -10,7 +10,10 @@ use Rattle.ei_spec.specs.Message.{Raw}
 use Rattle.ei_session.specs.Arguments.{request_args}
 use Rattle.ei_session.specs.Asked.{asked}
 use Rattle.ei_session.specs.Inputs.{Input}
-use Rattle.ei_session.specs.Meaning.{Shake, Meaning, Greets, Finishes, TellsContext, TellsName, TellsInterface, Shakes, Syncs, Disconnects, Pongs, ReleasesSeat, Binds, RequestsDevice, Closes, Starts, Stops, Frames, Readies, Releases, Inputs, Asks, Greeting, Finish, ContextType, Name, InterfaceVersion, Sync, Disconnect, Pong, SeatRelease, Bind, RequestDevice, DeviceRelease, Start, Stop, Frame, Ready, PointerRelease, MotionRelative, meaning}
+use Rattle.ei_session.specs.Meaning.{Shake, Meaning, Greets, Finishes, TellsContext, TellsName, TellsInterface, Shakes, Syncs, Disconnects, Pongs, ReleasesSeat}
+use Rattle.ei_session.specs.Meaning.{Binds, RequestsDevice, Closes, Starts, Stops, Frames, Readies, Releases, Inputs, Asks, Greeting, Finish, ContextType, Name}
+use Rattle.ei_session.specs.Meaning.{InterfaceVersion, Sync, Disconnect, Pong, SeatRelease, Bind, RequestDevice, DeviceRelease, Start, Stop, Frame, Ready}
+use Rattle.ei_session.specs.Meaning.{PointerRelease, MotionRelative, meaning}
 use Rattle.ei_session.specs.Objects.{is_device}
 use Rattle.ei_session.specs.ByMeaning.{of_interface}
 use Rattle.ei_session.specs.Kept.{is_bare}

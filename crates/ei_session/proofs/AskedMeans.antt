@@ -8,7 +8,10 @@ use Rattle.ei_spec.specs.Message.{Raw}
 use Rattle.ei_session.specs.Arguments.{row_args, request_args}
 use Rattle.ei_session.specs.Asked.{asked, asks}
 use Rattle.ei_session.specs.Inputs.{input_to}
-use Rattle.ei_session.specs.Meaning.{Meaning, Asks, Greeting, Finish, ContextType, Name, InterfaceVersion, Sync, Disconnect, Pong, SeatRelease, Bind, RequestDevice, DeviceRelease, PointerRelease, MotionRelative, PointerAbsoluteRelease, MotionAbsolute, ScrollRelease, Scroll, Discrete, ScrollStop, ButtonRelease, Button, KeyboardRelease, Key, TouchscreenRelease, Down, Motion, Up, Cancel, TextRelease, Keysym, Utf8, meaning}
+use Rattle.ei_session.specs.Meaning.{Meaning, Asks, Greeting, Finish, ContextType, Name, InterfaceVersion, Sync, Disconnect, Pong, SeatRelease, Bind}
+use Rattle.ei_session.specs.Meaning.{RequestDevice, DeviceRelease, PointerRelease, MotionRelative, PointerAbsoluteRelease, MotionAbsolute, ScrollRelease}
+use Rattle.ei_session.specs.Meaning.{Scroll, Discrete, ScrollStop, ButtonRelease, Button, KeyboardRelease, Key, TouchscreenRelease, Down, Motion, Up, Cancel}
+use Rattle.ei_session.specs.Meaning.{TextRelease, Keysym, Utf8, meaning}
 use Rattle.ei_session.specs.Devices.{asked_mask}
 use Rattle.ei_session.specs.Refusals.{callback_of}
 use Rattle.ei_session.specs.ByMeaning.{releases, input_in, mask_in, callback_in, disconnects, finishes, tells_context, tells_name}

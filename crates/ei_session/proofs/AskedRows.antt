@@ -1,5 +1,6 @@
 -- The arguments of the request of a name are those that the table's row of its opcode has, and they are of the row's kinds.
-use Rattle.std.proofs.Common.{◌≡◌, ◌≢◌, ℕ, ◌+◌, ◌≤◌, Bool, true, false, eqb, ◌&&◌, List, [], ◌∷◌, length, Option, Some, None, Result, Ok, Err, refl, sym, ap, ◌∙◌, ◌⊎◌, inl, inr, arith, subst}
+use Rattle.std.proofs.Common.{◌≡◌, ◌≢◌, ℕ, ◌+◌, ◌≤◌, Bool, true, false, eqb, ◌&&◌, List, [], ◌∷◌, length, Option, Some, None, Result, Ok, Err, refl, sym, ap}
+use Rattle.std.proofs.Common.{◌∙◌, ◌⊎◌, inl, inr, arith, subst}
 use Rattle.std.specs.Prelude.{map, slice_get}
 use Rattle.std.specs.List.{range_with_len}
 use Rattle.std.specs.Str.{bytes_eq}
@@ -8,8 +9,10 @@ use Rattle.std.proofs.lemmas.Bool.{eqb-true}
 use Rattle.std.proofs.lemmas.Bool.Decides.{nat_tests}
 use Rattle.ei_spec.specs.declared.handle.Handle.{Handle as Descriptor}
 use Rattle.ei_spec.specs.declared.interface.KnownInterface.{KnownInterface}
-use Rattle.ei_spec.specs.Value.{Kind, U32, I32, U64, I64, Float, Text, Nullable, Handle, New, Choice, Value, Word, Long, Signed, SignedLong, Letters}
-use Rattle.ei_spec.specs.Reading.{Fault, Unread, Read, number_at, text_at, some_text, or_null, choice_at, of_bytes, of_handle, ◌>>=◌, read, Stop, stopping, ◌then◌, all_at}
+use Rattle.ei_spec.specs.Value.{Kind, U32, I32, U64, I64, Float, Text, Nullable, Handle, New, Choice, OpenChoice, Value, Word, Long, Signed, SignedLong}
+use Rattle.ei_spec.specs.Value.{Letters}
+use Rattle.ei_spec.specs.Reading.{Fault, Unread, Read, number_at, text_at, some_text, or_null, choice_at, of_bytes, of_handle, ◌>>=◌, read, Stop, stopping}
+use Rattle.ei_spec.specs.Reading.{◌then◌, all_at}
 use Rattle.ei_spec.specs.Rows.{Row, row_at, row_named}
 use Rattle.ei_spec.specs.Table.{table}
 use Rattle.ei_spec.specs.Message.{Raw}
@@ -101,6 +104,7 @@ is_held_as Nullable v = true
 is_held_as Handle v = true
 is_held_as New (Long n) = true
 is_held_as (Choice name values) (Word n) = true
+is_held_as OpenChoice (Word n) = true
 is_held_as k v = false
 
 abbrev pub are_held_as : List Kind → List Value → Bool
@@ -131,6 +135,7 @@ read_held Text s = of_bytes_held Text Letters s (text_at s.bytes >>= λ t. some_
 read_held Nullable s = of_bytes_held Nullable or_null s (text_at s.bytes) (λ a. refl)
 read_held Handle s = of_handle_held s (slice_get s.handles s.taken)
 read_held (Choice name values) s = of_bytes_held (Choice name values) Word s (choice_at name values s.bytes) (λ a. refl)
+read_held OpenChoice s = of_bytes_held OpenChoice Word s (number_at w32 s.bytes) (λ a. refl)
 
 abbrev AreHeld : List Kind → Result (List Value × Unread) Stop → Type 0
 AreHeld ks (Ok x) = are_held_as ks x.0 ≡ true

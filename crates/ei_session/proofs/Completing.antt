@@ -1,5 +1,6 @@
 -- Valid pieces within the limits come to a good end.
-use Rattle.std.proofs.Common.{◌≡◌, ℕ, zero, suc, ◌+◌, ◌<◌, ◌≤◌, Bool, true, false, not, cond, ltb, List, [], ◌++◌, length, take, drop, Option, Some, None, refl, sym, ap, subst, ◌∙◌, arith, inl, inr}
+use Rattle.std.proofs.Common.{◌≡◌, ℕ, zero, suc, ◌+◌, ◌<◌, ◌≤◌, Bool, true, false, not, cond, ltb, List, [], ◌++◌, length, take, drop, Option, Some, None, refl}
+use Rattle.std.proofs.Common.{sym, ap, subst, ◌∙◌, arith, inl, inr}
 use Rattle.std.specs.Prelude.{unwrap_or}
 use Rattle.std.proofs.lemmas.Bool.{le-ltb, cases_lt}
 use Rattle.std.proofs.lemmas.List.{take-take, take-append-drop}
@@ -12,7 +13,8 @@ use Rattle.ei_spec.proofs.GoesOn as goes_on
 use Rattle.ei_session.specs.Setup.{Setup}
 use Rattle.ei_session.specs.Refusals.{Refusal, judge}
 use Rattle.ei_session.specs.Session.{least, too_many_handles}
-use Rattle.ei_session.specs.Served.{Disconnect, IdsExhausted, reading_of, read_first, ran_out, is_waiting, is_over, over_at, answer_of, IsGood, Outcome, session}
+use Rattle.ei_session.specs.Served.{Disconnect, IdsExhausted, reading_of, read_first, ran_out, is_waiting, is_over, over_at, answer_of, IsGood, Outcome}
+use Rattle.ei_session.specs.Served.{session}
 use Rattle.ei_session.specs.Complete.{is_left, disconnects, needed, AreComplete}
 use Rattle.ei_session.proofs.Choices.{not_both}
 use Rattle.ei_session.proofs.Least.{least_none, least_some}

@@ -1,5 +1,6 @@
 -- The ids of a device's interfaces, and that none comes back.
-use Rattle.std.proofs.Common.{◌≡◌, ◌≢◌, ℕ, zero, suc, ◌+◌, ◌-◌, ◌<◌, ◌≤◌, Bool, true, false, cond, not, ◌&&◌, eqb, List, [], ◌∷◌, length, Option, Some, None, refl, sym, ap, ◌∙◌, arith, eq-eqb}
+use Rattle.std.proofs.Common.{◌≡◌, ◌≢◌, ℕ, zero, suc, ◌+◌, ◌-◌, ◌<◌, ◌≤◌, Bool, true, false, cond, not, ◌&&◌, eqb, List, [], ◌∷◌, length, Option, Some, None}
+use Rattle.std.proofs.Common.{refl, sym, ap, ◌∙◌, arith, eq-eqb}
 use Rattle.std.specs.Prelude.{is_some, slice_get}
 use Rattle.std.specs.List.{filter, range_with_len}
 use Rattle.std.proofs.lemmas.Bool.{eqb-true, lt-ltb}
@@ -14,7 +15,8 @@ use Rattle.ei_session.specs.Handshake.{is_the_finish, version}
 use Rattle.ei_session.specs.Devices.{seat_is_open, made, interfaces_of, ids_given, next_id, makes, device_interfaces}
 use Rattle.ei_session.specs.Objects.{Entry, new_device, given, introduces, introduced, is_release, is_device, is_of, object, interfaces_left}
 use Rattle.ei_session.proofs.Choices.{some_is, and_right}
-use Rattle.ei_session.proofs.ObjectLaws.{object_is_introduced, introduced_now, introduced_before, next_above, given_by, not_finish, made_is, object_new, object_interface_release, object_device_left}
+use Rattle.ei_session.proofs.ObjectLaws.{object_is_introduced, introduced_now, introduced_before, next_above, given_by, not_finish, made_is, object_new}
+use Rattle.ei_session.proofs.ObjectLaws.{object_interface_release, object_device_left}
 use Rattle.ei_session.proofs.ObjectShape.{high_none, given_range, next_id_more, of_is}
 
 -- ---- what a device was made with, after one more message

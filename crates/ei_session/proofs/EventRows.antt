@@ -10,7 +10,8 @@ use Rattle.ei_spec.specs.Value.{Word, Long, Letters, U32, U64, Text, New}
 use Rattle.ei_spec.specs.Rows.{Row, row, announcing, handing_over, Nothing, Fixed, Named}
 use Rattle.ei_spec.specs.Table.{handshake_version, interface_version, destroyed, device_type}
 use Rattle.ei_session.specs.Replies.{greeting, settled_event, connection_event, seat_event, capability_event, done_event}
-use Rattle.ei_session.specs.Events.{invalid_object_event, callback_event, device_event, device_type_event, interface_event, device_done_event, resumed_event, destroyed_event}
+use Rattle.ei_session.specs.Events.{invalid_object_event, callback_event, device_event, device_type_event, interface_event, device_done_event, resumed_event}
+use Rattle.ei_session.specs.Events.{destroyed_event}
 use Rattle.ei_session.specs.Setup.{connection_id, seat_id}
 use Rattle.ei_spec.specs.Arguments.{AreOf}
 use Rattle.ei_session.specs.Told.{row_of, ReadsAs}

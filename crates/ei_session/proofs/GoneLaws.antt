@@ -1,5 +1,6 @@
 -- What goes never comes back.
-use Rattle.std.proofs.Common.{◌≡◌, ℕ, zero, suc, ◌+◌, ◌-◌, ◌<◌, ◌≤◌, Bool, true, false, cond, not, ◌&&◌, ◌||◌, ltb, eqb, List, [], ◌∷◌, ◌++◌, length, Option, Some, None, refl, sym, ap, ◌∙◌, arith, eq-eqb, ◌⊎◌, inl, inr}
+use Rattle.std.proofs.Common.{◌≡◌, ℕ, zero, suc, ◌+◌, ◌-◌, ◌<◌, ◌≤◌, Bool, true, false, cond, not, ◌&&◌, ◌||◌, ltb, eqb, List, [], ◌∷◌, ◌++◌, length, Option}
+use Rattle.std.proofs.Common.{Some, None, refl, sym, ap, ◌∙◌, arith, eq-eqb, ◌⊎◌, inl, inr}
 use Rattle.std.specs.Prelude.{is_some, nat_eq, slice_get}
 use Rattle.std.specs.List.{filter, range_with_len, list_any}
 use Rattle.std.proofs.lemmas.Bool.{eqb-true}
@@ -12,12 +13,14 @@ use Rattle.ei_spec.specs.History.{last_said}
 use Rattle.ei_session.specs.Setup.{connection_id, seat_id}
 use Rattle.ei_session.specs.Handshake.{connected, is_finish, is_the_finish}
 use Rattle.ei_session.specs.Devices.{made, interfaces_of, next_id, device_interfaces}
-use Rattle.ei_session.specs.Objects.{Entry, interface_entry, new_device, given, handed_over, introduces, introduced, is_release, is_device, is_of, removes, object, interfaces_left, going, gone_with, gone}
+use Rattle.ei_session.specs.Objects.{Entry, interface_entry, new_device, given, handed_over, introduces, introduced, is_release, is_device, is_of, removes}
+use Rattle.ei_session.specs.Objects.{object, interfaces_left, going, gone_with, gone}
 use Rattle.ei_types.specs.Capability.{capabilities}
 use Rattle.ei_session.proofs.Choices.{chosen, some_is, none_some, not_both}
 use Rattle.ei_session.proofs.MaskLaws.{masked_none, place_none}
 use Rattle.ei_session.proofs.Opcodes.{release_opcode}
-use Rattle.ei_session.proofs.ObjectLaws.{object_at, object_is_introduced, introduced_now, introduced_before, next_above, given_by, released, object_device_gone, nothing_left}
+use Rattle.ei_session.proofs.ObjectLaws.{object_at, object_is_introduced, introduced_now, introduced_before, next_above, given_by, released, object_device_gone}
+use Rattle.ei_session.proofs.ObjectLaws.{nothing_left}
 use Rattle.ei_session.proofs.ObjectShape.{next_id_more, object_below, same_connected, release_makes_nothing}
 use Rattle.ei_session.proofs.DeviceRange.{none_below, of_device}
 

@@ -13,7 +13,8 @@ use Rattle.ei_session.specs.Asked.{args_by, asked, asks, none}
 use Rattle.ei_session.specs.Inputs.{DeviceInput, input_to}
 use Rattle.ei_session.specs.Objects.{Entry, is_device, object}
 use Rattle.ei_session.specs.Touches.{of_device, input_of, input}
-use Rattle.ei_session.specs.Requests.{Bind, RequestDevice, Ready, DeviceClosed, DeviceStartEmulating, DeviceStopEmulating, Disconnect, device_item, seat_item, is_heard, input_item, item_to, item}
+use Rattle.ei_session.specs.Requests.{Bind, RequestDevice, Ready, DeviceClosed, DeviceStartEmulating, DeviceStopEmulating, Disconnect, device_item, seat_item}
+use Rattle.ei_session.specs.Requests.{is_heard, input_item, item_to, item}
 use Rattle.ei_session.proofs.Choices.{none_some}
 use Rattle.ei_session.proofs.Opcodes.{release_opcode}
 

@@ -8,7 +8,9 @@ use Rattle.ei_spec.specs.Message.{Raw}
 use Rattle.ei_session.specs.Arguments.{row_args, request_args}
 use Rattle.ei_session.specs.Asked.{asked}
 use Rattle.ei_session.specs.Inputs.{Input}
-use Rattle.ei_session.specs.Meaning.{Meaning, Inputs, Asks, Greeting, Finish, ContextType, Name, InterfaceVersion, Sync, Disconnect, Pong, SeatRelease, Bind, RequestDevice, DeviceRelease, Start, Stop, Frame, Ready, PointerRelease, PointerAbsoluteRelease, ScrollRelease, ButtonRelease, KeyboardRelease, TouchscreenRelease, TextRelease, meaning}
+use Rattle.ei_session.specs.Meaning.{Meaning, Inputs, Asks, Greeting, Finish, ContextType, Name, InterfaceVersion, Sync, Disconnect, Pong, SeatRelease, Bind}
+use Rattle.ei_session.specs.Meaning.{RequestDevice, DeviceRelease, Start, Stop, Frame, Ready, PointerRelease, PointerAbsoluteRelease, ScrollRelease}
+use Rattle.ei_session.specs.Meaning.{ButtonRelease, KeyboardRelease, TouchscreenRelease, TextRelease, meaning}
 use Rattle.ei_session.specs.Objects.{Entry, object}
 use Rattle.ei_session.specs.Touches.{of_device, input}
 use Rattle.ei_session.specs.Requests.{input_item, item_to, item}

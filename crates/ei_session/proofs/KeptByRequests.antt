@@ -16,7 +16,8 @@ use Rattle.ei_session.specs.Events.{destroyed_event, destroyed_events, reply}
 use Rattle.ei_session.specs.Kept.{KeepsVersions, Plainly}
 use Rattle.ei_session.proofs.Choices.{none_some, some_is, and_left}
 use Rattle.ei_session.proofs.ObjectLaws.{object_is_introduced, device_above, above_makes_nothing, object_keeps, made_is}
-use Rattle.ei_session.proofs.ObjectShape.{seat_was, same_connected, next_id_more, object_seat, object_seat_release, object_unknown, release_makes_nothing, unknown_makes_nothing}
+use Rattle.ei_session.proofs.ObjectShape.{seat_was, same_connected, next_id_more, object_seat, object_seat_release, object_unknown, release_makes_nothing}
+use Rattle.ei_session.proofs.ObjectShape.{unknown_makes_nothing}
 use Rattle.ei_session.proofs.FirstObjects.{object_first}
 use Rattle.ei_session.proofs.GoneLaws.{no_finish_again, some_entry}
 use Rattle.ei_session.proofs.DeviceRange.{lies, interfaces_kept, left_same, left_plain}

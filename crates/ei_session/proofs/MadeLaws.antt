@@ -8,7 +8,8 @@ use Rattle.ei_spec.specs.Value.{Value, Word, Long, Signed, Letters}
 use Rattle.ei_spec.specs.Message.{Raw}
 use Rattle.ei_session.specs.Setup.{seat_id}
 use Rattle.ei_session.specs.Asked.{asked}
-use Rattle.ei_session.specs.Inputs.{Input, PointerMotion, PointerMotionAbsolute, ScrollDelta, ScrollDiscrete, scroll_end, button, KeyboardKey, key_of, TouchDown, TouchMotion, TouchUp, TouchCancel, TextKeysym, TextUtf8, input_to}
+use Rattle.ei_session.specs.Inputs.{Input, PointerMotion, PointerMotionAbsolute, ScrollDelta, ScrollDiscrete, scroll_end, button, KeyboardKey, key_of}
+use Rattle.ei_session.specs.Inputs.{TouchDown, TouchMotion, TouchUp, TouchCancel, TextKeysym, TextUtf8, input_to}
 use Rattle.ei_session.specs.Devices.{seat_is_open, asked_mask, made}
 use Rattle.ei_session.specs.Objects.{Entry, object}
 use Rattle.ei_session.specs.Touches.{input}

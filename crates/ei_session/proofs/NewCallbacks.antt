@@ -1,5 +1,6 @@
 -- A callback is new where its sync isn't refused.
-use Rattle.std.proofs.Common.{◌≡◌, ℕ, ◌<◌, Bool, true, false, not, ◌&&◌, eqb, ltb, List, [], ◌∷◌, length, Option, Some, None, Ok, Err, Result, refl, sym, ap, ◌∙◌, inl, inr}
+use Rattle.std.proofs.Common.{◌≡◌, ℕ, ◌<◌, Bool, true, false, not, ◌&&◌, eqb, ltb, List, [], ◌∷◌, length, Option, Some, None, Ok, Err, Result, refl, sym, ap}
+use Rattle.std.proofs.Common.{◌∙◌, inl, inr}
 use Rattle.std.specs.Prelude.{codes}
 use Rattle.std.proofs.lemmas.Bool.{eqb-true, ltb-true}
 use Rattle.ei_spec.specs.declared.interface.KnownInterface.TheVariants as known
@@ -14,7 +15,8 @@ use Rattle.ei_session.specs.Arguments.{whole, row_args, body_of}
 use Rattle.ei_session.specs.Asked.{asked}
 use Rattle.ei_session.specs.Handshake.{connected}
 use Rattle.ei_session.specs.Objects.{Entry, object}
-use Rattle.ei_session.specs.Refusals.{Arguments, arguments, announced_id, callback_of, synced, is_at_most, may_give, bad_id, tests, refused_by, refused_row, refused_at, refusal}
+use Rattle.ei_session.specs.Refusals.{Arguments, arguments, announced_id, callback_of, synced, is_at_most, may_give, bad_id, tests, refused_by, refused_row}
+use Rattle.ei_session.specs.Refusals.{refused_at, refusal}
 use Rattle.ei_session.proofs.Choices.{chosen, none_some, and_left, and_right}
 use Rattle.ei_session.proofs.ItemLaws.{args_are}
 use Rattle.ei_session.proofs.FirstObjects.{object_connection, the_connection}

@@ -1,5 +1,6 @@
 -- The ids that are given next, after one more message.
-use Rattle.std.proofs.Common.{◌≡◌, ℕ, ◌+◌, ◌<◌, ◌≤◌, max, Bool, true, false, cond, not, ◌&&◌, ◌||◌, eqb, ltb, leb, List, [], ◌∷◌, ◌++◌, length, Option, Some, None, Ok, Err, refl, sym, ap, ◌∙◌, arith, inl, inr}
+use Rattle.std.proofs.Common.{◌≡◌, ℕ, ◌+◌, ◌<◌, ◌≤◌, max, Bool, true, false, cond, not, ◌&&◌, ◌||◌, eqb, ltb, leb, List, [], ◌∷◌, ◌++◌, length, Option, Some}
+use Rattle.std.proofs.Common.{None, Ok, Err, refl, sym, ap, ◌∙◌, arith, inl, inr}
 use Rattle.std.specs.Prelude.{codes}
 use Rattle.std.specs.Option.{option_to_list}
 use Rattle.std.proofs.lemmas.Bool.{eqb-true, cases_lt}
@@ -21,7 +22,8 @@ use Rattle.ei_session.specs.Handshake.{connected, is_the_finish}
 use Rattle.ei_session.specs.Devices.{made, interfaces_of, ids_given, next_id, seat_is_open, is_past, exhausts}
 use Rattle.ei_session.specs.Objects.{Entry, object}
 use Rattle.ei_session.specs.Touches.{input}
-use Rattle.ei_session.specs.Refusals.{Parse, InvalidInterfaceVersion, arguments, Arguments, synced, is_at_most, may_give, bad_id, refused_row, refused_at, refusal}
+use Rattle.ei_session.specs.Refusals.{Parse, InvalidInterfaceVersion, arguments, Arguments, synced, is_at_most, may_give, bad_id, refused_row, refused_at}
+use Rattle.ei_session.specs.Refusals.{refusal}
 use Rattle.ei_session.specs.Served.{AreUnrefused}
 use Rattle.ei_session.specs.NextIds.{next_own, callbacks, greatest, next_peer}
 use Rattle.ei_session.proofs.Choices.{chosen, some_is, none_some, and_left, and_right}

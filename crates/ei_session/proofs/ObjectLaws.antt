@@ -1,5 +1,6 @@
 -- The objects after one more message.
-use Rattle.std.proofs.Common.{◌≡◌, ◌≢◌, ℕ, ◌<◌, Bool, true, false, cond, ◌&&◌, ◌||◌, ltb, eqb, List, [], ◌∷◌, Option, Some, None, refl, sym, ap, ◌∙◌, arith, eq-eqb, inl, inr}
+use Rattle.std.proofs.Common.{◌≡◌, ◌≢◌, ℕ, ◌<◌, Bool, true, false, cond, ◌&&◌, ◌||◌, ltb, eqb, List, [], ◌∷◌, Option, Some, None, refl, sym, ap, ◌∙◌, arith}
+use Rattle.std.proofs.Common.{eq-eqb, inl, inr}
 use Rattle.std.specs.Prelude.{unwrap_or}
 use Rattle.std.specs.Option.{option_or}
 use Rattle.std.proofs.lemmas.Bool.{eqb-true, ltb-true}
@@ -12,7 +13,8 @@ use Rattle.ei_spec.proofs.HistoryLaws.{said_now, said_before}
 use Rattle.ei_session.specs.Setup.{connection_id, seat_id}
 use Rattle.ei_session.specs.Handshake.{is_finish, is_the_finish, version}
 use Rattle.ei_session.specs.Devices.{seat_is_open, asked_mask, not_empty, made, interfaces_of, next_id}
-use Rattle.ei_session.specs.Objects.{Entry, new_device, given, handed_over, introduces, introduced, is_release, is_device, was_device, is_of, removes, said, says, object}
+use Rattle.ei_session.specs.Objects.{Entry, new_device, given, handed_over, introduces, introduced, is_release, is_device, was_device, is_of, removes, said}
+use Rattle.ei_session.specs.Objects.{says, object}
 use Rattle.ei_session.proofs.Choices.{chosen, some_is, none_some, and_false, and_right}
 use Rattle.ei_session.proofs.Opcodes.{mask_no_release}
 

@@ -1,5 +1,6 @@
 -- What the objects of a server are like, whatever was sent.
-use Rattle.std.proofs.Common.{◌≡◌, ℕ, zero, suc, ◌+◌, ◌-◌, ◌<◌, ◌≤◌, Bool, true, false, cond, not, ◌&&◌, ◌||◌, ltb, eqb, List, [], ◌∷◌, length, Option, Some, None, refl, sym, ap, ◌∙◌, arith, eq-eqb, inl, inr}
+use Rattle.std.proofs.Common.{◌≡◌, ℕ, zero, suc, ◌+◌, ◌-◌, ◌<◌, ◌≤◌, Bool, true, false, cond, not, ◌&&◌, ◌||◌, ltb, eqb, List, [], ◌∷◌, length, Option, Some}
+use Rattle.std.proofs.Common.{None, refl, sym, ap, ◌∙◌, arith, eq-eqb, inl, inr}
 use Rattle.std.specs.Prelude.{is_some, slice_get, codes}
 use Rattle.std.proofs.lemmas.Bool.{eqb-true, ltb-true}
 use Rattle.std.proofs.lemmas.Bool.Decides.{nat_tests}
@@ -12,10 +13,12 @@ use Rattle.ei_session.specs.Setup.{connection_id, seat_id}
 use Rattle.ei_session.specs.Asked.{asks}
 use Rattle.ei_session.specs.Handshake.{is_finish, connected, is_the_finish, version}
 use Rattle.ei_session.specs.Devices.{releases_seat, seat_is_open, made, interfaces_of, ids_given, next_id}
-use Rattle.ei_session.specs.Objects.{Entry, interface_entry, new_device, given, handed_over, introduces, introduced, is_release, was_device, is_of, removes, object}
+use Rattle.ei_session.specs.Objects.{Entry, interface_entry, new_device, given, handed_over, introduces, introduced, is_release, was_device, is_of, removes}
+use Rattle.ei_session.specs.Objects.{object}
 use Rattle.ei_session.proofs.OneMore.{connected_more}
 use Rattle.ei_session.proofs.Choices.{chosen, some_is, none_some, and_false, not_both, or_none}
-use Rattle.ei_session.proofs.ObjectLaws.{changed, object_at, object_more, introduced_now, introduced_before, object_is_introduced, next_above, no_device, given_above, by_making, given_by, not_finish, nothing_left, if_removed, object_finish, made_is}
+use Rattle.ei_session.proofs.ObjectLaws.{changed, object_at, object_more, introduced_now, introduced_before, object_is_introduced, next_above, no_device}
+use Rattle.ei_session.proofs.ObjectLaws.{given_above, by_making, given_by, not_finish, nothing_left, if_removed, object_finish, made_is}
 use Rattle.ei_session.proofs.Opcodes.{mask_no_release}
 
 -- ---- the finish

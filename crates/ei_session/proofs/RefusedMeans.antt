@@ -1,5 +1,6 @@
 -- Why a request is refused, by what it asks.
-use Rattle.std.proofs.Common.{◌≡◌, ℕ, ◌+◌, Bool, true, false, cond, not, ◌&&◌, ◌||◌, eqb, List, [], ◌∷◌, length, Option, Some, None, Ok, Err, refl, sym, ap, ◌∙◌}
+use Rattle.std.proofs.Common.{◌≡◌, ℕ, ◌+◌, Bool, true, false, cond, not, ◌&&◌, ◌||◌, eqb, List, [], ◌∷◌, length, Option, Some, None, Ok, Err, refl, sym, ap}
+use Rattle.std.proofs.Common.{◌∙◌}
 use Rattle.std.specs.Prelude.{codes, is_some}
 use Rattle.ei_spec.specs.declared.interface.KnownInterface.{KnownInterface}
 use Rattle.ei_spec.specs.declared.interface.KnownInterface.TheVariants as known
@@ -14,11 +15,15 @@ use Rattle.ei_session.specs.Arguments.{whole, row_args, request_args, body_of}
 use Rattle.ei_session.specs.Asked.{asked, asks, first}
 use Rattle.ei_session.specs.Built.{all_settled}
 use Rattle.ei_session.specs.Inputs.{ScrollStop as Stopped, ScrollCancel as Cancelled, TextUtf8, scroll_end}
-use Rattle.ei_session.specs.Meaning.{Meaning, Asks, Greeting, Finish, ContextType, Name, InterfaceVersion, Sync, Disconnect, Pong, SeatRelease, Bind, RequestDevice, DeviceRelease, Start, Stop, Frame, Ready, PointerRelease, MotionRelative, PointerAbsoluteRelease, MotionAbsolute, ScrollRelease, Scroll, Discrete, ScrollStop, ButtonRelease, Button, KeyboardRelease, Key, TouchscreenRelease, Down, Motion, Up, Cancel, TextRelease, Keysym, Utf8, meaning}
+use Rattle.ei_session.specs.Meaning.{Meaning, Asks, Greeting, Finish, ContextType, Name, InterfaceVersion, Sync, Disconnect, Pong, SeatRelease, Bind}
+use Rattle.ei_session.specs.Meaning.{RequestDevice, DeviceRelease, Start, Stop, Frame, Ready, PointerRelease, MotionRelative, PointerAbsoluteRelease}
+use Rattle.ei_session.specs.Meaning.{MotionAbsolute, ScrollRelease, Scroll, Discrete, ScrollStop, ButtonRelease, Button, KeyboardRelease, Key}
+use Rattle.ei_session.specs.Meaning.{TouchscreenRelease, Down, Motion, Up, Cancel, TextRelease, Keysym, Utf8, meaning}
 use Rattle.ei_session.specs.Devices.{asked_mask}
 use Rattle.ei_session.specs.Objects.{Entry, object}
 use Rattle.ei_session.specs.Touches.{of_device, input}
-use Rattle.ei_session.specs.Refusals.{Refusal, Parse, Arguments, announced_by, may_give, bad_id, left_over, came, bad_handshake, bad_sync, bad_mask, bad_capabilities, bad_touch, bad_letters, bad_text, refused_by, refused_row, refusal}
+use Rattle.ei_session.specs.Refusals.{Refusal, Parse, Arguments, announced_by, may_give, bad_id, left_over, came, bad_handshake, bad_sync, bad_mask}
+use Rattle.ei_session.specs.Refusals.{bad_capabilities, bad_touch, bad_letters, bad_text, refused_by, refused_row, refusal}
 use Rattle.ei_session.specs.ByMeaning.{input_in, callback_in, input_refusal, refusal_for}
 use Rattle.ei_session.proofs.Choices.{none_some, some_is}
 use Rattle.ei_session.proofs.AskedRows.{ReadsAs, reads_as}

@@ -1,5 +1,6 @@
 -- How many bytes answer a message.
-use Rattle.std.proofs.Common.{◌≡◌, ℕ, eqb, ◌%◌, ◌^◌, ◌+◌, ◌*◌, ◌≤◌, Bool, true, false, cond, ◌&&◌, List, [], ◌∷◌, ◌++◌, length, Option, Some, None, refl, sym, ap, ◌∙◌, arith}
+use Rattle.std.proofs.Common.{◌≡◌, ℕ, eqb, ◌%◌, ◌^◌, ◌+◌, ◌*◌, ◌≤◌, Bool, true, false, cond, ◌&&◌, List, [], ◌∷◌, ◌++◌, length, Option, Some, None, refl, sym}
+use Rattle.std.proofs.Common.{ap, ◌∙◌, arith}
 use Rattle.std.specs.Prelude.{is_some, unwrap_or}
 use Rattle.std.specs.Option.{option_map}
 use Rattle.std.specs.List.{filter, filter_map, range_with_len}
@@ -12,8 +13,10 @@ use Rattle.ei_spec.specs.Message.{Raw, le4, le8, header, bytes_of, all_bytes}
 use Rattle.ei_types.specs.Capability.{capabilities, has_bit}
 use Rattle.ei_session.specs.Setup.{Setup, connection_id, seat_id}
 use Rattle.ei_session.specs.Handshake.{connected, is_the_finish, settled, version}
-use Rattle.ei_session.specs.Replies.{settled_event, capability_event, connection_event, seat_event, done_event, settled_events, capability_events, finish_events}
-use Rattle.ei_session.specs.Events.{invalid_object_event, callback_event, device_event, device_type_event, interface_event, device_done_event, resumed_event, destroyed_event, interface_events, device_events, destroyed_events, callback_events, reply_by, reply}
+use Rattle.ei_session.specs.Replies.{settled_event, capability_event, connection_event, seat_event, done_event, settled_events, capability_events}
+use Rattle.ei_session.specs.Replies.{finish_events}
+use Rattle.ei_session.specs.Events.{invalid_object_event, callback_event, device_event, device_type_event, interface_event, device_done_event, resumed_event}
+use Rattle.ei_session.specs.Events.{destroyed_event, interface_events, device_events, destroyed_events, callback_events, reply_by, reply}
 use Rattle.ei_spec.specs.History.{last_said}
 use Rattle.ei_spec.proofs.HistoryLaws.{said_now, said_before}
 use Rattle.ei_session.specs.Devices.{interfaces_of, made, next_id, exhausts, if_same, makes, device_interfaces}

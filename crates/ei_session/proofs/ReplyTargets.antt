@@ -1,5 +1,6 @@
 -- Where the events go that answer a message.
-use Rattle.std.proofs.Common.{◌≡◌, ℕ, ◌+◌, ◌%◌, ◌^◌, Bool, true, false, cond, ◌&&◌, ◌||◌, eqb, List, [], ◌∷◌, ◌++◌, Option, Some, None, refl, sym, ap, ◌∙◌, eq-eqb, inl, inr}
+use Rattle.std.proofs.Common.{◌≡◌, ℕ, ◌+◌, ◌%◌, ◌^◌, Bool, true, false, cond, ◌&&◌, ◌||◌, eqb, List, [], ◌∷◌, ◌++◌, Option, Some, None, refl, sym, ap, ◌∙◌}
+use Rattle.std.proofs.Common.{eq-eqb, inl, inr}
 use Rattle.std.specs.Prelude.{is_some, nat_eq}
 use Rattle.std.specs.Option.{option_map, option_or}
 use Rattle.std.specs.List.{filter_map, list_any}
@@ -14,7 +15,8 @@ use Rattle.ei_session.specs.Devices.{seat_is_open, made, interfaces_of, next_id,
 use Rattle.ei_session.specs.Objects.{Entry, new_device, handed_over, object, gone}
 use Rattle.ei_session.specs.Serial.{serial}
 use Rattle.ei_session.specs.Refusals.{synced}
-use Rattle.ei_session.specs.Events.{invalid_object_event, interface_events, device_events, destroyed_events, callback_events, reply_by, reply, IsTarget, AreTargets}
+use Rattle.ei_session.specs.Events.{invalid_object_event, interface_events, device_events, destroyed_events, callback_events, reply_by, reply, IsTarget}
+use Rattle.ei_session.specs.Events.{AreTargets}
 use Rattle.ei_session.proofs.Choices.{some_is, none_some, and_left}
 use Rattle.ei_session.proofs.ObjectLaws.{made_is, object_new}
 use Rattle.ei_session.proofs.ObjectShape.{object_seat, at_finish}

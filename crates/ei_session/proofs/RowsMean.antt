@@ -8,7 +8,10 @@ use Rattle.ei_spec.specs.Table.{table}
 use Rattle.ei_spec.specs.Message.{Raw}
 use Rattle.ei_session.specs.Arguments.{row_args, request_args}
 use Rattle.ei_session.specs.Asked.{asked}
-use Rattle.ei_session.specs.Meaning.{Meaning, Asks, Greeting, Finish, ContextType, Name, InterfaceVersion, Sync, Disconnect, Pong, SeatRelease, Bind, RequestDevice, DeviceRelease, Start, Stop, Frame, Ready, PointerRelease, MotionRelative, PointerAbsoluteRelease, MotionAbsolute, ScrollRelease, Scroll, Discrete, ScrollStop, ButtonRelease, Button, KeyboardRelease, Key, TouchscreenRelease, Down, Motion, Up, Cancel, TextRelease, Keysym, Utf8, meaning}
+use Rattle.ei_session.specs.Meaning.{Meaning, Asks, Greeting, Finish, ContextType, Name, InterfaceVersion, Sync, Disconnect, Pong, SeatRelease, Bind}
+use Rattle.ei_session.specs.Meaning.{RequestDevice, DeviceRelease, Start, Stop, Frame, Ready, PointerRelease, MotionRelative, PointerAbsoluteRelease}
+use Rattle.ei_session.specs.Meaning.{MotionAbsolute, ScrollRelease, Scroll, Discrete, ScrollStop, ButtonRelease, Button, KeyboardRelease, Key}
+use Rattle.ei_session.specs.Meaning.{TouchscreenRelease, Down, Motion, Up, Cancel, TextRelease, Keysym, Utf8, meaning}
 
 -- by the opcode n, the row of the table is this one
 pub at_row : (k : KnownInterface) (m : Raw) (n : ℕ) (values : List Value) → m.opcode ≡ n → request_args k m ≡ Some values → row_args (row_at n (table false k)) m ≡ Some values

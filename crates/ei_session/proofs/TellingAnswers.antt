@@ -1,5 +1,6 @@
 -- Each event that answers a message goes to what the client is told of: message by message, and for a whole stream.
-use Rattle.std.proofs.Common.{◌≡◌, ℕ, ◌+◌, ◌-◌, ◌<◌, ◌≤◌, ◌^◌, Bool, true, false, cond, ◌&&◌, ◌||◌, eqb, ltb, leb, List, [], ◌∷◌, ◌++◌, reverse, length, Option, Some, None, refl, sym, ap, subst, ◌∙◌, arith, eq-eqb, inl, inr, ◌⊎◌}
+use Rattle.std.proofs.Common.{◌≡◌, ℕ, ◌+◌, ◌-◌, ◌<◌, ◌≤◌, ◌^◌, Bool, true, false, cond, ◌&&◌, ◌||◌, eqb, ltb, leb, List, [], ◌∷◌, ◌++◌, reverse, length, Option}
+use Rattle.std.proofs.Common.{Some, None, refl, sym, ap, subst, ◌∙◌, arith, eq-eqb, inl, inr, ◌⊎◌}
 use Rattle.std.specs.Prelude.{is_some, unwrap_or, nat_eq, slice_get}
 use Rattle.std.specs.Option.{option_or}
 use Rattle.std.specs.List.{list_any}
@@ -21,21 +22,27 @@ use Rattle.ei_session.specs.Devices.{made, interfaces_of, next_id, exhausts, is_
 use Rattle.ei_session.specs.Objects.{Entry, interface_entry, new_device, given, handed_over, introduces, at_first, introduced, is_release, object, gone}
 use Rattle.ei_session.specs.Serial.{serial}
 use Rattle.ei_session.specs.Refusals.{Refusal, synced, is_at_most, refusal, judge}
-use Rattle.ei_session.specs.Events.{invalid_object_event, callback_event, device_event, device_type_event, device_done_event, resumed_event, interface_events, device_events, destroyed_events, callback_events, reply_by, reply, replies}
+use Rattle.ei_session.specs.Events.{invalid_object_event, callback_event, device_event, device_type_event, device_done_event, resumed_event, interface_events}
+use Rattle.ei_session.specs.Events.{device_events, destroyed_events, callback_events, reply_by, reply, replies}
 use Rattle.ei_session.specs.Served.{reading_of, accepted}
 use Rattle.ei_session.specs.Told.{tells, told, interface_of, destroys, ReadsAs, IsReply}
 use Rattle.ei_session.proofs.Choices.{not_true, turned, chosen, some_is, none_some, not_both, and_false, and_left, and_right}
 use Rattle.ei_session.proofs.AllParts.{replies_more}
 use Rattle.ei_session.proofs.ObjectLaws.{object_is_introduced, introduced_before, next_above, given_by, made_is, not_finish}
 use Rattle.ei_session.proofs.ObjectShape.{given_range, next_id_more, seat_was_not, at_finish, same_connected, now_connected, seat_was, low_none, object_seat}
-use Rattle.ei_session.proofs.FirstObjects.{connection_was, the_connection, handshake_was, object_handshake, object_connection, connection_unreleased, never_released, object_first}
+use Rattle.ei_session.proofs.FirstObjects.{connection_was, the_connection, handshake_was, object_handshake, object_connection, connection_unreleased}
+use Rattle.ei_session.proofs.FirstObjects.{never_released, object_first}
 use Rattle.ei_session.proofs.GoneLaws.{handed_low, connected_by, goes, some_entry}
 use Rattle.ei_session.proofs.SerialLaws.{gone_plain}
 use Rattle.ei_session.proofs.NewCallbacks.{IsNew, callback_new}
 use Rattle.ei_session.proofs.AcceptedLaws.{accepted_so, ended_so, no_exhausting}
-use Rattle.ei_session.proofs.EventRows.{reads_greeting, reads_invalid, called_row, reads_callback, device_row, reads_device, reads_type, reads_described, reads_resumed}
-use Rattle.ei_session.proofs.Telling.{IsTold, announces_by, started, or_assoc, told_more, gone_more, is_told, onto, onto_append, onto_nothing, AreTold, both_told, told_at, told_later, quiet_told, interface_at, parts_at, parts_below, parts_slot, parts_told, Mortal, going_told, or_nothing, announced_nothing}
-use Rattle.ei_session.proofs.TellingReplies.{kind_of, kinds_or, introduced_more, Spent, spent_more, Tells, there_told, there_alive, Step, same_tells, no_events, gives_none, version_small, serial_small, handed_kinds, finish_told}
+use Rattle.ei_session.proofs.EventRows.{reads_greeting, reads_invalid, called_row, reads_callback, device_row, reads_device, reads_type, reads_described}
+use Rattle.ei_session.proofs.EventRows.{reads_resumed}
+use Rattle.ei_session.proofs.Telling.{IsTold, announces_by, started, or_assoc, told_more, gone_more, is_told, onto, onto_append, onto_nothing, AreTold}
+use Rattle.ei_session.proofs.Telling.{both_told, told_at, told_later, quiet_told, interface_at, parts_at, parts_below, parts_slot, parts_told, Mortal}
+use Rattle.ei_session.proofs.Telling.{going_told, or_nothing, announced_nothing}
+use Rattle.ei_session.proofs.TellingReplies.{kind_of, kinds_or, introduced_more, Spent, spent_more, Tells, there_told, there_alive, Step, same_tells, no_events}
+use Rattle.ei_session.proofs.TellingReplies.{gives_none, version_small, serial_small, handed_kinds, finish_told}
 use Rattle.ei_session.proofs.TellingGone.{gone_differ, gone_mortal}
 
 introduced_kinds : (before : List Raw) (m : Raw) (id : ℕ) → kind_of (introduced (m ∷ before) id) ≡ option_or (kind_of (introduces before m id)) (kind_of (introduced before id))

@@ -1,5 +1,6 @@
 -- What goes, goes once, and by a row of its interface.
-use Rattle.std.proofs.Common.{◌≡◌, ℕ, zero, suc, ◌+◌, ◌-◌, Bool, true, false, cond, not, eqb, ltb, List, [], ◌∷◌, ◌++◌, length, Option, Some, None, refl, sym, ap, ◌∙◌, arith, inl, inr}
+use Rattle.std.proofs.Common.{◌≡◌, ℕ, zero, suc, ◌+◌, ◌-◌, Bool, true, false, cond, not, eqb, ltb, List, [], ◌∷◌, ◌++◌, length, Option, Some, None, refl, sym}
+use Rattle.std.proofs.Common.{ap, ◌∙◌, arith, inl, inr}
 use Rattle.std.specs.Prelude.{is_some, nat_eq, slice_get, codes}
 use Rattle.std.specs.List.{filter, list_any, range_with_len}
 use Rattle.std.proofs.lemmas.List.Folds.{list_any-append}
@@ -10,7 +11,8 @@ use Rattle.ei_spec.specs.History.{last_said}
 use Rattle.ei_types.specs.Capability.{capabilities}
 use Rattle.ei_session.specs.Asked.{asked, asks}
 use Rattle.ei_session.specs.Devices.{interfaces_of, made, next_id, device_interfaces}
-use Rattle.ei_session.specs.Objects.{Entry, interface_entry, new_device, given, introduces, introduced, is_release, object, interfaces_left, going, gone_with, gone}
+use Rattle.ei_session.specs.Objects.{Entry, interface_entry, new_device, given, introduces, introduced, is_release, object, interfaces_left, going, gone_with}
+use Rattle.ei_session.specs.Objects.{gone}
 use Rattle.ei_session.proofs.Choices.{not_true, turned, chosen, some_is, none_some, or_none}
 use Rattle.ei_session.proofs.ObjectLaws.{object_is_introduced, introduced_now, introduced_before, by_making, no_device}
 use Rattle.ei_session.proofs.DeviceRange.{range_owner}

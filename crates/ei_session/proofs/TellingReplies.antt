@@ -1,5 +1,6 @@
 -- Each event that answers a message goes to what the client is told of.
-use Rattle.std.proofs.Common.{◌≡◌, ℕ, ◌<◌, ◌≤◌, ◌^◌, min, Bool, true, false, cond, ◌&&◌, ◌||◌, eqb, List, [], ◌∷◌, ◌++◌, Option, Some, None, option_map, refl, sym, ap, subst, ◌∙◌, arith, inl, inr, ◌⊎◌}
+use Rattle.std.proofs.Common.{◌≡◌, ℕ, ◌<◌, ◌≤◌, ◌^◌, min, Bool, true, false, cond, ◌&&◌, ◌||◌, eqb, List, [], ◌∷◌, ◌++◌, Option, Some, None, option_map, refl}
+use Rattle.std.proofs.Common.{sym, ap, subst, ◌∙◌, arith, inl, inr, ◌⊎◌}
 use Rattle.std.specs.Prelude.{is_some, unwrap_or}
 use Rattle.std.specs.Option.{option_or}
 use Rattle.std.specs.List.{AllByRecursion, filter_map}
@@ -14,7 +15,8 @@ use Rattle.ei_spec.proofs.HistoryLaws.{occurs_or}
 use Rattle.ei_types.specs.Capability.{capabilities, has_bit}
 use Rattle.ei_session.specs.Setup.{Setup, connection_id, seat_id}
 use Rattle.ei_session.specs.Handshake.{is_the_finish, announces, settled, version}
-use Rattle.ei_session.specs.Replies.{settled_event, connection_event, seat_event, capability_event, done_event, settled_events, capability_events, finish_events}
+use Rattle.ei_session.specs.Replies.{settled_event, connection_event, seat_event, capability_event, done_event, settled_events, capability_events}
+use Rattle.ei_session.specs.Replies.{finish_events}
 use Rattle.ei_session.specs.Devices.{made, exhausts}
 use Rattle.ei_session.specs.Objects.{Entry, given, handed_over, introduces, introduced, object}
 use Rattle.ei_session.specs.Serial.{serial}
@@ -24,7 +26,8 @@ use Rattle.ei_session.proofs.Choices.{not_true, turned, some_is, none_some, and_
 use Rattle.ei_session.proofs.ObjectLaws.{object_is_introduced, introduced_now, introduced_before, given_by}
 use Rattle.ei_session.proofs.GoneLaws.{Dead, dead_more}
 use Rattle.ei_session.proofs.EventRows.{reads_settled, connection_row, reads_connection, seat_row, reads_seat, reads_capability, reads_done}
-use Rattle.ei_session.proofs.Telling.{started, or_assoc, told_more, gone_more, interface_at, is_told, onto, onto_append, AreTold, both_told, Same, Quiet, AllQuiet, quiet_told}
+use Rattle.ei_session.proofs.Telling.{started, or_assoc, told_more, gone_more, interface_at, is_told, onto, onto_append, AreTold, both_told, Same, Quiet}
+use Rattle.ei_session.proofs.Telling.{AllQuiet, quiet_told}
 
 -- ---- what is told is what was introduced
 

@@ -13,7 +13,8 @@ use Rattle.ei_session.specs.Handshake.{is_finish, connected, is_the_finish, anno
 use Rattle.ei_session.specs.Built.{all_settled, is_built_before, is_disconnect, is_built, refusal, is_last, judge, NotBuilt}
 use Rattle.ei_session.specs.Framed.{item, serial, slot, framed, Disconnect}
 use Rattle.ei_session.specs.Replies.{settled_events, capability_events, finish_events, reply, replies}
-use Rattle.ei_session.specs.Session.{reading_of, read_first, too_many_handles, is_over, over_at, least, session, accepted, Answer, PieceLimit, HandleLimit, End, UnexpectedEof, Stopped}
+use Rattle.ei_session.specs.Session.{reading_of, read_first, too_many_handles, is_over, over_at, least, session, accepted, Answer, PieceLimit, HandleLimit, End}
+use Rattle.ei_session.specs.Session.{UnexpectedEof, Stopped}
 
 -- opens every definition that the rows compute
 pub all_open : Unit {0}

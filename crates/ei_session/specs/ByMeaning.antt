@@ -10,7 +10,8 @@ use Rattle.ei_spec.specs.Groups.{Frame, Other, Free}
 use Rattle.ei_session.specs.Setup.{Setup}
 use Rattle.ei_session.specs.Built.{all_settled}
 use Rattle.ei_session.specs.Inputs.{Input, TextUtf8}
-use Rattle.ei_session.specs.Meaning.{Shake, Finishes, TellsContext, TellsName, Meaning, Shakes, Syncs, Disconnects, Pongs, ReleasesSeat, Binds, RequestsDevice, Closes, Starts, Stops, Frames, Readies, Releases, Inputs}
+use Rattle.ei_session.specs.Meaning.{Shake, Finishes, TellsContext, TellsName, Meaning, Shakes, Syncs, Disconnects, Pongs, ReleasesSeat, Binds, RequestsDevice}
+use Rattle.ei_session.specs.Meaning.{Closes, Starts, Stops, Frames, Readies, Releases, Inputs}
 use Rattle.ei_session.specs.Objects.{Entry}
 use Rattle.ei_session.specs.Touches.{of_device}
 use Rattle.ei_session.specs.Refusals.{Refusal, Parse, Handshake, InvalidInterfaceVersion, may_give, came, bad_mask, bad_touch, bad_letters}

@@ -5,7 +5,8 @@ use Rattle.ei_spec.specs.declared.interface.KnownInterface.TheVariants as known
 use Rattle.ei_spec.specs.Value.{Value, Word, Long, Signed, Letters}
 use Rattle.ei_spec.specs.Message.{Raw}
 use Rattle.ei_session.specs.Asked.{asked, first, none, one, two, long, text}
-use Rattle.ei_session.specs.Inputs.{Input, PointerMotion, PointerMotionAbsolute, ScrollDelta, ScrollDiscrete, scroll_end, button, KeyboardKey, key_of, TouchDown, TouchMotion, TouchUp, TouchCancel, TextKeysym, TextUtf8, input_to}
+use Rattle.ei_session.specs.Inputs.{Input, PointerMotion, PointerMotionAbsolute, ScrollDelta, ScrollDiscrete, scroll_end, button, KeyboardKey, key_of}
+use Rattle.ei_session.specs.Inputs.{TouchDown, TouchMotion, TouchUp, TouchCancel, TextKeysym, TextUtf8, input_to}
 
 -- what a message of the handshake says
 pub data Shake : Type 0 where

@@ -1,6 +1,7 @@
 //! The laws of the definitions for all requests. Each function does nothing: its clauses are the laws.
 
-ghost use Rattle.std.specs.Prelude.{◌≡◌, ◌≢◌, ◌≤◌, ◌<◌, ◌+◌, ◌%◌, ◌^◌, ◌++◌, ◌==◌, ◌&&◌, ◌||◌, ◌⊎◌, ℕ, ℤ, List, [], ◌∷◌, Bool, true, false, Option, Some, None, length, is_some, unwrap_or, nat_eq, not, codes, if◌then◌else◌};
+ghost use Rattle.std.specs.Prelude.{◌≡◌, ◌≢◌, ◌≤◌, ◌<◌, ◌+◌, ◌%◌, ◌^◌, ◌++◌, ◌==◌, ◌&&◌, ◌||◌, ◌⊎◌, ℕ, ℤ, List, [], ◌∷◌, Bool, true, false, Option, Some, None};
+ghost use Rattle.std.specs.Prelude.{length, is_some, unwrap_or, nat_eq, not, codes, if◌then◌else◌};
 ghost use Rattle.std.specs.Option.{option_or};
 ghost use Rattle.std.specs.List.{filter, list_any, range_with_len};
 ghost use Rattle.ei_spec.specs.declared.interface.KnownInterface.{KnownInterface};
@@ -18,15 +19,18 @@ ghost use Rattle.ei_spec.specs.Stream.{Accepted, Final, Waiting, Reading, go_on,
 ghost use Rattle.ei_session.specs.Setup.{Setup, connection_id, seat_id};
 ghost use Rattle.ei_session.specs.Asked.{asked, asks, event, first};
 ghost use Rattle.ei_session.specs.Handshake.{connected, is_finish, is_the_finish, settled, version};
-ghost use Rattle.ei_session.specs.Inputs.{Input, PointerMotion, PointerMotionAbsolute, ScrollDelta, ScrollDiscrete, scroll_end, button, KeyboardKey, key_of, TouchDown, TouchMotion, TouchUp, TouchCancel, TextKeysym, TextUtf8, DeviceInput, input_to};
+ghost use Rattle.ei_session.specs.Inputs.{Input, PointerMotion, PointerMotionAbsolute, ScrollDelta, ScrollDiscrete, scroll_end, button, KeyboardKey, key_of};
+ghost use Rattle.ei_session.specs.Inputs.{TouchDown, TouchMotion, TouchUp, TouchCancel, TextKeysym, TextUtf8, DeviceInput, input_to};
 ghost use Rattle.ei_session.specs.Devices.{seat_is_open, interfaces_of, made, ids_given, next_id, exhausts};
 ghost use Rattle.ei_session.specs.Objects.{Entry, new_device, handed_over, at_first, is_device, is_of, says, object, interfaces_left, gone};
 ghost use Rattle.ei_session.specs.Serial.{steps, serial};
 ghost use Rattle.ei_session.specs.Touches.{input, touches, is_down, touches_down};
 ghost use Rattle.ei_session.specs.Refusals.{Refusal, Handshake, arguments, tests, synced, is_at_most, refusal, judge};
-ghost use Rattle.ei_session.specs.Requests.{Request, Plain, Bind, RequestDevice, Ready, DeviceClosed, DeviceStartEmulating, DeviceStopEmulating, Disconnect, is_heard, item, slot, framed};
+ghost use Rattle.ei_session.specs.Requests.{Request, Plain, Bind, RequestDevice, Ready, DeviceClosed, DeviceStartEmulating, DeviceStopEmulating, Disconnect};
+ghost use Rattle.ei_session.specs.Requests.{is_heard, item, slot, framed};
 ghost use Rattle.ei_session.specs.Replies.{finish_events, replies as replies_built};
-ghost use Rattle.ei_session.specs.Events.{invalid_object_event, callback_event, device_events, destroyed_event, destroyed_events, reply, replies, AreTargets, announcement, IsAmong};
+ghost use Rattle.ei_session.specs.Events.{invalid_object_event, callback_event, device_events, destroyed_event, destroyed_events, reply, replies, AreTargets};
+ghost use Rattle.ei_session.specs.Events.{announcement, IsAmong};
 ghost use Rattle.ei_session.specs.Served.{AreUnrefused, accepted, reading_of, read_first, is_over, over_at, at_end, session};
 ghost use Rattle.ei_spec.specs.declared.limits.TheConstants.{MOST_MESSAGE_BYTES, MOST_TOUCHES};
 

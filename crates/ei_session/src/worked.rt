@@ -15,7 +15,10 @@ ghost use Rattle.ei_session.specs.Inputs.{Input, Button, KeyboardKey, PointerMot
 ghost use Rattle.ei_session.specs.Refusals.{Handshake, Request, Parse, InvalidInterfaceVersion};
 ghost use Rattle.ei_session.specs.Requests.{Bind, DeviceClosed, DeviceStartEmulating, DeviceStopEmulating, Ready, Disconnect as Disconnects};
 ghost use Rattle.ei_session.specs.Served.{session, Disconnect, End, UnexpectedEof, PieceLimit, HandleLimit, Refused};
-ghost use Rattle.ei_session.specs.Worked.{buttons, with_capabilities, parts, piece, single_bytes, laden_bytes, answer, requests, reply_bytes, shaken, greeted, connected_with, disconnect, sync, called, bind, device_id, interface_id, device_of_button, resumed, press, frame, ready, release, destroyed, invalid_object, touch_down, touch_motion, touch_up, touch_cancel, sixteen_down, touchscreen_announced, three_announced, finish, longest_text, too_long_text, empty_text};
+ghost use Rattle.ei_session.specs.Worked.{buttons, with_capabilities, parts, piece, single_bytes, laden_bytes, answer, requests, reply_bytes, shaken, greeted};
+ghost use Rattle.ei_session.specs.Worked.{connected_with, disconnect, sync, called, bind, device_id, interface_id, device_of_button, resumed, press, frame};
+ghost use Rattle.ei_session.specs.Worked.{ready, release, destroyed, invalid_object, touch_down, touch_motion, touch_up, touch_cancel, sixteen_down};
+ghost use Rattle.ei_session.specs.Worked.{touchscreen_announced, three_announced, finish, longest_text, too_long_text, empty_text};
 ghost use Rattle.ei_session.specs.WorkedWhole.{all_setup, all_shaken, all_asked, all_connected, all_replied};
 
 /// A handshake and a disconnect, whole and byte by byte.

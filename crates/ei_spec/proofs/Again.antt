@@ -1,5 +1,6 @@
 -- What stands for a value is read as that value, whatever follows.
-use Rattle.std.proofs.Common.{◌≡◌, ℕ, ◌+◌, ◌-◌, ◌^◌, ◌<◌, ◌≤◌, true, false, ltb, eqb, List, ◌++◌, length, take, drop, Some, None, Result, Ok, refl, ap, ◌∙◌, append_assoc, arith}
+use Rattle.std.proofs.Common.{◌≡◌, ℕ, ◌+◌, ◌-◌, ◌^◌, ◌<◌, ◌≤◌, true, false, ltb, eqb, List, ◌++◌, length, take, drop, Some, None, Result, Ok, refl, ap, ◌∙◌}
+use Rattle.std.proofs.Common.{append_assoc, arith}
 use Rattle.std.specs.Prelude.{ℤ, pos, negsuc, FitsSigned}
 use Rattle.std.specs.Int.{w32, w64, to_le_bytes, cast_signed, cast_unsigned}
 use Rattle.std.specs.Str.{is_utf8}
@@ -8,7 +9,8 @@ use Rattle.std.proofs.lemmas.Bool.Decides.{nat_tests}
 use Rattle.std.proofs.lemmas.List.{take_at, drop_at, length-append}
 use Rattle.std.proofs.lemmas.Int.{to_z-of_z}
 use Rattle.std.proofs.lemmas.Nat.{from_le_bytes-to_le_bytes_4, from_le_bytes-to_le_bytes_8}
-use Rattle.ei_spec.specs.Value.{Kind, U32, I32, U64, I64, Float, Text, Nullable, Handle, New, Choice, Value, Word, Long, Signed, SignedLong, Letters, Null, Fd, padding}
+use Rattle.ei_spec.specs.Value.{Kind, U32, I32, U64, I64, Float, Text, Nullable, Handle, New, Choice, OpenChoice, Value, Word, Long, Signed, SignedLong}
+use Rattle.ei_spec.specs.Value.{Letters, Null, Fd, padding}
 use Rattle.ei_spec.specs.Spelling.{Spells, Begins}
 use Rattle.ei_spec.specs.Reading.{Fault, ◌>>=◌, Unread, number_at, letters_at, text_at, some_text, or_null, choice_at, of_bytes, read}
 
@@ -104,3 +106,5 @@ again Handle v s t b = absurd b.of
 again (Choice name values) (Word n) s t b =
     lifted Word (choice_at name values s.bytes) n s t (rw (word_is s t n b.text b.of.0 b.spelled b.parts, b.of.1) refl) b.same b.taken
 again (Choice name values) v s t b = absurd b.of
+again OpenChoice (Word n) s t b = lifted Word (number_at w32 s.bytes) n s t (word_is s t n b.text b.of b.spelled b.parts) b.same b.taken
+again OpenChoice v s t b = absurd b.of

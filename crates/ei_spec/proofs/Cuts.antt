@@ -1,5 +1,6 @@
 -- A lawful message that is cut short: it is no whole message, and its length isn't unlawful.
-use Rattle.std.proofs.Common.{◌≡◌, ℕ, ◌<◌, Bool, true, false, cond, ltb, List, [], ◌++◌, length, refl, sym, ap, ◌∙◌, append-nil, length-append, arith, inl, inr, ◌⊎◌}
+use Rattle.std.proofs.Common.{◌≡◌, ℕ, ◌<◌, Bool, true, false, cond, ltb, List, [], ◌++◌, length, refl, sym, ap, ◌∙◌, append-nil, length-append, arith, inl, inr}
+use Rattle.std.proofs.Common.{◌⊎◌}
 use Rattle.std.proofs.lemmas.Bool.{ltb-true, ltb-false}
 use Rattle.ei_spec.specs.Message.{Raw, IsLawful, size, bytes_of, header, le4, le8, size_at, message_at, Front, Short, Unlawful, Whole, front}
 use Rattle.ei_spec.proofs.Numbers.{len4, len8}

@@ -6,8 +6,10 @@ use Rattle.std.specs.List.{list_any}
 use Rattle.std.specs.Str.{is_utf8}
 use Rattle.std.specs.Str.Lossy.{utf8_valid_len}
 use Rattle.ei_spec.specs.declared.handle.Handle.{Handle as Descriptor}
-use Rattle.ei_spec.specs.Value.{Kind, U32, I32, U64, I64, Float, Text, Nullable, Handle, New, Choice, Value, Word, Long, Signed, SignedLong, Letters, padding}
-use Rattle.ei_spec.specs.Reading.{Fault, EndOfMessage, Utf8, InvalidVariant, HeaderLength, ◌>>=◌, Unread, number_at, letters_at, text_at, some_text, or_null, choice_at, of_bytes, of_handle, read, utf8, Stop, ◌then◌, stopping, all_at}
+use Rattle.ei_spec.specs.Value.{Kind, U32, I32, U64, I64, Float, Text, Nullable, Handle, New, Choice, OpenChoice, Value, Word, Long, Signed, SignedLong}
+use Rattle.ei_spec.specs.Value.{Letters, padding}
+use Rattle.ei_spec.specs.Reading.{Fault, EndOfMessage, Utf8, InvalidVariant, HeaderLength, ◌>>=◌, Unread, number_at, letters_at, text_at, some_text, or_null}
+use Rattle.ei_spec.specs.Reading.{choice_at, of_bytes, of_handle, read, utf8, Stop, ◌then◌, stopping, all_at}
 
 -- a fault that isn't the length of a header
 abbrev pub IsNoHeader : Fault → Type 0
@@ -69,6 +71,7 @@ read_no_header Handle s = handle_no_header s (slice_get s.handles s.taken)
 read_no_header (Choice name values) s = of_bytes_no_header Word s (choice_at name values s.bytes)
     (bound (number_at w32 s.bytes) (λ n. cond (list_any (nat_eq n.0) values) (Ok n) (Err (InvalidVariant name n.0))) (number_no_header w32 s.bytes)
     (λ n. either (λ r. NoHeader r) (list_any (nat_eq n.0) values) (Ok n) (Err (InvalidVariant name n.0)) tt tt))
+read_no_header OpenChoice s = of_bytes_no_header Word s (number_at w32 s.bytes) (number_no_header w32 s.bytes)
 
 abbrev pub StopsNoHeader : {A : Type 0} → Result A Stop → Type 0
 StopsNoHeader r = MatchResult r (λ _. Unit {0}) (λ e. IsNoHeader e.0)

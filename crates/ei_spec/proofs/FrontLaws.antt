@@ -1,8 +1,10 @@
 -- The message at the front of some bytes.
-use Rattle.std.proofs.Common.{◌≡◌, ℕ, ◌+◌, ◌-◌, ◌<◌, ◌≤◌, Bool, true, false, cond, ltb, List, [], ◌++◌, length, take, drop, refl, sym, ap, subst, ◌∙◌, append_assoc, arith}
+use Rattle.std.proofs.Common.{◌≡◌, ℕ, ◌+◌, ◌-◌, ◌<◌, ◌≤◌, Bool, true, false, cond, ltb, List, [], ◌++◌, length, take, drop, refl, sym, ap, subst, ◌∙◌}
+use Rattle.std.proofs.Common.{append_assoc, arith}
 use Rattle.std.proofs.lemmas.Bool.{ltb-false, le-ltb}
 use Rattle.std.proofs.lemmas.List.{take_at, drop_at, take-append-drop, take-append-le, drop-append-le, length-append, length-take, length-drop, drop-drop}
-use Rattle.ei_spec.specs.Message.{Raw, IsLawful, size, bytes_of, header, le4, le8, of_le4, of_le8, IsBytes, Front, Short, Unlawful, Whole, size_at, message_at, front_of, front}
+use Rattle.ei_spec.specs.Message.{Raw, IsLawful, size, bytes_of, header, le4, le8, of_le4, of_le8, IsBytes, Front, Short, Unlawful, Whole, size_at, message_at}
+use Rattle.ei_spec.specs.Message.{front_of, front}
 use Rattle.ei_spec.proofs.Numbers.{IsBytes-take, IsBytes-drop, len4, len8, back4, back8, to4, to8, below4, below8}
 
 message_of : Front → Raw

@@ -3,7 +3,8 @@ use Rattle.std.proofs.Common.{◌≡◌, ℕ, ◌+◌, ◌≤◌, get_or, length
 use Rattle.std.specs.List.{filter_map}
 use Rattle.std.proofs.lemmas.List.{reverse-append, get_or_append_left}
 use Rattle.ei_spec.specs.History.{total, joined, since}
-use Rattle.ei_spec.specs.Groups.{Item, Input, Frame, Other, Free, Given, Slot, closes, input_of, group, makes_frame, frames_made, gives, grouped, with_frame, Plain}
+use Rattle.ei_spec.specs.Groups.{Item, Input, Frame, Other, Free, Given, Slot, closes, input_of, group, makes_frame, frames_made, gives, grouped, with_frame}
+use Rattle.ei_spec.specs.Groups.{Plain}
 use Rattle.ei_spec.proofs.HistoryLaws.{joined_prefix}
 
 -- what waits on the device after one more slot

@@ -1,7 +1,8 @@
 -- Arguments without handles are read alike, whatever handles came with them.
 use Rattle.std.proofs.Common.{◌≡◌, ℕ, List, [], ◌∷◌, Option, Some, None, Result, Ok, Err, refl, ap, ◌∙◌}
 use Rattle.std.specs.Int.{w32, w64, cast_signed}
-use Rattle.ei_spec.specs.Value.{Kind, U32, I32, U64, I64, Float, Text, Nullable, Handle, New, Choice, Value, Word, Long, Signed, SignedLong, Letters}
+use Rattle.ei_spec.specs.Value.{Kind, U32, I32, U64, I64, Float, Text, Nullable, Handle, New, Choice, OpenChoice, Value, Word, Long, Signed, SignedLong}
+use Rattle.ei_spec.specs.Value.{Letters}
 use Rattle.ei_spec.specs.Reading.{Fault, ◌>>=◌, Unread, Read, number_at, text_at, some_text, or_null, choice_at, of_bytes, read, Stop, ◌then◌, stopping, all_at}
 
 -- the kind is no handle
@@ -48,6 +49,7 @@ read_alike Text s t n e = bytes_alike Letters s t (λ b. text_at b >>= λ t. som
 read_alike Nullable s t n e = bytes_alike or_null s t text_at e
 read_alike Handle s t n e = absurd n
 read_alike (Choice name values) s t n e = bytes_alike Word s t (choice_at name values) e
+read_alike OpenChoice s t n e = bytes_alike Word s t (number_at w32) e
 
 abbrev list_then : Value → Result (List Value × Unread) Stop → Result (List Value × Unread) Stop
 list_then v r = r then λ xs. Ok (v ∷ xs.0, xs.1)

@@ -12,6 +12,7 @@ pub mod LastsLaws
 pub mod GroupsLaws
 pub mod Faults
 pub mod Handleless
+pub mod SameFault
 pub mod TableLaws
 pub mod WrittenRows
 pub mod Cuts

@@ -1,7 +1,8 @@
 -- What reading gives is the one reading that the stream has.
 use Rattle.std.proofs.Common.{◌≡◌, ℕ, zero, suc, ◌<◌, List, [], ◌∷◌, ◌++◌, length, refl, sym, ap, ◌∙◌, append_assoc, arith}
 use Rattle.ei_spec.specs.Message.{Raw, bytes_of, IsBytes, Front, Short, Unlawful, Whole, front}
-use Rattle.ei_spec.specs.Stream.{Verdict, Accepted, Final, Refused, Stop, Waiting, Ended, HeaderLength, Refusal, Reading, reading, read, stream_of, AreOpen, StopsSo, IsReading}
+use Rattle.ei_spec.specs.Stream.{Verdict, Accepted, Final, Refused, Stop, Waiting, Ended, HeaderLength, Refusal, Reading, reading, read, stream_of, AreOpen}
+use Rattle.ei_spec.specs.Stream.{StopsSo, IsReading}
 use Rattle.ei_spec.proofs.FrontLaws.{shorter, front_again, front_bytes}
 use Rattle.ei_spec.proofs.GoesOn.{read_short, read_unlawful, read_accepted, read_final, read_refused}
 

@@ -1,5 +1,6 @@
 -- A message of the table has at most one handle. With one it announces nothing, and has at least 24 bytes.
-use Rattle.std.proofs.Common.{◌≡◌, ℕ, ◌+◌, ◌≤◌, Bool, true, false, cond, eqb, leb, ◌&&◌, ◌||◌, ◌⊎◌, inl, inr, List, [], ◌∷◌, ◌++◌, length, Some, refl, sym, ap, ◌∙◌, length-append, arith}
+use Rattle.std.proofs.Common.{◌≡◌, ℕ, ◌+◌, ◌≤◌, Bool, true, false, cond, eqb, leb, ◌&&◌, ◌||◌, ◌⊎◌, inl, inr, List, [], ◌∷◌, ◌++◌, length, Some, refl, sym, ap}
+use Rattle.std.proofs.Common.{◌∙◌, length-append, arith}
 use Rattle.std.specs.Prelude.{replicate}
 use Rattle.std.specs.Int.{w32, to_le_bytes}
 use Rattle.std.specs.List.{flat_map, list_all}
@@ -7,7 +8,8 @@ use Rattle.std.proofs.lemmas.Bool.{eqb-true, leb-true, or_cases, and_parts}
 use Rattle.std.proofs.lemmas.Option.{same_Some}
 use Rattle.ei_spec.specs.declared.interface.KnownInterface.{KnownInterface}
 use Rattle.ei_spec.specs.declared.interface.KnownInterface.TheVariants as known
-use Rattle.ei_spec.specs.Value.{Kind, U32, I32, U64, I64, Float, Text, Nullable, Handle, New, Choice, Value, Word, Long, Signed, SignedLong, Letters, Null, Fd, IsOf, written, handles_of, padding}
+use Rattle.ei_spec.specs.Value.{Kind, U32, I32, U64, I64, Float, Text, Nullable, Handle, New, Choice, OpenChoice, Value, Word, Long, Signed, SignedLong}
+use Rattle.ei_spec.specs.Value.{Letters, Null, Fd, IsOf, written, handles_of, padding}
 use Rattle.ei_spec.specs.Rows.{Row, Announces, Nothing, Fixed, Named, row_at}
 use Rattle.ei_spec.specs.Table.{table}
 use Rattle.ei_spec.specs.Arguments.{AreOf, HasFewHandles}
@@ -100,6 +102,8 @@ one_handle New (Long x) h = refl
 one_handle New v h = absurd h
 one_handle (Choice n vs) (Word x) h = refl
 one_handle (Choice n vs) v h = absurd h
+one_handle OpenChoice (Word x) h = refl
+one_handle OpenChoice v h = absurd h
 
 text_long : (t : List ℕ) → 4 ≤ length (written (Letters t))
 text_long t =
@@ -129,6 +133,8 @@ some_bytes New (Long x) h = omega arith
 some_bytes New v h = absurd h
 some_bytes (Choice n vs) (Word x) h = omega arith
 some_bytes (Choice n vs) v h = absurd h
+some_bytes OpenChoice (Word x) h = omega arith
+some_bytes OpenChoice v h = absurd h
 
 all_handles : (ks : List Kind) (vs : List Value) → AreOf ks vs → length (flat_map handles_of vs) ≡ handles_by ks
 all_handles [] [] h = refl

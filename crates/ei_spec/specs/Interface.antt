@@ -3,7 +3,8 @@ use Rattle.std.specs.Prelude.{ℕ, Bool, List, [], ◌∷◌, Option, Some, None
 use Rattle.std.specs.Str.{bytes_eq}
 use Rattle.std.specs.List.{find}
 use Rattle.ei_spec.specs.declared.interface.KnownInterface.{KnownInterface}
-use Rattle.ei_spec.specs.declared.interface.KnownInterface.TheVariants.{Handshake, Connection, Callback, Pingpong, Seat, Device, Pointer, PointerAbsolute, Scroll, Button, Keyboard, Touchscreen, Text}
+use Rattle.ei_spec.specs.declared.interface.KnownInterface.TheVariants.{Handshake, Connection, Callback, Pingpong, Seat, Device, Pointer, PointerAbsolute}
+use Rattle.ei_spec.specs.declared.interface.KnownInterface.TheVariants.{Scroll, Button, Keyboard, Touchscreen, Text}
 
 -- an interface by its name: one of the protocol, or another
 pub data Interface : Type 0 where

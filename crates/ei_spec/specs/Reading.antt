@@ -1,10 +1,12 @@
 -- Reading arguments from left to right, with the first fault that is met.
-use Rattle.std.specs.Prelude.{ℕ, ◌+◌, ◌-◌, List, [], ◌∷◌, length, take, drop, Option, Some, None, Result, Ok, Err, nat_lt, nat_eq, ◌==◌, if◌then◌else◌, slice_get}
+use Rattle.std.specs.Prelude.{ℕ, ◌+◌, ◌-◌, List, [], ◌∷◌, length, take, drop, Option, Some, None, Result, Ok, Err, nat_lt, nat_eq, ◌==◌, if◌then◌else◌}
+use Rattle.std.specs.Prelude.{slice_get}
 use Rattle.std.specs.List.{list_any}
 use Rattle.std.specs.Int.{Width, w32, w64, byte_len, from_le_bytes, cast_signed}
 use Rattle.std.specs.Str.{is_utf8}
 use Rattle.std.specs.Str.Lossy.{utf8_valid_len}
-use Rattle.ei_spec.specs.Value.{Kind, U32, I32, U64, I64, Float, Text, Nullable, Handle, New, Choice, Value, Word, Long, Signed, SignedLong, Letters, Null, Fd, padding}
+use Rattle.ei_spec.specs.Value.{Kind, U32, I32, U64, I64, Float, Text, Nullable, Handle, New, Choice, OpenChoice, Value, Word, Long, Signed, SignedLong}
+use Rattle.ei_spec.specs.Value.{Letters, Null, Fd, padding}
 use Rattle.ei_spec.specs.declared.handle.Handle.{Handle as Descriptor}
 
 -- why a message is refused
@@ -87,6 +89,7 @@ read Text s = of_bytes Letters s (text_at s.bytes >>= λ t. some_text t.0 t.1)
 read Nullable s = of_bytes or_null s (text_at s.bytes)
 read Handle s = of_handle s (slice_get s.handles s.taken)
 read (Choice name values) s = of_bytes Word s (choice_at name values s.bytes)
+read OpenChoice s = of_bytes Word s (number_at w32 s.bytes)
 
 -- a refusal, and how many handles were taken before it
 abbrev pub Stop : Type 0

@@ -1,7 +1,7 @@
 -- The table of all messages of the protocol, a line for each: 36 requests and 48 events. Everything else is checked against it.
 use Rattle.std.specs.Prelude.{ℕ, Bool, true, false, List, [], ◌∷◌, map, length, codes}
 use Rattle.std.specs.List.{sum_by}
-use Rattle.ei_spec.specs.Value.{Kind, U32, I32, U64, Float, Text, Nullable, Handle, New, Choice}
+use Rattle.ei_spec.specs.Value.{Kind, U32, I32, U64, Float, Text, Nullable, Handle, New, Choice, OpenChoice}
 use Rattle.ei_spec.specs.Rows.{Row, row, destructor, announcing, handing_over, Fixed, Named}
 use Rattle.ei_spec.specs.Interface.{the_thirteen}
 use Rattle.ei_spec.specs.declared.interface.KnownInterface.{KnownInterface}
@@ -13,9 +13,9 @@ use Rattle.ei_spec.specs.declared.interface.KnownInterface.TheVariants as known
 abbrev pub context_type : Kind
 context_type = Choice (codes "ContextType") (1 ∷ 2 ∷ [])
 
--- disconnected, error, mode, protocol, value, transport
+-- disconnected, error, mode, protocol, value, transport; and from 6 on every number is a reason of its own
 abbrev pub disconnect_reason : Kind
-disconnect_reason = Choice (codes "DisconnectReason") (0 ∷ 1 ∷ 2 ∷ 3 ∷ 4 ∷ 5 ∷ [])
+disconnect_reason = OpenChoice
 
 -- virtual, physical
 abbrev pub device_type : Kind

@@ -19,6 +19,8 @@ pub data Kind : Type 0 where
   New : Kind
   -- an enum: its name and its values
   Choice : (type_name values : List ℕ) → Kind
+  -- an enum with a value for every number
+  OpenChoice : Kind
 
 -- an argument without its kind
 pub data Value : Type 0 where
@@ -66,6 +68,7 @@ IsOf Nullable Null = Unit {0}
 IsOf Handle (Fd h) = Unit {0}
 IsOf New (Long n) = n < 2 ^ 64
 IsOf (Choice type_name values) (Word n) = (n < 2 ^ 32) × (list_any (nat_eq n) values ≡ true)
+IsOf OpenChoice (Word n) = n < 2 ^ 32
 IsOf k v = ⊥
 
 -- the value has a spelling: its text is no longer than a text may be

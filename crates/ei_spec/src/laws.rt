@@ -1,12 +1,13 @@
 //! The laws of the definitions. Each function does nothing: its clauses are the laws.
 
-ghost use Rattle.std.specs.Prelude.{◌≡◌, ℕ, ◌<◌, ◌≤◌, ◌⊎◌, ◌++◌, [], ◌∷◌, drop, ◌==◌, if◌then◌else◌, List, Bool, true, false, Some, None, Ok, Err, length, nat_eq};
+ghost use Rattle.std.specs.Prelude.{◌≡◌, ◌≢◌, ℕ, ◌<◌, ◌≤◌, ◌⊎◌, ◌++◌, [], ◌∷◌, drop, ◌==◌, if◌then◌else◌, List, Bool, true, false, Some, None, Ok, Err, length};
+ghost use Rattle.std.specs.Prelude.{nat_eq};
 ghost use Rattle.std.specs.List.{IsDistinct, range_with_len, Contains, list_any, flat_map};
 ghost use Rattle.std.specs.Str.{bytes_eq};
 ghost use Rattle.ei_spec.specs.declared.handle.Handle.{Handle};
 ghost use Rattle.ei_spec.specs.declared.interface.KnownInterface.{KnownInterface};
-ghost use Rattle.ei_spec.specs.Value.{Kind, U32, Choice, Value, Word, IsOf, written, handles_of};
-ghost use Rattle.ei_spec.specs.Reading.{Unread, Fault, InvalidVariant, read, all_at};
+ghost use Rattle.ei_spec.specs.Value.{Kind, U32, Choice, OpenChoice, Value, Word, IsOf, written, handles_of};
+ghost use Rattle.ei_spec.specs.Reading.{Unread, Fault, NoFd, InvalidVariant, read, all_at};
 ghost use Rattle.ei_spec.specs.Spelling.{Begins, Follows, AllBegin};
 ghost use Rattle.ei_spec.specs.Interface.{the_thirteen};
 ghost use Rattle.ei_spec.specs.Arguments.{AreOf, HasFewHandles, before_values, behind_values};
@@ -28,13 +29,22 @@ pub fn spelling()
 {}
 
 /// A value of an enum is read as its number, and every number that is no value of it is refused by the enum's
-/// name and the number.
+/// name and the number. Where every number is a value, none is refused.
 pub fn enums()
     ensures value { (type_name values : List ℕ) (number : ℕ) (s t : Unread) → list_any (nat_eq number) values ≡ true →
         read U32 s ≡ Ok (Word number, t) → read (Choice type_name values) s ≡ Ok (Word number, t) }
     ensures unknown { (type_name values : List ℕ) (number : ℕ) (s t : Unread) → list_any (nat_eq number) values ≡ false →
         read U32 s ≡ Ok (Word number, t) → read (Choice type_name values) s ≡ Err (InvalidVariant type_name number) }
     ensures refused { (type_name values : List ℕ) (s : Unread) (f : Fault) → read U32 s ≡ Err f → read (Choice type_name values) s ≡ Err f }
+    ensures every { (s : Unread) → read OpenChoice s ≡ read U32 s }
+{}
+
+/// The handles that came make no difference to what is refused, but for one that isn't there: with the same
+/// bytes the same refusal comes, of one argument and of some, one after another, behind as many handles.
+pub fn refusals()
+    ensures one { (kind : Kind) (s t : Unread) (f : Fault) → s.bytes ≡ t.bytes → f ≢ NoFd → read kind s ≡ Err f → read kind t ≡ Err f }
+    ensures all { (kinds : List Kind) (s t : Unread) (f : Fault) (taken : ℕ) → s.bytes ≡ t.bytes → s.taken ≡ t.taken → f ≢ NoFd → all_at kinds s ≡ Err (f, taken) →
+        (all_at kinds t ≡ Err (f, taken)) ⊎ ((before : ℕ) × (all_at kinds t ≡ Err (NoFd, before))) }
 {}
 
 /// The bytes of a message, and the message at the front of some bytes, are one.

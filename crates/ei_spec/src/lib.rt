@@ -12,4 +12,6 @@ pub mod limits;
 
 pub use handle::Handle;
 pub use interface::KnownInterface;
-pub use laws::{all_messages, enums, groups, lasting, messages, spelling, waiting_inputs};
+pub use laws::{
+    all_messages, enums, groups, lasting, messages, refusals, spelling, waiting_inputs,
+};

@@ -1,5 +1,5 @@
 -- The numbers of the enums on the wire, and their names: that of the type, and that of the value.
-use Rattle.std.specs.Prelude.{ℕ, List, codes}
+use Rattle.std.specs.Prelude.{ℕ, ◌≤◌, ◌<◌, ◌^◌, ◌==◌, if◌then◌else◌, List, codes}
 use Rattle.ei_types.specs.declared.enums.ContextType.{ContextType}
 use Rattle.ei_types.specs.declared.enums.ContextType.TheVariants as context
 use Rattle.ei_types.specs.declared.enums.DisconnectReason.{DisconnectReason}
@@ -26,6 +26,22 @@ disconnect_reason_number reason.Mode = 2
 disconnect_reason_number reason.Protocol = 3
 disconnect_reason_number reason.Value = 4
 disconnect_reason_number reason.Transport = 5
+disconnect_reason_number (reason.Other number) = number
+
+-- the reason of a number: from 6 on it has no name
+abbrev pub reason_of : ℕ → DisconnectReason
+reason_of number =
+    if number == 0 then reason.Disconnected else
+    (if number == 1 then reason.Error else
+    (if number == 2 then reason.Mode else
+    (if number == 3 then reason.Protocol else
+    (if number == 4 then reason.Value else
+    (if number == 5 then reason.Transport else reason.Other number)))))
+
+-- a reason without a name has the number of none with a name, and fits on the wire
+abbrev pub IsReason : DisconnectReason → Type 0
+IsReason (reason.Other number) = (6 ≤ number) × (number < 2 ^ 32)
+IsReason named = Unit {0}
 
 -- the number of a device type
 abbrev pub device_type_number : DeviceType → ℕ
@@ -59,6 +75,7 @@ disconnect_reason_names reason.Mode = (codes "disconnect_reason", codes "mode")
 disconnect_reason_names reason.Protocol = (codes "disconnect_reason", codes "protocol")
 disconnect_reason_names reason.Value = (codes "disconnect_reason", codes "value")
 disconnect_reason_names reason.Transport = (codes "disconnect_reason", codes "transport")
+disconnect_reason_names (reason.Other number) = (codes "disconnect_reason", codes "other")
 
 -- the names of a device type
 abbrev pub device_type_names : DeviceType → List ℕ × List ℕ

@@ -2,7 +2,8 @@
 
 ghost use Rattle.std.specs.Prelude.{⊤, ◌≡◌, true, false, ◌||◌, IsTrue, ◌==◌, ◌≤◌, ◌↔◌, [], ◌∷◌, codes, Some, IfSome, IsSome, slice_get};
 ghost use Rattle.std.specs.Int.RustNames.{bit_and, bit_or};
-ghost use Rattle.ei_types.specs.Capability.{all_bits, bit_of, bits_of, capabilities, capability_list, capability_named, has_bit, holds, HoldsEach, index_of, interface_name_of, interface_of};
+ghost use Rattle.ei_types.specs.Capability.{all_bits, bit_of, bits_of, capabilities, capability_list, capability_named, has_bit, holds, HoldsEach, index_of};
+ghost use Rattle.ei_types.specs.Capability.{interface_name_of, interface_of};
 
 use bitflags::{Flag, Flags, bitflag_items};
 use ei_spec::KnownInterface;

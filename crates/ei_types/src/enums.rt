@@ -1,12 +1,14 @@
 //! The enums that messages bear. An enum is its number on the wire.
 
-ghost use Rattle.std.specs.Prelude.{◌≡◌, Some};
+ghost use Rattle.std.specs.Prelude.{◌≡◌, ◌≤◌, ◌↔◌, Some, IsNone, IfSome};
 ghost use Rattle.ei_spec.specs.Value.{Word};
 ghost use Rattle.ei_spec.specs.Table.{button_state, context_type, device_type, disconnect_reason, key_state, keymap_type};
-ghost use Rattle.ei_types.specs.Enums.{button_state_number, context_type_number, device_type_number, disconnect_reason_number, key_state_number, keymap_type_number};
+ghost use Rattle.ei_types.specs.Enums.{button_state_number, context_type_number, device_type_number, disconnect_reason_number, key_state_number};
+ghost use Rattle.ei_types.specs.Enums.{keymap_type_number, reason_of};
 ghost use Rattle.ei_types.specs.Enums.{button_state_names, context_type_names, device_type_names, disconnect_reason_names, key_state_names, keymap_type_names};
 
 use ei_wire::{Arg, ByteStream, OwnedArg, ParseError};
+use std::marker::Model;
 
 /// What a client is for.
 #[derive(Clone, Copy, Debug, PartialEq, Eq, Hash)]
@@ -57,21 +59,83 @@ impl OwnedArg for ContextType {
     }
 }
 
+/// The number of a reason that this library has no name for.
+#[derive(Clone, Copy, Debug, PartialEq, Eq, Hash)]
+pub struct OtherReason {
+    number: u32,
+}
+
+impl Model for OtherReason {
+    ghost use Rattle.std.specs.Prelude.{ℕ, ◌≤◌};
+
+    ghost Value = { ℕ };
+
+    ghost view = { λ other. other.number };
+
+    ghost invariant = { λ other. 6 ≤ other.number };
+
+    ghost inverse = { λ number. record { number = number } };
+}
+
+impl OtherReason {
+    /// The reason of that number; `None` for 0 to 5, which have names.
+    pub fn new(number: u32) -> Option<OtherReason>
+        ensures named { IsNone result ↔ (number ≤ 5) }
+        ensures number { IfSome result (λ other. other ≡ number) }
+    {
+        if number <= 5 {
+            None
+        } else {
+            Some(OtherReason { number })
+        }
+    }
+
+    /// The number, from 6 on.
+    pub fn get(&self) -> u32
+        ensures number { result ≡ self.now }
+        ensures unnamed { 6 ≤ result }
+    {
+        self.number
+    }
+}
+
 /// Why the server ends a connection.
+///
+/// Every number is a reason: a later version of the protocol may name more than this library knows.
 #[derive(Clone, Copy, Debug, PartialEq, Eq, Hash)]
 pub enum DisconnectReason {
     /// The client asked for it, or the server is done.
-    Disconnected = 0,
+    Disconnected,
     /// Something went wrong that the other reasons don't say.
-    Error = 1,
+    Error,
     /// The client did what its context type doesn't allow.
-    Mode = 2,
+    Mode,
     /// The client broke the protocol.
-    Protocol = 3,
+    Protocol,
     /// The client sent a value that isn't allowed.
-    Value = 4,
+    Value,
     /// The bytes between the two ends failed.
-    Transport = 5,
+    Transport,
+    /// A reason that this library has no name for.
+    Other(OtherReason),
+}
+
+impl DisconnectReason {
+    /// The reason of that number.
+    fn of_number(number: u32) -> DisconnectReason
+        ensures reason { result ≡ reason_of number }
+        ensures number { disconnect_reason_number result ≡ number }
+    {
+        match number {
+            0 => DisconnectReason::Disconnected,
+            1 => DisconnectReason::Error,
+            2 => DisconnectReason::Mode,
+            3 => DisconnectReason::Protocol,
+            4 => DisconnectReason::Value,
+            5 => DisconnectReason::Transport,
+            _ => DisconnectReason::Other(OtherReason { number }),
+        }
+    }
 }
 
 impl From<DisconnectReason> for u32 {
@@ -85,6 +149,7 @@ impl From<DisconnectReason> for u32 {
             DisconnectReason::Protocol => 3,
             DisconnectReason::Value => 4,
             DisconnectReason::Transport => 5,
+            DisconnectReason::Other(other) => other.get(),
         }
     }
 }
@@ -97,14 +162,7 @@ impl OwnedArg for DisconnectReason {
     ghost names = { λ reason. Some (disconnect_reason_names reason) };
 
     fn parse(stream: &mut ByteStream<'_>) -> Result<DisconnectReason, ParseError> {
-        match stream.choice("DisconnectReason", &[0, 1, 2, 3, 4, 5])? {
-            0 => Ok(DisconnectReason::Disconnected),
-            1 => Ok(DisconnectReason::Error),
-            2 => Ok(DisconnectReason::Mode),
-            3 => Ok(DisconnectReason::Protocol),
-            4 => Ok(DisconnectReason::Value),
-            _ => Ok(DisconnectReason::Transport),
-        }
+        Ok(DisconnectReason::of_number(u32::parse(stream)?))
     }
 
     fn as_arg(&self) -> Arg<'_> {
@@ -119,6 +177,7 @@ impl OwnedArg for DisconnectReason {
             DisconnectReason::Protocol => "protocol",
             DisconnectReason::Value => "value",
             DisconnectReason::Transport => "transport",
+            DisconnectReason::Other(_) => "other",
         };
         Some(("disconnect_reason", value))
     }

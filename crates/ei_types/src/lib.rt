@@ -7,11 +7,15 @@
 mod capability;
 mod enums;
 mod error;
+mod laws;
 mod operation;
 mod twelve;
 
 pub use capability::{DeviceCapabilities, DeviceCapability};
-pub use enums::{ButtonState, ContextType, DeviceType, DisconnectReason, KeyState, KeymapType};
+pub use enums::{
+    ButtonState, ContextType, DeviceType, DisconnectReason, KeyState, KeymapType, OtherReason,
+};
 pub use error::{Error, EventError, HandshakeError, RequestError};
+pub use laws::{enum_numbers, enums_read_back, reasons};
 pub use operation::op_name;
 pub use twelve::{interfaces, known_interfaces};

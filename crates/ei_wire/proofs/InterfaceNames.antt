@@ -4,7 +4,8 @@ use Rattle.std.specs.List.{find}
 use Rattle.std.specs.Str.{bytes_eq}
 use Rattle.std.proofs.lemmas.Slice.Eq.{bytes_eq-Decides}
 use Rattle.ei_spec.specs.declared.interface.KnownInterface.{KnownInterface}
-use Rattle.ei_spec.specs.declared.interface.KnownInterface.TheVariants.{Handshake, Connection, Callback, Pingpong, Seat, Device, Pointer, PointerAbsolute, Scroll, Button, Keyboard, Touchscreen, Text}
+use Rattle.ei_spec.specs.declared.interface.KnownInterface.TheVariants.{Handshake, Connection, Callback, Pingpong, Seat, Device, Pointer, PointerAbsolute}
+use Rattle.ei_spec.specs.declared.interface.KnownInterface.TheVariants.{Scroll, Button, Keyboard, Touchscreen, Text}
 use Rattle.ei_spec.specs.Interface.{name_of, known_of, is_called, the_thirteen}
 
 pub named : (k : KnownInterface) → known_of (name_of k) ≡ Some k

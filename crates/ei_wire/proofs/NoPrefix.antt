@@ -1,7 +1,8 @@
 -- No spelling of a value of a kind is a proper beginning of another of that kind.
 use Rattle.std.proofs.Common.{◌≡◌, ℕ, List, [], ◌∷◌, ◌++◌, length, Result, Ok, ◌⊎◌, inl, inr, refl, sym, ap, subst, ◌∙◌, append-nil, arith}
 use Rattle.ei_spec.proofs.Again.{again}
-use Rattle.ei_spec.specs.Value.{Kind, U32, I32, U64, I64, Float, Text, Nullable, Handle, New, Choice, Value, Word, Long, Signed, SignedLong, Letters, Null, Fd, IsOf, handles_of}
+use Rattle.ei_spec.specs.Value.{Kind, U32, I32, U64, I64, Float, Text, Nullable, Handle, New, Choice, OpenChoice, Value, Word, Long, Signed, SignedLong}
+use Rattle.ei_spec.specs.Value.{Letters, Null, Fd, IsOf, handles_of}
 use Rattle.ei_spec.specs.Spelling.{Spells, IsNext}
 use Rattle.ei_spec.specs.Reading.{Fault, Unread, read}
 use Rattle.ei_wire.specs.Spellings.{IsSpelling}
@@ -24,6 +25,7 @@ free Text (Fd h) i = absurd i
 free Nullable (Fd h) i = absurd i
 free New (Fd h) i = absurd i
 free (Choice name values) (Fd h) i = absurd i
+free OpenChoice (Fd h) i = absurd i
 
 next_free : (v : Value) → handles_of v ≡ [] → IsNext v [] 0
 next_free (Word n) e = tt

@@ -1,5 +1,6 @@
 -- What is read stands at the front, spelled by exactly the bytes that are taken.
-use Rattle.std.proofs.Common.{◌≡◌, ℕ, zero, suc, ◌+◌, ◌-◌, ◌^◌, ◌<◌, ◌≤◌, Bool, true, false, cond, ltb, eqb, List, [], ◌++◌, length, take, drop, Option, Some, None, Result, Ok, Err, refl, sym, ap, subst, ◌∙◌, append_assoc, arith}
+use Rattle.std.proofs.Common.{◌≡◌, ℕ, zero, suc, ◌+◌, ◌-◌, ◌^◌, ◌<◌, ◌≤◌, Bool, true, false, cond, ltb, eqb, List, []}
+use Rattle.std.proofs.Common.{◌++◌, length, take, drop, Option, Some, None, Result, Ok, Err, refl, sym, ap, subst, ◌∙◌, append_assoc, arith}
 use Rattle.std.specs.Prelude.{nat_eq, slice_get}
 use Rattle.std.specs.Int.{w32, w64, from_le_bytes, to_le_bytes, cast_signed}
 use Rattle.std.specs.Str.{is_utf8}
@@ -12,9 +13,11 @@ use Rattle.std.proofs.Math.Facts.{sfits_to_z, Fits-of_lt}
 use Rattle.ei_spec.proofs.Numbers.{IsBytes-take}
 use Rattle.ei_spec.specs.Message.{IsBytes}
 use Rattle.ei_spec.specs.declared.handle.Handle.{Handle as Descriptor}
-use Rattle.ei_spec.specs.Value.{Kind, U32, I32, U64, I64, Float, Text, Nullable, Handle, New, Choice, Value, Word, Long, Signed, SignedLong, Letters, Fd, padding, IsOf}
+use Rattle.ei_spec.specs.Value.{Kind, U32, I32, U64, I64, Float, Text, Nullable, Handle, New, Choice, OpenChoice, Value, Word, Long, Signed, SignedLong}
+use Rattle.ei_spec.specs.Value.{Letters, Fd, padding, IsOf}
 use Rattle.ei_spec.specs.Spelling.{Spells, Begins}
-use Rattle.ei_spec.specs.Reading.{Fault, EndOfMessage, Utf8, InvalidVariant, ◌>>=◌, Unread, number_at, letters_at, text_at, some_text, or_null, choice_at, of_bytes, of_handle, read}
+use Rattle.ei_spec.specs.Reading.{Fault, EndOfMessage, Utf8, InvalidVariant, ◌>>=◌, Unread, number_at, letters_at}
+use Rattle.ei_spec.specs.Reading.{text_at, some_text, or_null, choice_at, of_bytes, of_handle, read}
 
 both : {A B : Type 0} (a c : A) (b d : B) → ◌≡◌ {A = Result (A × B) Fault} (Ok (a, b)) (Ok (c, d)) → (a ≡ c) × (b ≡ d)
 both {A} {B} a c b d e =
@@ -248,3 +251,7 @@ begins (Choice name values) v s t h e =
     let l = listed (number_at w32 s.bytes) name values o.x t.bytes o.given in
     let n = word_is s.bytes o.x t.bytes h l.0 in
     subst (λ (x : Value). Begins (Choice name values) x s t) o.value (record { of = (n.below, l.1); short = tt; text = to_le_bytes w32 o.x; spelled = refl; parts = n.parts; next = tt; same = o.same; taken = omega (arith, o.taken) })
+begins OpenChoice v s t h e =
+    let o = of Word s t (number_at w32 s.bytes) v e in
+    let n = word_is s.bytes o.x t.bytes h o.given in
+    subst (λ (x : Value). Begins OpenChoice x s t) o.value (record { of = n.below; short = tt; text = to_le_bytes w32 o.x; spelled = refl; parts = n.parts; next = tt; same = o.same; taken = omega (arith, o.taken) })

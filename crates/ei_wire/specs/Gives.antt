@@ -1,7 +1,8 @@
 -- What a function that reads says of what reading gives, and the values that arguments stand for.
 use Rattle.std.specs.Prelude.{◌≡◌, Option, Some, None, Result, Ok, Err}
 use Rattle.ei_spec.specs.Value.{Kind, Text, Nullable, Value, Word, Long, Signed, SignedLong, Letters, Null, Fd}
-use Rattle.ei_spec.specs.Reading.{Fault, EndOfMessage, Utf8, InvalidId, NoFd, InvalidOpcode, InvalidVariant, InvalidInterface, HeaderLength, MessageLength, InvalidNull}
+use Rattle.ei_spec.specs.Reading.{Fault, EndOfMessage, Utf8, InvalidId, NoFd, InvalidOpcode}
+use Rattle.ei_spec.specs.Reading.{InvalidVariant, InvalidInterface, HeaderLength, MessageLength, InvalidNull}
 use Rattle.ei_wire.specs.declared.arg.Arg.{Arg}
 use Rattle.ei_wire.specs.declared.arg.Arg.TheVariants as arg
 use Rattle.ei_wire.specs.declared.error.ParseError.{ParseError}

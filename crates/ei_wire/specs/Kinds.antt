@@ -1,11 +1,12 @@
 -- Words on kinds of arguments.
-use Rattle.ei_spec.specs.Value.{Kind, U32, I32, U64, I64, Float, Text, Nullable, Handle, New, Choice}
+use Rattle.ei_spec.specs.Value.{Kind, U32, I32, U64, I64, Float, Text, Nullable, Handle, New, Choice, OpenChoice}
 use Rattle.ei_wire.specs.declared.arg.Arg.{Arg}
 use Rattle.ei_wire.specs.declared.arg.Arg.TheVariants as arg
 
 -- the kind is that of an enum
 abbrev pub IsEnum : Kind → Type 0
 IsEnum (Choice type_name values) = Unit {0}
+IsEnum OpenChoice = Unit {0}
 IsEnum k = ⊥
 
 -- The argument is that of the kind. The bytes alone don't say it: a word and a float of the same bits have the same
@@ -21,4 +22,5 @@ IsArgOf Nullable (arg.String t) = Unit {0}
 IsArgOf Handle (arg.Fd h) = Unit {0}
 IsArgOf New (arg.NewId n) = Unit {0}
 IsArgOf (Choice type_name values) (arg.Uint32 n) = Unit {0}
+IsArgOf OpenChoice (arg.Uint32 n) = Unit {0}
 IsArgOf k a = ⊥

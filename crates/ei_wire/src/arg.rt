@@ -1,8 +1,10 @@
 //! Arguments.
 
-ghost use Rattle.std.specs.Prelude.{◌≡◌, ℕ, List, ◌++◌, ◌≤◌, ◌<◌, ◌^◌, replicate, length, vec_len, vec_capacity, ◌+◌, IfErr, IsOk, OnOk, OnErr, Ok, Err, Some, None, IsTrue, IsSome, Option, ◌↔◌, codes, [], ◌∷◌};
+ghost use Rattle.std.specs.Prelude.{◌≡◌, ℕ, List, ◌++◌, ◌≤◌, ◌<◌, ◌^◌, replicate, length, vec_len, vec_capacity, ◌+◌, IfErr, IsOk};
+ghost use Rattle.std.specs.Prelude.{OnOk, OnErr, Ok, Err, Some, None, IsTrue, IsSome, Option, ◌↔◌, codes, [], ◌∷◌};
 ghost use Rattle.std.specs.Option.{option_map};
-ghost use Rattle.ei_spec.specs.Value.{Kind, U32, I32, U64, I64, Float, Text, Nullable, Handle as HandleKind, Choice, Value, Word, Long, Signed, SignedLong, Letters, Fd, written, handles_of, IsOf, HasSpelling, text_bytes};
+ghost use Rattle.ei_spec.specs.Value.{Kind, U32, I32, U64, I64, Float, Text, Nullable, Handle as HandleKind, Choice, Value};
+ghost use Rattle.ei_spec.specs.Value.{Word, Long, Signed, SignedLong, Letters, Fd, written, handles_of, IsOf, HasSpelling, text_bytes};
 ghost use Rattle.ei_wire.specs.Gives.{Gives, MayStop, value_of_arg};
 ghost use Rattle.ei_wire.specs.Kinds.{IsArgOf, IsEnum};
 ghost use Rattle.ei_spec.specs.Reading.{read, or_null, Unread, Fault};

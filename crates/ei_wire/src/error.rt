@@ -9,7 +9,6 @@ ghost use Rattle.ei_wire.specs.declared.error.FlushError.TheVariants as flush_er
 use crate::text::EiText;
 use std::alloc::{AllocError, AllocFailed};
 use std::fmt;
-use thiserror::Error;
 
 /// Memory ran out.
 #[derive(Clone, Copy, Debug, PartialEq, Eq, Hash)]
@@ -92,46 +91,88 @@ impl fmt::Display for ParseError {
 impl std::error::Error for ParseError {}
 
 /// Why a message isn't sent. Nothing is written then.
-#[derive(Debug, PartialEq, Eq, Drop, Error)]
+#[derive(Debug, PartialEq, Eq, Drop)]
 pub enum SendError {
     /// The message would have more than 1048576 bytes.
-    #[error("message too long")]
     MessageTooLong,
     /// Fewer own ids are left than the call needs.
-    #[error("no object id is left")]
     IdsExhausted,
     /// Memory ran out.
-    #[error("out of memory")]
     NoMemory,
 }
+
+impl fmt::Display for SendError {
+    ghost use Rattle.std.specs.Prelude.{Some};
+    ghost use Rattle.ei_wire.specs.Texts.{send_error_text};
+
+    ghost output = { λ e. Some (send_error_text e) };
+
+    fn fmt<W: fmt::Write>(&self, f: &mut fmt::Formatter<W>) -> fmt::Result {
+        match self {
+            SendError::MessageTooLong => f.write_str("message too long"),
+            SendError::IdsExhausted => f.write_str("no object id is left"),
+            SendError::NoMemory => f.write_str("out of memory"),
+        }
+    }
+}
+
+impl std::error::Error for SendError {}
 
 /// Why no piece was read.
-#[derive(Debug, PartialEq, Eq, Drop, Error)]
+#[derive(Debug, PartialEq, Eq, Drop)]
 pub enum ReadError {
     /// The source is at its end, or the endpoint is closed.
-    #[error("IO error: unexpected EOF reading ei socket")]
     UnexpectedEof,
     /// The source failed.
-    #[error("IO error: read fault")]
     ReadFault,
     /// More than 4096 handles would be unread.
-    #[error("too many unread handles")]
     HandleLimit,
     /// Memory ran out before the source was asked.
-    #[error("out of memory")]
     NoMemory,
 }
 
+impl fmt::Display for ReadError {
+    ghost use Rattle.std.specs.Prelude.{Some};
+    ghost use Rattle.ei_wire.specs.Texts.{read_error_text};
+
+    ghost output = { λ e. Some (read_error_text e) };
+
+    fn fmt<W: fmt::Write>(&self, f: &mut fmt::Formatter<W>) -> fmt::Result {
+        match self {
+            ReadError::UnexpectedEof => f.write_str("IO error: unexpected EOF reading ei socket"),
+            ReadError::ReadFault => f.write_str("IO error: read fault"),
+            ReadError::HandleLimit => f.write_str("too many unread handles"),
+            ReadError::NoMemory => f.write_str("out of memory"),
+        }
+    }
+}
+
+impl std::error::Error for ReadError {}
+
 /// Why not all was written. The rest stays buffered.
-#[derive(Debug, PartialEq, Eq, Drop, Error)]
+#[derive(Debug, PartialEq, Eq, Drop)]
 pub enum FlushError {
     /// The sink failed.
-    #[error("IO error: write fault")]
     WriteFault,
     /// The sink wants memory.
-    #[error("out of memory")]
     NoMemory,
 }
+
+impl fmt::Display for FlushError {
+    ghost use Rattle.std.specs.Prelude.{Some};
+    ghost use Rattle.ei_wire.specs.Texts.{flush_error_text};
+
+    ghost output = { λ e. Some (flush_error_text e) };
+
+    fn fmt<W: fmt::Write>(&self, f: &mut fmt::Formatter<W>) -> fmt::Result {
+        match self {
+            FlushError::WriteFault => f.write_str("IO error: write fault"),
+            FlushError::NoMemory => f.write_str("out of memory"),
+        }
+    }
+}
+
+impl std::error::Error for FlushError {}
 
 impl From<NoMemory> for ParseError {
     ghost from_gives = { λ _ e. e ≡ error.NoMemory };

@@ -1,5 +1,6 @@
 -- The session over the pieces of a text, and the report of it.
-use Rattle.std.proofs.Common.{◌≡◌, ◌≤◌, ◌⊎◌, inl, inr, ℕ, Bool, true, List, [], ◌∷◌, ◌++◌, false, length, take, drop, Option, Some, None, Result, Err, refl, sym, ap, ◌∙◌, subst, arith}
+use Rattle.std.proofs.Common.{◌≡◌, ◌≤◌, ◌⊎◌, inl, inr, ℕ, Bool, true, List, [], ◌∷◌, ◌++◌, false, length, take, drop, Option, Some, None, Result, Err, refl}
+use Rattle.std.proofs.Common.{sym, ap, ◌∙◌, subst, arith}
 use Rattle.std.proofs.lemmas.List.{append-nil, length-drop}
 use Rattle.std.specs.Prelude.{map, IsErrOf, IsSome}
 use Rattle.std.specs.Option.{option_map}
@@ -159,7 +160,7 @@ nothing_handled setup messages readings out took =
 
 -- a tray that took nothing
 abbrev pub empty_tray : TrayView
-empty_tray = record { held = record { bytes = []; handles = [] }; fails = []; calls = 0; faults = 0 }
+empty_tray = record { held = record { bytes = []; handles = [] }; fails = []; calls = 0; faults = 0; wants = 0 }
 
 requests_of : (setup : Setup) (messages : List Raw) (readings : Option (List ℕ)) (old new requests : List EisRequest) → HandsOut setup messages readings old new → old ≡ [] → requests ≡ new → AreRequests setup messages readings requests
 requests_of setup messages readings old new requests h none same = record {

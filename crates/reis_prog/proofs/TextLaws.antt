@@ -1,8 +1,10 @@
 -- The first line of a text, and what the others spell.
-use Rattle.std.proofs.Common.{◌≡◌, ◌<◌, ◌≤◌, ◌⊎◌, inl, inr, ℕ, ◌+◌, List, [], ◌∷◌, ◌++◌, length, get_or, take, drop, refl, ap, sym, ◌∙◌, append_assoc, length-append, arith, Some}
+use Rattle.std.proofs.Common.{◌≡◌, ◌<◌, ◌≤◌, ◌⊎◌, inl, inr, ℕ, ◌+◌, List, [], ◌∷◌, ◌++◌, length, get_or, take, drop, refl, ap, sym, ◌∙◌, append_assoc}
+use Rattle.std.proofs.Common.{length-append, arith, Some}
 use Rattle.std.proofs.lemmas.List.{append-nil, take-append-drop, take_all, take_more, drop_all}
 use Rattle.std.specs.Prelude.{Bool, true, false, ◌==◌, ◌||◌, nat_lt, if◌then◌else◌, Option, None}
-use Rattle.reis_prog.specs.Text.{has_newline, onto, split, line_bytes, piece_before, pieces_of_lines, pieces_of, bad_line_before, bad_line_of_lines, bad_line_of}
+use Rattle.reis_prog.specs.Text.{has_newline, onto, split, line_bytes, piece_before, pieces_of_lines, pieces_of, bad_line_before, bad_line_of_lines}
+use Rattle.reis_prog.specs.Text.{bad_line_of}
 use Rattle.reis_prog.specs.Held.{FindsNewline, line_len, line_skip}
 
 or_false : (a b : Bool) → (a || b) ≡ false → (a ≡ false) × (b ≡ false)

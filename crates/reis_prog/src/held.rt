@@ -1,6 +1,7 @@
 //! The bytes of a text that were read and not yet handed out.
 
-ghost use Rattle.std.specs.Prelude.{◌≡◌, ◌<◌, ◌≤◌, ◌+◌, ◌-◌, ◌↔◌, ℕ, List, [], ◌++◌, Some, None, Ok, true, false, length, vec_len, take, drop, IfOk, OnErr, IsTrue};
+ghost use Rattle.std.specs.Prelude.{◌≡◌, ◌<◌, ◌≤◌, ◌+◌, ◌-◌, ◌↔◌, ℕ, List, [], ◌++◌, Some, None, Ok, true, false, length, vec_len, take, drop, IfOk, OnErr};
+ghost use Rattle.std.specs.Prelude.{IsTrue};
 ghost use Rattle.ei_backend.specs.Outside.{HasCause};
 ghost use Rattle.reis_prog.specs.Text.{has_newline};
 ghost use Rattle.reis_prog.specs.Held.{Moves, ReadsBehind, FindsNewline, line_len, line_skip};

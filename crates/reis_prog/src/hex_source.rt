@@ -1,6 +1,7 @@
 //! Pieces as lines of hexadecimal digits.
 
-ghost use Rattle.std.specs.Prelude.{◌≡◌, ◌<◌, ◌≤◌, ◌+◌, ◌⊎◌, ℕ, List, [], None, Some, Ok, true, false, length, take, IfOk, IfSome, IsErr, IsSome, MatchOption, OnErr};
+ghost use Rattle.std.specs.Prelude.{◌≡◌, ◌<◌, ◌≤◌, ◌+◌, ◌⊎◌, ℕ, List, [], None, Some, Ok, true, false, length, take, IfOk, IfSome, IsErr, IsSome, MatchOption};
+ghost use Rattle.std.specs.Prelude.{OnErr};
 ghost use Rattle.reis_prog.specs.Text.{line_bytes, has_newline};
 ghost use Rattle.ei_spec.specs.declared.limits.TheConstants.{MOST_PIECE_BYTES};
 

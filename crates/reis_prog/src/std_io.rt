@@ -5,7 +5,7 @@
 ghost use Rattle.std.specs.Prelude.{◌≡◌, ◌<◌, ◌≤◌, ℕ, List, None, Some, IfOk, IfSome, length};
 ghost use Rattle.std.specs.Duration.{as_nanos};
 ghost use Rattle.ei_backend.specs.Memory.{counted};
-ghost use Rattle.ei_backend.specs.Outside.{HasCause, HasPutCause, Fetches, Puts, IsPutSize, Reads};
+ghost use Rattle.ei_backend.specs.Outside.{HasCause, HasPutCause, HasPutWant, Fetches, Puts, IsPutSize, Reads};
 ghost use Rattle.reis_prog.specs.StdIo.{Counts, IsSince, ReadsOrRepeats, faults_of_start, whole_micros};
 
 use ei_backend::{Clock, Fault, Input, PutError, Sink};
@@ -65,7 +65,7 @@ impl<R: Read + Drop> Input for StdInput<R> {
     }
 }
 
-/// Standard output, of any writer. It has no place for handles.
+/// Standard output, of any writer. It has no place for handles, and never wants memory.
 #[derive(Drop)]
 pub(crate) struct StdOutput<W: Write + Drop> {
     writer: W,
@@ -85,6 +85,8 @@ impl<W: Write + Drop> Sink for StdOutput<W> {
 
     ghost faults = { λ s. s.faults };
 
+    ghost wants = { λ _. 0 };
+
     ghost later = { λ _ _. Unit {0} };
 
     ghost later_refl = { λ _. tt };
@@ -95,6 +97,7 @@ impl<W: Write + Drop> Sink for StdOutput<W> {
         ensures size { IfOk result (λ n. IsPutSize n bytes.now) }
         ensures taken { Puts None None result bytes.now _handles.now }
         ensures cause { HasPutCause self.old.faults self.new.faults result }
+        ensures want { HasPutWant 0 0 result }
         // beyond the trait's
         ensures counts { Counts result self.old.faults self.new.faults }
     {

@@ -3,7 +3,7 @@
 use crate::errors::is_shown;
 use ei_types::{
     ButtonState, ContextType, DeviceCapabilities, DeviceCapability, DeviceType, DisconnectReason,
-    KeyState, KeymapType,
+    KeyState, KeymapType, OtherReason,
 };
 use ei_wire::{ByteStream, EiText, OwnedArg, ParseError, RawFloat};
 use std::alloc::Global;
@@ -109,10 +109,18 @@ fn enums_are_read(alloc: Global) -> Result<bool, Fail> {
     )
 }
 
-/// Whether all refuse other numbers.
+/// Whether that number is a reason without a name, whose values are read and have their names.
+fn is_other_reason(alloc: Global, number: u32) -> Result<bool, Fail> {
+    let Some(other) = OtherReason::new(number) else {
+        return Ok(false);
+    };
+    let row = (DisconnectReason::Other(other), number, "other");
+    stand(alloc, "disconnect_reason", &[row])
+}
+
+/// Whether all refuse other numbers; of the reasons to end a connection none is refused.
 fn enums_refuse_others(alloc: Global) -> bool {
     are_refused::<ContextType>(alloc, "ContextType", &[0, 3])
-        && are_refused::<DisconnectReason>(alloc, "DisconnectReason", &[6, 256])
         && are_refused::<DeviceType>(alloc, "DeviceType", &[0, 3])
         && are_refused::<KeymapType>(alloc, "KeymapType", &[0, 2])
         && are_refused::<ButtonState>(alloc, "ButtonState", &[2])
@@ -132,6 +140,10 @@ fn enums_of_the_protocol(rt: HostRuntime) -> Result<(), Fail> {
     assert!(rt; enums_refuse_others(rt.alloc()));
     assert!(rt; others_are_no_enums(rt.alloc())?);
     assert!(rt; u32::from(DisconnectReason::Transport) == 5);
+    for number in [6, 9, u32::MAX] {
+        assert!(rt; is_other_reason(rt.alloc(), number)?);
+    }
+    assert!(rt; OtherReason::new(5).is_none());
     Ok(())
 }
 

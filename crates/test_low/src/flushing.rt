@@ -114,6 +114,8 @@ impl Sink for Narrow {
 
     ghost faults = { λ n. n.tray.faults };
 
+    ghost wants = { λ n. n.tray.wants };
+
     ghost later = { λ _ _. Unit {0} };
 
     ghost later_refl = { λ _. tt };

@@ -13,6 +13,8 @@ loop-done-preserved g c =
       within = omega (arith, length-drop c.loop-done.done c.args.bytes.now, c.in-Ok.ensures.size.at_most);
       taken = λ held told. c.in-Ok.ensures.taken _ (c.loop-done.invariant.taken held told)
           ∙ ap Some (put_on held c.args.bytes.now _ c.args.handles.now _ c.loop-done.done c.in-Ok.n rest c.next_beside.ensures (c.in-Ok.ensures.size.at_least some));
-      count = omega (arith, c.in-Ok.ensures.cause.later, c.loop-done.invariant.count);
+      nothing_put = λ none. absurd (omega (arith, ap length none, c.loop-done-test.true));
+      kept = c.in-Ok.ensures.cause.kept ∙ c.loop-done.invariant.kept;
+      kept_wants = c.in-Ok.ensures.want.kept ∙ c.loop-done.invariant.kept_wants;
       later = g.met.K.Sink.later_trans _ _ _ c.loop-done.invariant.later c.in-Ok.ensures.later;
     }

@@ -1,6 +1,7 @@
 use Rattle.std.proofs.Common.{Some, None, Err, sym}
 use Rattle.std.proofs.lemmas.Result.{err_from_is_err_and}
-use Rattle.ei_serve.proofs.ShakingSteps.{answers_here, asks_here, at_err, completed_at, handled_at, is_front, refuses_asked, refuses_handled, refuses_taken, waits}
+use Rattle.ei_serve.proofs.ShakingSteps.{answers_here, asks_here, at_err, completed_at, handled_at, is_front, refuses_asked, refuses_handled, refuses_taken}
+use Rattle.ei_serve.proofs.ShakingSteps.{waits}
 use Rattle.ei_serve.proofs.shaking.shake.Goals as goal
 
 pub returns-in_err-request-clause-shakes : goal.returns-in_err-request-clause-shakes

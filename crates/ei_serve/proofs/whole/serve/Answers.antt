@@ -3,7 +3,8 @@ use Rattle.std.proofs.lemmas.Result.{err_from_is_err_and}
 use Rattle.ei_types.specs.declared.error.Error.{Error}
 use Rattle.ei_serve.specs.Standing.{setup_of}
 use Rattle.ei_serve.proofs.Running.{starts, goes_on}
-use Rattle.ei_serve.proofs.Serves.{greeted, greeted_in_part, none_handled, failed, disconnects, ends, no_end, too_many_turns, start_is_of_session, turn_is_of_session}
+use Rattle.ei_serve.proofs.Serves.{greeted, greeted_in_part, none_handled, failed, disconnects, ends, no_end, too_many_turns, start_is_of_session}
+use Rattle.ei_serve.proofs.Serves.{turn_is_of_session}
 use Rattle.ei_serve.proofs.whole.serve.Goals as goal
 
 pub returns-in_err-session-clause-handled_in_part : goal.returns-in_err-session-clause-handled_in_part

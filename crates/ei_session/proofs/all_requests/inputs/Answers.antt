@@ -1,4 +1,5 @@
-use Rattle.ei_session.proofs.MadeLaws.{input_is, is_pointer, is_absolute, is_scroll, is_discrete, is_scroll_end, is_button, is_key, is_touch_down, is_touch_motion, is_touch_up, is_touch_cancel, is_keysym, is_utf8}
+use Rattle.ei_session.proofs.MadeLaws.{input_is, is_pointer, is_absolute, is_scroll, is_discrete, is_scroll_end, is_button, is_key, is_touch_down}
+use Rattle.ei_session.proofs.MadeLaws.{is_touch_motion, is_touch_up, is_touch_cancel, is_keysym, is_utf8}
 use Rattle.ei_session.proofs.all_requests.inputs.Goals as goal
 
 pub returns : goal.returns

@@ -1,4 +1,5 @@
-use Rattle.ei_session.proofs.ItemLaws.{item_input, item_frame, item_closed, item_start, item_stop, item_ready, item_bind, item_request_device, item_disconnect, item_sync, item_seat_release, item_release, item_unknown}
+use Rattle.ei_session.proofs.ItemLaws.{item_input, item_frame, item_closed, item_start, item_stop, item_ready, item_bind, item_request_device, item_disconnect}
+use Rattle.ei_session.proofs.ItemLaws.{item_sync, item_seat_release, item_release, item_unknown}
 use Rattle.ei_session.proofs.all_requests.items.Goals as goal
 
 pub returns : goal.returns

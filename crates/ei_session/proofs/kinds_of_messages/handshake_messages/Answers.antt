@@ -1,4 +1,5 @@
-use Rattle.ei_session.proofs.BeforeTheFinish.{early_item, early_input, early_gone, early_steps, early_synced, early_reply, early_keeps, early_next, early_left, came_more}
+use Rattle.ei_session.proofs.BeforeTheFinish.{early_item, early_input, early_gone, early_steps, early_synced, early_reply, early_keeps, early_next, early_left}
+use Rattle.ei_session.proofs.BeforeTheFinish.{came_more}
 use Rattle.ei_session.proofs.kinds_of_messages.handshake_messages.Goals as goal
 
 pub returns : goal.returns

@@ -1,4 +1,6 @@
-use Rattle.ei_session.proofs.AskedByMeaning.{greeting_asked, finish_asked, context_type_asked, name_asked, interface_version_asked, sync_asked, disconnect_asked, pong_asked, seat_release_asked, bind_asked, request_device_asked, device_release_asked, start_asked, stop_asked, frame_asked, ready_asked, its_interface, one_of_seven}
+use Rattle.ei_session.proofs.AskedByMeaning.{greeting_asked, finish_asked, context_type_asked, name_asked, interface_version_asked, sync_asked}
+use Rattle.ei_session.proofs.AskedByMeaning.{disconnect_asked, pong_asked, seat_release_asked, bind_asked, request_device_asked, device_release_asked}
+use Rattle.ei_session.proofs.AskedByMeaning.{start_asked, stop_asked, frame_asked, ready_asked, its_interface, one_of_seven}
 use Rattle.ei_session.proofs.meanings.asked_by_meaning.Goals as goal
 
 pub returns : goal.returns

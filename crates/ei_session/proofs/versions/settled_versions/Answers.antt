@@ -1,4 +1,5 @@
-use Rattle.ei_session.proofs.SettledMapLaws.{get_twelve, get_handshake, get_unknown, only_map, first_map, announced_map, handshake_map, unknown_map, other_map, connected_map}
+use Rattle.ei_session.proofs.SettledMapLaws.{get_twelve, get_handshake, get_unknown, only_map, first_map, announced_map, handshake_map, unknown_map, other_map}
+use Rattle.ei_session.proofs.SettledMapLaws.{connected_map}
 use Rattle.ei_session.proofs.versions.settled_versions.Goals as goal
 
 pub returns : goal.returns

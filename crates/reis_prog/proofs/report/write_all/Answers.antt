@@ -1,4 +1,4 @@
-use Rattle.std.proofs.Common.{arith, drop, length-drop}
+use Rattle.std.proofs.Common.{arith, drop, length-drop, ◌∙◌}
 use Rattle.std.proofs.lemmas.List.{take_all}
 use Rattle.reis_prog.proofs.ReportLaws.{put_on}
 use Rattle.reis_prog.proofs.report.write_all.Goals as goal
@@ -11,6 +11,6 @@ loop-done-preserved g c =
       within = omega (arith, length-drop done text, c.in_ok-done.ensures.size.at_most);
       written = λ held told.
           put_on held text _ done _ _ _ (c.loop-done.invariant.written held told) (take_all _ (drop done text) (omega (arith, length-drop done text))) c.in_ok-done.ensures.taken;
-      count = omega (arith, c.in_ok-done.ensures.cause.later, c.loop-done.invariant.count);
+      kept = c.in_ok-done.ensures.cause.kept ∙ c.loop-done.invariant.kept;
       later = g.met.O.Sink.later_trans _ _ _ c.loop-done.invariant.later c.in_ok-done.ensures.later;
     }

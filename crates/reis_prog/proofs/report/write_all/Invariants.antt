@@ -7,7 +7,7 @@ abbrev pub invariant-loop-done : goal.invariant-loop-done
 invariant-loop-done g l = record {
   within : l.done ≤ length l.text;
   written : (held : Piece) → g.O.Sink.taken l.fn.output ≡ Some held → Holds held (take l.done l.text) (g.O.Sink.taken l.output);
-  count : g.O.Sink.faults l.fn.output ≤ g.O.Sink.faults l.output;
+  kept : g.O.Sink.faults l.output ≡ g.O.Sink.faults l.fn.output;
   later : g.O.Sink.later l.fn.output l.output;
 }
 

@@ -1,4 +1,4 @@
-use Rattle.std.proofs.Common.{◌≡◌, arith, false}
+use Rattle.std.proofs.Common.{◌≡◌, ◌∙◌, false}
 use Rattle.std.specs.Prelude.{is_some}
 use Rattle.reis_prog.specs.Text.{has_newline}
 use Rattle.reis_prog.proofs.HeldLaws.{moves_on, moves_by, moves_kept, nothing_left, none_found, not_whole}
@@ -25,6 +25,6 @@ lines-preserved g c =
       text = λ text told. moves_on _ text _ _ _ _ _ (c.lines.invariant.text text told) c.newline-found.ensures.same (λ t now. moves_by _ t _ _ _ (c.in_ok-read.ensures.text t now));
       unasked = λ has. absurd (not_whole _ _ has (c.lines.invariant.kept has) quiet);
       kept = λ has. absurd (not_whole _ _ has (c.lines.invariant.kept has) quiet);
-      count = omega (arith, c.in_ok-read.ensures.cause.later, c.lines.invariant.count);
+      kept_count = c.in_ok-read.ensures.cause.kept ∙ c.lines.invariant.kept_count;
       later = g.met.I.Input.later_trans _ _ _ c.lines.invariant.later c.in_ok-read.ensures.later;
     }

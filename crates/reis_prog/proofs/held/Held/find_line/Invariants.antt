@@ -1,4 +1,4 @@
-use Rattle.std.proofs.Common.{◌≡◌, ◌≤◌, ◌-◌, List, ℕ, Some, true, length}
+use Rattle.std.proofs.Common.{◌≡◌, ◌-◌, List, ℕ, Some, true, length}
 use Rattle.reis_prog.specs.Text.{has_newline}
 use Rattle.reis_prog.specs.Held.{Moves}
 use Rattle.reis_prog.proofs.held.Held.find_line.Given as goal
@@ -8,7 +8,7 @@ invariant-lines g l = record {
   text : (text : List ℕ) → g.I.Input.text l.fn.input ≡ Some text → Moves l.fn.self text l.self (g.I.Input.text l.input);
   unasked : has_newline l.fn.self ≡ true → l.input ≡ l.fn.input;
   kept : has_newline l.fn.self ≡ true → l.self ≡ l.fn.self;
-  count : g.I.Input.faults l.fn.input ≤ g.I.Input.faults l.input;
+  kept_count : g.I.Input.faults l.input ≡ g.I.Input.faults l.fn.input;
   later : g.I.Input.later l.fn.input l.input;
 }
 
