@@ -9,7 +9,7 @@ use Rattle.std.proofs.lemmas.Bool.Decides.{nat_tests, eqb_tells}
 use Rattle.std.proofs.lemmas.Map.Keys.{IsDistinct-cons}
 use Rattle.ei_spec.specs.Reading.{Fault}
 use Rattle.ei_spec.specs.Interface.{Interface, ObjectView}
-use Rattle.ei_backend.specs.Table.{TableView, accept, found, own, own_end, own_start, own_limit}
+use Rattle.ei_backend.specs.Table.{TableView, Announced, accept, found, own, own_end, own_start, own_limit}
 use Rattle.ei_backend.specs.Table.{peer_end, with_own, without, new_table, first_object, first_server_id}
 use Rattle.ei_backend.specs.Growth.{Step, Makes, Hears, Removes, table_after, id_after, after_step, grown, ids_given, table_grown, peer_start, IsKnownId}
 use Rattle.ei_backend.proofs.Objects.{get_with, get_without}
@@ -45,6 +45,10 @@ accepted_by t u id version interface o false false p q e =
 
 pub accepted_is : (t u : TableView) (id version : ℕ) (interface : Interface) (o : ObjectView) → accept t id interface version ≡ Ok (o, u) → Accepted t u id version interface o
 accepted_is t u id version interface o e = accepted_by t u id version interface o _ _ refl refl e
+
+-- what was accepted is accepted as what it is
+pub accepted_as_is : (t u : TableView) (id version : ℕ) (interface : Interface) (o : ObjectView) → accept t id interface version ≡ Ok (o, u) → Announced (Some o) t u
+accepted_as_is t u id version interface o e = ap (λ (x : ObjectView). accept t x.id x.interface x.version) (accepted_is t u id version interface o e).object ∙ e
 
 pub peer_found : (t u : TableView) (id version : ℕ) (interface : Interface) (o : ObjectView) → accept t id interface version ≡ Ok (o, u) → found u id ≡ Some o
 peer_found t u id version interface o e = let a = accepted_is t u id version interface o e in rw a.table (get_with t.objects id id o ∙ rw (eq_self id) refl)

@@ -1,9 +1,9 @@
 -- Room for own objects lasts until so many are made.
-use Rattle.std.proofs.Common.{◌≡◌, ℕ, zero, suc, refl, ◌+◌, ◌<◌, ◌≤◌, Bool, true, false, List, [], ◌∷◌, Result, Ok, Err, arith, if◌then◌else◌}
+use Rattle.std.proofs.Common.{◌≡◌, ℕ, zero, suc, refl, ◌+◌, ◌<◌, ◌≤◌, Bool, true, false, List, [], ◌∷◌, Ok, Err, arith, if◌then◌else◌}
 use Rattle.std.specs.Prelude.{min, nat_lt, nat_le, ◌||◌}
-use Rattle.ei_spec.specs.Reading.{Fault, InvalidId}
+use Rattle.ei_spec.specs.Reading.{InvalidId}
 use Rattle.ei_spec.specs.Interface.{Interface, ObjectView}
-use Rattle.ei_backend.specs.Table.{TableView, HasIdRoom, accept, peer_end, own_end, with_own, without}
+use Rattle.ei_backend.specs.Table.{TableView, HasIdRoom, peer_end, own_end, with_own, without}
 use Rattle.ei_backend.specs.Growth.{Step, Makes, Hears, Removes, made_by, table_after, after_step, grown}
 
 -- so many more own objects are made without want of memory, as far as there are ids

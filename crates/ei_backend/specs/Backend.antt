@@ -14,7 +14,7 @@ use Rattle.ei_wire.specs.declared.error.ParseError.TheVariants as error
 use Rattle.ei_wire.specs.declared.error.ReadError.{ReadError}
 use Rattle.ei_wire.specs.declared.error.ReadError.TheVariants as read_error
 use Rattle.ei_wire.specs.Gives.{fault_of}
-use Rattle.ei_backend.specs.Table.{TableView, found, without, with_own}
+use Rattle.ei_backend.specs.Table.{TableView, Announced, found, without, with_own}
 use Rattle.ei_backend.specs.Table as table
 use Rattle.ei_backend.specs.Ring.{first_capacity, grown}
 use Rattle.ei_backend.specs.Outgoing.{Room, no_room, more_room, HasRoomFor}
@@ -129,6 +129,14 @@ Answers target code values None b want = want ≡ (Waits, b)
 Answers target code values (Some (pending.Request m)) b want = want ≡ (Message (target m) (code m) (values m), b)
 Answers target code values (Some (pending.ParseError e)) b want = IfSome (fault_of e) (λ f. want ≡ (Refused f, b)) × IsSome (fault_of e)
 Answers target code values (Some (pending.InvalidObject id)) b want = want ≡ (Gone id, b)
+
+-- What a call for the next message did to the table: it has the object that the message announces, exactly as it was
+-- accepted. Without a message or a target it is as before. What a refused message leaves, `next` says.
+abbrev pub Brings : {M : Type 0} → (M → Option ObjectView) → Option (PendingRequestResult M) → TableView → TableView → Type 0
+Brings announced None old new = new ≡ old
+Brings announced (Some (pending.Request m)) old new = Announced (announced m) old new
+Brings announced (Some (pending.ParseError e)) old new = Unit {0}
+Brings announced (Some (pending.InvalidObject id)) old new = new ≡ old
 
 -- an answer took a message out, unless there was none or its length is unlawful
 abbrev pub Shortens : {M : Type 0} → List ℕ → List ℕ → Option (PendingRequestResult M) → Type 0

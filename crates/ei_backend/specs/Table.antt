@@ -1,6 +1,6 @@
 -- The objects of one endpoint.
 use Rattle.std.specs.Prelude.{◌≡◌, ℕ, ◌+◌, ◌^◌, ◌<◌, ◌≤◌, Bool, ◌||◌, List, [], ◌∷◌, ◌++◌}
-use Rattle.std.specs.Prelude.{length, Option, Some, Result, Ok, Err, nat_lt, nat_le, min, max, if◌then◌else◌}
+use Rattle.std.specs.Prelude.{length, Option, Some, None, Result, Ok, Err, nat_lt, nat_le, min, max, if◌then◌else◌}
 use Rattle.std.specs.List.{HoldsAt}
 use Rattle.std.specs.Ordering.{nat_cmp}
 use Rattle.std.specs.FinMap as map
@@ -72,6 +72,12 @@ accept t id interface version =
     if nat_lt id t.next_peer || nat_le (peer_end t) id then Err (InvalidId id)
     else (let o : ObjectView = record { id = id; interface = interface; version = version; client_side = t.client }
     in Ok (o, record { objects = map.insert t.objects id o; next_own = t.next_own; next_peer = id + 1; client = t.client; room = t.room }))
+
+-- The table after a message: with the object that it announces, exactly as the table before accepts it; or as before,
+-- where it announces none.
+abbrev pub Announced : Option ObjectView → TableView → TableView → Type 0
+Announced None old new = new ≡ old
+Announced (Some o) old new = accept old o.id o.interface o.version ≡ Ok (o, new)
 
 -- the own ids end here
 abbrev pub own_end : TableView → ℕ

@@ -11,11 +11,11 @@ ghost use Rattle.ei_wire.specs.declared.error.ReadError.TheVariants as read_erro
 ghost use Rattle.ei_wire.specs.declared.error.FlushError.TheVariants as flush_error;
 ghost use Rattle.ei_backend.specs.declared.outside.LastAnswer.TheVariants as answers;
 ghost use Rattle.ei_backend.specs.Object.{interface_view, HasFixedName};
-ghost use Rattle.ei_backend.specs.Table.{new_table, first_object, first_server_id, found, accept, own, own_end, own_start, own_limit, with_own};
+ghost use Rattle.ei_backend.specs.Table.{Announced, new_table, first_object, first_server_id, found, accept, own, own_end, own_start, own_limit, with_own};
 ghost use Rattle.ei_backend.specs.Outside.{Piece, Rose};
 ghost use Rattle.ei_backend.specs.Outgoing.{StopsAfter, Flushes, HasRoomFor, with_message};
-ghost use Rattle.ei_backend.specs.Backend.{new_backend, ReadsOn, ReadsPiece, body_read, Says, next, Answers, Shortens, sent, sent_new, with_object, with_room};
-ghost use Rattle.ei_backend.specs.Backend.{removed, closed_of, unsent_of, with_unsent};
+ghost use Rattle.ei_backend.specs.Backend.{new_backend, ReadsOn, ReadsPiece, next, Answers, Brings, Shortens, sent, sent_new, with_object, with_room};
+ghost use Rattle.ei_backend.specs.Backend.{body_read, Says, removed, closed_of, unsent_of, with_unsent};
 ghost use Rattle.ei_spec.specs.declared.limits.TheConstants.{MOST_MESSAGE_BYTES, MOST_PIECE_BYTES};
 
 use crate::incoming::Incoming;
@@ -148,6 +148,7 @@ impl Backend {
     where
         T: Drop,
         ensures ok { IfOk result (λ answer. Answers T.target T.code T.values answer self.new (next T.events self.old)) }
+        ensures announced { IfOk result (λ answer. Brings T.announced answer self.old.table self.new.table) }
         ensures shorter { IfOk result (λ answer. Shortens self.old.unread self.new.unread answer) }
         ensures few_left { result ≡ Ok None → length self.new.unread < MOST_MESSAGE_BYTES }
         ensures err { OnErr result (self.new ≡ self.old) }
@@ -247,6 +248,7 @@ impl Backend {
         version: u32,
     ) -> Result<Object, ParseError>
         ensures read { Gives (λ o. (o, self.new.table)) result (accept self.old.table id (interface_view interface) version) }
+        ensures announced { IfOk result (λ o. Announced (Some o) self.old.table self.new.table) }
         ensures kept { self.new ≡ record self.old { table = self.new.table } }
         ensures err { OnErr result (self.new ≡ self.old) }
     {

@@ -5,7 +5,7 @@ ghost use Rattle.ei_wire.specs.declared.error.ReadError.TheVariants as read_erro
 ghost use Rattle.ei_backend.specs.Outside.{Piece, Rose};
 ghost use Rattle.ei_backend.specs.declared.outside.LastAnswer.TheVariants as answers;
 ghost use Rattle.ei_backend.specs.Incoming.{none_unread, Reads, ReadsPiece};
-ghost use Rattle.ei_backend.specs.Backend.{BackendView, next, Answers, Shortens};
+ghost use Rattle.ei_backend.specs.Backend.{BackendView, next, Answers, Brings, Shortens};
 ghost use Rattle.ei_backend.specs.Step.{holding};
 ghost use Rattle.ei_spec.specs.declared.limits.TheConstants.{MOST_PIECE_BYTES};
 
@@ -108,6 +108,7 @@ impl Incoming {
     where
         T: Drop,
         ensures ok { (b : BackendView) → IfOk result (λ answer. Answers T.target T.code T.values answer (holding self.new table.new b) (next T.events (holding self.old table.old b))) }
+        ensures announced { IfOk result (λ answer. Brings T.announced answer table.old table.new) }
         ensures shorter { IfOk result (λ answer. Shortens self.old.bytes self.new.bytes answer) }
         ensures err { OnErr result (self.new ≡ self.old) }
         ensures err_table { OnErr result (table.new ≡ table.old) }

@@ -1,10 +1,11 @@
 //! Typed messages.
 
-ghost use Rattle.std.specs.Prelude.{◌≡◌, ℕ, Bool, List, IfOk, OnErr, map};
+ghost use Rattle.std.specs.Prelude.{◌≡◌, ℕ, Bool, List, Option, None, IfOk, OnErr, map};
 ghost use Rattle.ei_spec.specs.Value.{Value};
 ghost use Rattle.ei_spec.specs.Interface.{ObjectView};
 ghost use Rattle.ei_backend.specs.Shown.{shown, shown_of_arg};
 ghost use Rattle.ei_wire.specs.Rows.{Reads};
+ghost use Rattle.ei_backend.specs.Table.{Announced};
 ghost use Rattle.ei_backend.specs.Message.{Parsed, message_read};
 
 use crate::object::Object;
@@ -24,6 +25,9 @@ pub trait MessageEnum: Sized {
 
     ghost values: { Self → List Value };
 
+    /// The object that the message announces; none, unless an `impl` says so.
+    ghost announced: { Self → Option ObjectView } = { λ _. None };
+
     /// Reads the arguments of the opcode to the object, and announces its new object.
     fn parse(
         alloc: Global,
@@ -34,6 +38,7 @@ pub trait MessageEnum: Sized {
     ) -> Result<Self, ParseError>
         ensures read { Reads (λ m. record { values = values m; table = table.new; unread = bytes.new }) bytes.new.taken result (message_read events object.interface opcode bytes.old table.old) }
         ensures target { IfOk result (λ m. (target m ≡ object) × (code m ≡ opcode)) }
+        ensures announced { IfOk result (λ m. Announced (announced m) table.old table.new) }
         ensures err { OnErr result (table.new ≡ table.old) };
 
     /// The arguments in order. A new object is shown by its id, without its version and, where the message

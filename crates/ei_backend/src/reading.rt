@@ -3,7 +3,8 @@
 ghost use Rattle.std.specs.Prelude.{◌≡◌, ◌≤◌, length, drop, IfOk, OnErr, IsErrOf};
 ghost use Rattle.circular_buffer.specs.Buffer.{buffer};
 ghost use Rattle.ei_wire.specs.declared.error.ParseError.TheVariants as error;
-ghost use Rattle.ei_backend.specs.Backend.{BackendView, body_read, Says, next, Answers, Shortens};
+ghost use Rattle.ei_backend.specs.Table.{Announced};
+ghost use Rattle.ei_backend.specs.Backend.{BackendView, body_read, Says, next, Answers, Brings, Shortens};
 ghost use Rattle.ei_backend.specs.Step.{reading, TakesSome};
 
 use crate::front::{FrontMessage, front_of, is_across};
@@ -48,6 +49,7 @@ pub(crate) fn next_message<T: MessageEnum>(
 where
     T: Drop,
     ensures ok { (b : BackendView) → IfOk result (λ answer. Answers T.target T.code T.values answer (reading bytes.new.items handles.new.items table.new b) (next T.events (reading bytes.old.items handles.old.items table.old b))) }
+    ensures announced { IfOk result (λ answer. Brings T.announced answer table.old table.new) }
     ensures shorter { IfOk result (λ answer. Shortens bytes.old.items bytes.new.items answer) }
     ensures err { OnErr result (bytes.new.items ≡ bytes.old.items) }
     ensures err_handles { OnErr result (handles.new.items ≡ handles.old.items) }
@@ -78,6 +80,7 @@ fn step_in<T: MessageEnum>(
 where
     T: Drop,
     ensures ok { (b : BackendView) → IfOk result (λ step. Answers T.target T.code T.values step.answer (reading (drop step.bytes bytes.old.items) (drop step.handles handles.now) table.new b) (next T.events (reading bytes.old.items handles.now table.old b))) }
+    ensures announced { IfOk result (λ step. Brings T.announced step.answer table.old table.new) }
     ensures within { IfOk result (λ step. step.bytes ≤ length bytes.old.items) }
     ensures shorter { IfOk result (λ step. TakesSome step.answer step.bytes) }
     ensures err { OnErr result (table.new ≡ table.old) }
@@ -112,6 +115,7 @@ fn step_of<T: MessageEnum>(
 where
     T: Drop,
     ensures ok { (b : BackendView) → IfOk result (λ step. Answers T.target T.code T.values step.answer (reading (drop step.bytes bytes.now) (drop step.handles handles.now) table.new b) (next T.events (reading bytes.now handles.now table.old b))) }
+    ensures announced { IfOk result (λ step. Brings T.announced step.answer table.old table.new) }
     ensures within { IfOk result (λ step. step.bytes ≤ length bytes.now) }
     ensures shorter { IfOk result (λ step. TakesSome step.answer step.bytes) }
     ensures err { OnErr result (table.new ≡ table.old) }
@@ -151,6 +155,7 @@ where
     T: Drop,
     requires { length body.now ≤ 1048560 }
     ensures says { Says T.target T.code T.values target opcode result.0 table.new result.1 (body_read T.events target opcode body.now handles.now table.old) }
+    ensures announced { IfOk result.0 (λ m. Announced (T.announced m) table.old table.new) }
     ensures memory { IsErrOf result.0 error.NoMemory → table.new ≡ table.old }
 {
     let mut stream = ByteStream::new(alloc, body, handles);

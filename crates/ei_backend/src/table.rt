@@ -5,7 +5,7 @@ ghost use Rattle.std.specs.Option.{option_copied};
 ghost use Rattle.ei_wire.specs.Gives.{Gives};
 ghost use Rattle.ei_wire.specs.declared.error.SendError.TheVariants as send_error;
 ghost use Rattle.ei_backend.specs.Object.{interface_view, HasFixedName};
-ghost use Rattle.ei_backend.specs.Table.{accept, found, peer_end, without, own, own_end, own_start};
+ghost use Rattle.ei_backend.specs.Table.{Announced, accept, found, peer_end, without, own, own_end, own_start};
 ghost use Rattle.ei_backend.specs.Table.{own_limit, with_own, with_room, new_table, first_object, first_server_id, is_own};
 
 use crate::interface::InterfaceName;
@@ -144,6 +144,7 @@ impl Table {
         version: u32,
     ) -> Result<Object, ParseError>
         ensures read { Gives (λ o. (o, self.new)) result (accept self.old id (interface_view interface) version) }
+        ensures announced { IfOk result (λ o. Announced (Some o) self.old self.new) }
         ensures err { OnErr result (self.new ≡ self.old) }
     {
         if id < self.next_peer || id >= self.peer_end() {

@@ -1,7 +1,8 @@
 -- The events of `ei_connection`, by the table of messages.
-use Rattle.std.specs.Prelude.{ℕ, List, [], ◌∷◌, Option, false}
+use Rattle.std.specs.Prelude.{ℕ, List, [], ◌∷◌, Option, Some, None, false}
 use Rattle.ei_spec.specs.Value.{Value, Word, Long}
 use Rattle.ei_spec.specs.Reading.{or_null}
+use Rattle.ei_spec.specs.Interface.{ObjectView}
 use Rattle.ei_spec.specs.declared.interface.KnownInterface.TheVariants as known
 use Rattle.ei_spec.specs.Rows.{Row, row_named}
 use Rattle.ei_spec.specs.Table.{table}
@@ -22,6 +23,12 @@ values_of (Disconnected last_serial reason explanation) = Word last_serial ∷ W
 values_of (Seat seat) = Long seat.id ∷ Word seat.version ∷ []
 values_of (InvalidObject last_serial invalid_id) = Word last_serial ∷ Long invalid_id ∷ []
 values_of (Ping ping) = Long ping.id ∷ Word ping.version ∷ []
+
+-- the object that the event announces: a seat or a ping
+abbrev pub announced_of : Event → Option ObjectView
+announced_of (Seat seat) = Some seat
+announced_of (Ping ping) = Some ping
+announced_of m = None
 
 -- the row of a request of that name
 abbrev pub request : List ℕ → Option (ℕ × Row)

@@ -1,7 +1,7 @@
 -- The events of `ei_device`, by the table of messages.
-use Rattle.std.specs.Prelude.{ℕ, List, [], ◌∷◌, Option, false}
+use Rattle.std.specs.Prelude.{ℕ, List, [], ◌∷◌, Option, Some, None, false}
 use Rattle.ei_spec.specs.Value.{Value, Word, Long, Letters}
-use Rattle.ei_spec.specs.Interface.{bytes_of}
+use Rattle.ei_spec.specs.Interface.{ObjectView, bytes_of}
 use Rattle.ei_spec.specs.declared.interface.KnownInterface.TheVariants as known
 use Rattle.ei_spec.specs.Rows.{Row, row_named}
 use Rattle.ei_spec.specs.Table.{table}
@@ -41,6 +41,11 @@ values_of (StartEmulating serial sequence) = Word serial ∷ Word sequence ∷ [
 values_of (StopEmulating serial) = Word serial ∷ []
 values_of (Frame serial timestamp) = Word serial ∷ Long timestamp ∷ []
 values_of (RegionMappingId mapping_id) = Letters mapping_id ∷ []
+
+-- the object that the event announces: one of an interface of the device
+abbrev pub announced_of : Event → Option ObjectView
+announced_of (Interface object) = Some object
+announced_of m = None
 
 -- the row of a request of that name
 abbrev pub request : List ℕ → Option (ℕ × Row)

@@ -1,5 +1,5 @@
 -- The events of a server: target, opcode and arguments.
-use Rattle.std.specs.Prelude.{ℕ, List}
+use Rattle.std.specs.Prelude.{ℕ, List, Option, None}
 use Rattle.ei_spec.specs.Value.{Value}
 use Rattle.ei_spec.specs.Interface.{Known, ObjectView}
 use Rattle.ei_spec.specs.declared.interface.KnownInterface.{KnownInterface}
@@ -67,3 +67,11 @@ values_of (event.Button proxy m) = button.values_of m
 values_of (event.Keyboard proxy m) = keyboard.values_of m
 values_of (event.Touchscreen proxy m) = touchscreen.values_of m
 values_of (event.Text proxy m) = text.values_of m
+
+-- the object that the event announces
+abbrev pub announced_of : Event → Option ObjectView
+announced_of (event.Handshake proxy m) = handshake.announced_of m
+announced_of (event.Connection proxy m) = connection.announced_of m
+announced_of (event.Seat proxy m) = seat.announced_of m
+announced_of (event.Device proxy m) = device.announced_of m
+announced_of m = None

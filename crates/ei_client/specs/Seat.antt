@@ -1,6 +1,7 @@
 -- The events of `ei_seat`, by the table of messages.
-use Rattle.std.specs.Prelude.{ℕ, List, [], ◌∷◌, Option, false}
+use Rattle.std.specs.Prelude.{ℕ, List, [], ◌∷◌, Option, Some, None, false}
 use Rattle.ei_spec.specs.Value.{Value, Word, Long, Letters}
+use Rattle.ei_spec.specs.Interface.{ObjectView}
 use Rattle.ei_spec.specs.declared.interface.KnownInterface.TheVariants as known
 use Rattle.ei_spec.specs.Rows.{Row, row_named}
 use Rattle.ei_spec.specs.Table.{table}
@@ -22,6 +23,11 @@ values_of (Name name) = Letters name ∷ []
 values_of (Capability mask interface) = Long mask ∷ Letters interface ∷ []
 values_of Done = []
 values_of (Device device) = Long device.id ∷ Word device.version ∷ []
+
+-- the object that the event announces: a device
+abbrev pub announced_of : Event → Option ObjectView
+announced_of (Device device) = Some device
+announced_of m = None
 
 -- the row of a request of that name
 abbrev pub request : List ℕ → Option (ℕ × Row)

@@ -1,9 +1,9 @@
 //! `ei_connection`: the connection, which stands until one end ends it.
 
 ghost use Rattle.std.specs.Prelude.{◌≡◌, IfOk, OnErr, true, codes, [], ◌∷◌};
-ghost use Rattle.ei_backend.specs.Proxies.{Word, Long, ReadsRow, Shows, Sends, SendsNew};
+ghost use Rattle.ei_backend.specs.Proxies.{Word, Long, Announced, ReadsRow, Shows, Sends, SendsNew};
 ghost use Rattle.ei_spec.specs.declared.interface.KnownInterface.TheVariants as known;
-ghost use Rattle.ei_client.specs.Connection.{code_of, values_of, request};
+ghost use Rattle.ei_client.specs.Connection.{code_of, values_of, announced_of, request};
 
 use crate::{Callback, Context, Pingpong, Proxy, Seat};
 use ei_backend::{HasBackend, Interface, Table, kinds};
@@ -75,6 +75,7 @@ impl Event {
         ensures read { ReadsRow values_of true known.Connection opcode
             bytes.old bytes.new objects.old objects.new result }
         ensures code { IfOk result (λ m. code_of m ≡ opcode) }
+        ensures announced { IfOk result (λ m. Announced (announced_of m) objects.old objects.new) }
         ensures err { OnErr result (objects.new ≡ objects.old) }
     {
         match opcode {

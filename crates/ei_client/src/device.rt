@@ -1,12 +1,12 @@
 //! `ei_device`: a device, which has interfaces for input.
 
-ghost use Rattle.std.specs.Prelude.{◌≡◌, IfOk, OnErr, true, codes, [], ◌∷◌};
-ghost use Rattle.ei_backend.specs.Proxies.{Word, Long, ReadsRow, Shows, Sends};
+ghost use Rattle.std.specs.Prelude.{◌≡◌, Some, IfOk, OnErr, true, codes, [], ◌∷◌};
+ghost use Rattle.ei_backend.specs.Proxies.{Word, Long, Announced, ReadsRow, Shows, Sends};
 ghost use Rattle.ei_spec.specs.Interface.{named, bytes_of};
 ghost use Rattle.ei_spec.specs.declared.interface.KnownInterface.TheVariants as known;
 ghost use Rattle.ei_wire.specs.Gives.{Gives};
 ghost use Rattle.ei_backend.specs.Table.{accept};
-ghost use Rattle.ei_client.specs.Device.{code_of, values_of, request};
+ghost use Rattle.ei_client.specs.Device.{code_of, values_of, announced_of, request};
 
 use crate::{Context, Proxy};
 use ei_backend::{Interface, InterfaceName, Object, Table, kinds};
@@ -95,6 +95,7 @@ fn announce_named(
 ) -> Result<Object, ParseError>
     ensures read { Gives (λ o. (o, objects.new)) result (accept objects.old id (named name.now) version) }
     ensures name { IfOk result (λ o. bytes_of o.interface ≡ name.now) }
+    ensures announced { IfOk result (λ o. Announced (Some o) objects.old objects.new) }
     ensures err { OnErr result (objects.new ≡ objects.old) }
 {
     let interface = InterfaceName::of(alloc, name)?;
@@ -175,6 +176,7 @@ impl Event {
     ) -> Result<Event, ParseError>
         ensures read { ReadsRow values_of true known.Device opcode bytes.old bytes.new objects.old objects.new result }
         ensures code { IfOk result (λ m. code_of m ≡ opcode) }
+        ensures announced { IfOk result (λ m. Announced (announced_of m) objects.old objects.new) }
         ensures err { OnErr result (objects.new ≡ objects.old) }
     {
         match opcode {

@@ -1,7 +1,7 @@
 //! The events of a server.
 
 ghost use Rattle.std.specs.Prelude.{◌≡◌, true};
-ghost use Rattle.ei_client.specs.Event.{target_of, code_of, values_of};
+ghost use Rattle.ei_client.specs.Event.{target_of, code_of, values_of, announced_of};
 
 use crate::button::{self, Button};
 use crate::callback::{self, Callback};
@@ -45,6 +45,8 @@ impl MessageEnum for Event {
     ghost code = { code_of };
 
     ghost values = { values_of };
+
+    ghost announced = { announced_of };
 
     fn parse(
         alloc: Global,

@@ -1,10 +1,10 @@
 //! `ei_handshake`: the object that is there from the first.
 
 ghost use Rattle.std.specs.Prelude.{◌≡◌, IfOk, OnErr, true, codes, [], ◌∷◌};
-ghost use Rattle.ei_backend.specs.Proxies.{Word, Letters, ReadsRow, Shows, Sends, SendsText};
+ghost use Rattle.ei_backend.specs.Proxies.{Word, Letters, Announced, ReadsRow, Shows, Sends, SendsText};
 ghost use Rattle.ei_spec.specs.declared.interface.KnownInterface.TheVariants as known;
 ghost use Rattle.ei_types.specs.Enums.{context_type_number};
-ghost use Rattle.ei_client.specs.Handshake.{code_of, values_of, request};
+ghost use Rattle.ei_client.specs.Handshake.{code_of, values_of, announced_of, request};
 
 use crate::{Connection, Context, Proxy};
 use ei_backend::{Interface, Table, kinds};
@@ -103,6 +103,7 @@ impl Event {
         ensures read { ReadsRow values_of true known.Handshake opcode
             bytes.old bytes.new objects.old objects.new result }
         ensures code { IfOk result (λ m. code_of m ≡ opcode) }
+        ensures announced { IfOk result (λ m. Announced (announced_of m) objects.old objects.new) }
         ensures err { OnErr result (objects.new ≡ objects.old) }
     {
         match opcode {

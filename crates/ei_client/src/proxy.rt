@@ -6,7 +6,7 @@ ghost use Rattle.ei_spec.specs.Message.{message, size};
 ghost use Rattle.ei_wire.specs.Gives.{Gives, value_of_arg};
 ghost use Rattle.ei_wire.specs.declared.error.SendError.TheVariants as send_error;
 ghost use Rattle.ei_backend.specs.Object.{proxy_text, shown_of};
-ghost use Rattle.ei_backend.specs.Table.{accept, own, own_end};
+ghost use Rattle.ei_backend.specs.Table.{Announced, accept, own, own_end};
 ghost use Rattle.ei_backend.specs.Outgoing.{HasRoomFor};
 ghost use Rattle.ei_backend.specs.Backend.{removed, sent, sent_new, unsent_of};
 ghost use Rattle.ei_spec.specs.declared.limits.TheConstants.{MOST_MESSAGE_BYTES};
@@ -118,6 +118,7 @@ impl<K: Kind> Proxy<K> {
         version: u32,
     ) -> Result<Proxy<K>, ParseError>
         ensures read { Gives (λ p. (p, objects.new)) result (accept objects.old id (Known K.KNOWN) version) }
+        ensures announced { IfOk result (λ p. Announced (Some p) objects.old objects.new) }
         ensures err { OnErr result (objects.new ≡ objects.old) }
     {
         let interface = InterfaceName::Known(K::KNOWN);

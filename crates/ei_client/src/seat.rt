@@ -1,9 +1,9 @@
 //! `ei_seat`: a seat, which offers capabilities.
 
 ghost use Rattle.std.specs.Prelude.{◌≡◌, IfOk, OnErr, true, codes, [], ◌∷◌};
-ghost use Rattle.ei_backend.specs.Proxies.{Long, ReadsRow, Shows, Sends};
+ghost use Rattle.ei_backend.specs.Proxies.{Long, Announced, ReadsRow, Shows, Sends};
 ghost use Rattle.ei_spec.specs.declared.interface.KnownInterface.TheVariants as known;
-ghost use Rattle.ei_client.specs.Seat.{code_of, values_of, request};
+ghost use Rattle.ei_client.specs.Seat.{code_of, values_of, announced_of, request};
 
 use crate::{Context, Device, Proxy};
 use ei_backend::{Interface, Table, kinds};
@@ -67,6 +67,7 @@ impl Event {
     ) -> Result<Event, ParseError>
         ensures read { ReadsRow values_of true known.Seat opcode bytes.old bytes.new objects.old objects.new result }
         ensures code { IfOk result (λ m. code_of m ≡ opcode) }
+        ensures announced { IfOk result (λ m. Announced (announced_of m) objects.old objects.new) }
         ensures err { OnErr result (objects.new ≡ objects.old) }
     {
         match opcode {

@@ -1,6 +1,7 @@
 -- The requests of `ei_connection`, by the table of messages.
-use Rattle.std.specs.Prelude.{ℕ, List, [], ◌∷◌, Option, true}
+use Rattle.std.specs.Prelude.{ℕ, List, [], ◌∷◌, Option, Some, None, true}
 use Rattle.ei_spec.specs.Value.{Value, Word, Long}
+use Rattle.ei_spec.specs.Interface.{ObjectView}
 use Rattle.ei_spec.specs.declared.interface.KnownInterface.TheVariants as known
 use Rattle.ei_spec.specs.Rows.{Row, row_named}
 use Rattle.ei_spec.specs.Table.{table}
@@ -16,6 +17,11 @@ code_of Disconnect = 1
 abbrev pub values_of : Request → List Value
 values_of (Sync callback) = Long callback.id ∷ Word callback.version ∷ []
 values_of Disconnect = []
+
+-- the object that the request announces: a callback
+abbrev pub announced_of : Request → Option ObjectView
+announced_of (Sync callback) = Some callback
+announced_of Disconnect = None
 
 -- the row of an event of that name
 abbrev pub event : List ℕ → Option (ℕ × Row)

@@ -1,5 +1,5 @@
 -- The requests of a client: target, opcode and arguments.
-use Rattle.std.specs.Prelude.{ℕ, List}
+use Rattle.std.specs.Prelude.{ℕ, List, Option, None}
 use Rattle.ei_spec.specs.Value.{Value}
 use Rattle.ei_spec.specs.Interface.{Known, ObjectView}
 use Rattle.ei_spec.specs.declared.interface.KnownInterface.{KnownInterface}
@@ -67,3 +67,8 @@ values_of (request.Button proxy m) = button.values_of m
 values_of (request.Keyboard proxy m) = keyboard.values_of m
 values_of (request.Touchscreen proxy m) = touchscreen.values_of m
 values_of (request.Text proxy m) = text.values_of m
+
+-- the object that the request announces
+abbrev pub announced_of : Request → Option ObjectView
+announced_of (request.Connection proxy m) = connection.announced_of m
+announced_of m = None

@@ -2,13 +2,13 @@
 
 ghost use Rattle.std.specs.Prelude.{◌≡◌, IfOk, OnErr, false, codes, [], ◌∷◌};
 ghost use Rattle.std.specs.Option.{option_copied};
-ghost use Rattle.ei_backend.specs.Proxies.{Word, Long, ReadsRow, Shows, Sends, SendsText, SendsNew};
+ghost use Rattle.ei_backend.specs.Proxies.{Word, Long, Announced, ReadsRow, Shows, Sends, SendsText, SendsNew};
 ghost use Rattle.ei_spec.specs.Value.{IsOf, Nullable};
 ghost use Rattle.ei_spec.specs.Reading.{or_null};
 ghost use Rattle.ei_spec.specs.declared.interface.KnownInterface.TheVariants as known;
 ghost use Rattle.ei_types.specs.Enums.{disconnect_reason_number};
 ghost use Rattle.ei_wire.specs.Gives.{value_of_arg};
-ghost use Rattle.ei_server.specs.Connection.{code_of, values_of, event};
+ghost use Rattle.ei_server.specs.Connection.{code_of, values_of, announced_of, event};
 
 use crate::callback::Callback;
 use crate::context::Context;
@@ -119,6 +119,7 @@ impl Request {
         ensures read { ReadsRow values_of false known.Connection opcode
             bytes.old bytes.new objects.old objects.new result }
         ensures code { IfOk result (λ m. code_of m ≡ opcode) }
+        ensures announced { IfOk result (λ m. Announced (announced_of m) objects.old objects.new) }
         ensures err { OnErr result (objects.new ≡ objects.old) }
     {
         match opcode {

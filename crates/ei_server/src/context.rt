@@ -7,9 +7,9 @@ ghost use Rattle.ei_backend.specs.declared.outside.LastAnswer.TheVariants as ans
 ghost use Rattle.ei_backend.specs.Outside.{Piece, Rose};
 ghost use Rattle.ei_backend.specs.Table.{found, new_table, first_server_id};
 ghost use Rattle.ei_backend.specs.Outgoing.{StopsAfter, Flushes};
-ghost use Rattle.ei_backend.specs.Backend.{new_backend, ReadsOn, ReadsPiece, Answers, Shortens, next, unsent_of, with_unsent};
+ghost use Rattle.ei_backend.specs.Backend.{new_backend, ReadsOn, ReadsPiece, Answers, Brings, Shortens, next, unsent_of, with_unsent};
 ghost use Rattle.ei_spec.specs.declared.limits.TheConstants.{MOST_MESSAGE_BYTES, MOST_PIECE_BYTES};
-ghost use Rattle.ei_server.specs.Request.{target_of, code_of, values_of};
+ghost use Rattle.ei_server.specs.Request.{target_of, code_of, values_of, announced_of};
 
 use crate::handshake::Handshake;
 use crate::request::Request;
@@ -152,6 +152,7 @@ impl Context {
     /// out. Where memory runs out, nothing changes.
     pub fn pending_request(&mut self) -> Result<Option<PendingRequestResult<Request>>, NoMemory>
         ensures ok { IfOk result (λ answer. Answers target_of code_of values_of answer self.new (next false self.old)) }
+        ensures announced { IfOk result (λ answer. Brings announced_of answer self.old.table self.new.table) }
         ensures shorter { IfOk result (λ answer. Shortens self.old.unread self.new.unread answer) }
         ensures few_left { result ≡ Ok None → length self.new.unread < MOST_MESSAGE_BYTES }
         ensures err { OnErr result (self.new ≡ self.old) }

@@ -1,7 +1,7 @@
 //! The requests of a client.
 
 ghost use Rattle.std.specs.Prelude.{◌≡◌, false};
-ghost use Rattle.ei_server.specs.Request.{target_of, code_of, values_of};
+ghost use Rattle.ei_server.specs.Request.{target_of, code_of, values_of, announced_of};
 
 use crate::button::{self, Button};
 use crate::connection::{self, Connection};
@@ -45,6 +45,8 @@ impl MessageEnum for Request {
     ghost code = { code_of };
 
     ghost values = { values_of };
+
+    ghost announced = { announced_of };
 
     fn parse(
         alloc: Global,

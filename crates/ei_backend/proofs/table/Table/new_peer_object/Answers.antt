@@ -1,6 +1,7 @@
 use Rattle.std.proofs.Common.{◌≡◌, ◌++◌, ◌∷◌, [], ap, sym, ◌∙◌, arith}
 use Rattle.ei_spec.specs.Interface.{ObjectView}
 use Rattle.ei_backend.specs.Table.{peer_end}
+use Rattle.ei_backend.proofs.GivenOnce.{accepted_as_is}
 use Rattle.ei_backend.proofs.OwnAndPeer.{peer_given, peer_stands}
 use Rattle.ei_backend.proofs.table.Table.new_peer_object.Goals as goal
 
@@ -8,6 +9,9 @@ pub returns-clause-read : goal.returns-clause-read
 returns-clause-read c =
     let row : c.push.new.self.items ≡ c.self.inside.peer.items ++ c.new-object.result ∷ [] = c.in_ok-push.ensures.items ∙ ap (λ (o : ObjectView). c.self.inside.peer.items ++ o ∷ []) c.in_ok-clone.ensures.cases in
     rw (← c.self.view_is) (peer_given _ _ _ _ _ _ _ _ c.self.invariant c.args.id c.peer_end.result _ _ c.new-object.result _ c.new-object.ensures row (omega arith) (omega arith) (c.peer_end.ensures ∙ ap peer_end (sym c.self.view_is)))
+
+pub returns-clause-announced : goal.returns-clause-announced
+returns-clause-announced c = accepted_as_is _ _ _ _ _ _ (returns-clause-read c)
 
 pub invariant_of-self-2 : goal.invariant_of-self-2
 invariant_of-self-2 c =
