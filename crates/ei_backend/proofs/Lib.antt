@@ -13,4 +13,6 @@ pub mod FrontNeeds
 pub mod Behind
 pub mod FoundAfter
 pub mod NextIs
+pub mod ShortRows
+pub mod TypedRead
 pub mod IdRoom

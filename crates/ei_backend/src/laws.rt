@@ -1,6 +1,6 @@
 //! The laws of tables, of room and of the next message. Each function does nothing: its clauses are the laws.
 
-ghost use Rattle.std.specs.Prelude.{◌≡◌, ◌≢◌, ℕ, ◌+◌, ◌<◌, ◌≤◌, Bool, List, ◌∷◌, ◌++◌, Some, None, Ok, nat_eq, length};
+ghost use Rattle.std.specs.Prelude.{◌≡◌, ◌≢◌, ℕ, ◌+◌, ◌<◌, ◌≤◌, Bool, Option, List, ◌∷◌, ◌++◌, Some, None, Ok, nat_eq, length};
 ghost use Rattle.std.specs.List.{IsDistinct, flat_map};
 ghost use Rattle.ei_spec.specs.Value.{Value, handles_of};
 ghost use Rattle.ei_spec.specs.declared.interface.KnownInterface.{KnownInterface};
@@ -8,12 +8,16 @@ ghost use Rattle.ei_spec.specs.Rows.{Row};
 ghost use Rattle.ei_spec.specs.Piece.{Piece};
 ghost use Rattle.ei_spec.specs.Message.{Raw, IsLawful, message, size, bytes_of, front, Short};
 ghost use Rattle.ei_spec.specs.Interface.{Interface, ObjectView};
-ghost use Rattle.ei_backend.specs.Table.{TableView, HasIdRoom, accept, found, own, own_start, own_limit, peer_end, with_own, without, new_table};
+ghost use Rattle.ei_backend.specs.Table.{TableView, Announced, HasIdRoom, accept, found, own, own_start, own_limit, peer_end, with_own, without, new_table};
 ghost use Rattle.ei_backend.specs.Outgoing.{HasSpare, HasRoomFor};
 ghost use Rattle.ei_backend.specs.Step.{reading};
 ghost use Rattle.ei_backend.specs.Next.{IsOfRow, HasAtFront};
-ghost use Rattle.ei_backend.specs.Backend.{BackendView, Waits, Gone, Message, next, unsent_of, sent, with_room};
+ghost use Rattle.ei_backend.specs.Backend.{BackendView, Waits, Gone, Message, Answers, Brings, next, unsent_of, sent, after_row, with_room};
+ghost use Rattle.ei_backend.specs.Typed.{piece_of, behind, new_of, HasSent, HasCome, IsRead, HandsOut};
 ghost use Rattle.ei_backend.specs.Growth.{Step, grown, made_by, table_grown, ids_given, IsKnownId};
+ghost use Rattle.ei_backend.specs.declared.message.PendingRequestResult.{PendingRequestResult};
+
+use crate::message::MessageEnum;
 
 /// Ids only rise, and none is given twice.
 pub fn tables()
@@ -58,4 +62,26 @@ pub fn next_messages()
         next events b ≡ (Gone m.id, reading rest b.handles b.table b) }
     ensures waits { (events : Bool) (b : BackendView) → front b.unread ≡ Short → next events b ≡ (Waits, b) }
     ensures few_left { (events : Bool) (b c : BackendView) → next events b ≡ (Waits, c) → length b.unread < 1048576 }
+{}
+
+/// A typed message that was written is read as it was sent: the sender's own facts suffice, where what it added is at the
+/// front of what the other end hasn't read, and the target is there.
+pub fn typed_messages()
+    ensures written { (r : ℕ × Row) (target : ObjectView) (values : List Value) (b : BackendView) →
+        unsent_of (after_row (Some r) target values b) ≡ behind (unsent_of b) (piece_of target.id r.0 values) }
+    ensures read { (events : Bool) (interface : KnownInterface) (name : List ℕ) (r : ℕ × Row) (target there : ObjectView) (values : List Value)
+        (added rest : Piece) (before after reader : BackendView) → HasSent events interface name r target values before after →
+        HasCome interface r target there values added rest before after reader →
+        (left : BackendView) × IsRead events r there values rest before reader left }
+    // the table before and the one after say which object was announced
+    ensures once { (t u : TableView) (x y : Option ObjectView) → Announced x t u → Announced y t u → x ≡ y }
+{}
+
+/// So what is handed out is the message that was sent, with the very object that it announces.
+pub fn handed_out<T: MessageEnum>()
+    ensures sent { (interface : KnownInterface) (name : List ℕ) (r : ℕ × Row) (target there : ObjectView) (values : List Value) (added rest : Piece)
+        (before after reader left : BackendView) (answer : Option (PendingRequestResult T)) →
+        HasSent T.events interface name r target values before after → HasCome interface r target there values added rest before after reader →
+        Answers T.target T.code T.values answer left (next T.events reader) → Brings T.announced answer reader.table left.table →
+        HandsOut T.target T.code T.values T.announced there r.0 values (new_of r.1 values reader.table.client) answer }
 {}

@@ -27,7 +27,7 @@ pub use ei_spec::limits::FIRST_SERVER_ID;
 pub use has_backend::HasBackend;
 pub use interface::InterfaceName;
 pub use kinds::{Kind, shown_name};
-pub use laws::{bursts, next_messages, tables};
+pub use laws::{bursts, handed_out, next_messages, tables, typed_messages};
 pub use memory_text::MemoryText;
 pub use message::{MessageEnum, PendingRequestResult};
 pub use object::Object;

@@ -1,3 +1,1 @@
 mod NameAgain
-mod ByName
-mod ReadAgain

@@ -12,4 +12,3 @@ pub mod Keyboard
 pub mod Touchscreen
 pub mod Text
 pub mod Event
-pub mod Agree
