@@ -101,18 +101,23 @@ AreTargets before m (event ∷ events) = IsTarget before m event.id × AreTarget
 
 -- ---- where objects are announced
 
--- the event that announces an object
-abbrev pub announced_as : Setup → ℕ → ℕ → Option ℕ → KnownInterface → Raw
-announced_as setup id v device known.Connection = connection_event 0 setup.serial id
-announced_as setup id v device known.Seat = seat_event connection_id id v
-announced_as setup id v device known.Device = device_event id v
-announced_as setup id v (Some device) interface = interface_event device id interface v
-announced_as setup id v None interface = greeting
+-- the event that announces an object: the connection, the seat, a device, or an interface of a device
+abbrev pub announced_as : Setup → ℕ → ℕ → Option ℕ → KnownInterface → Option Raw
+announced_as setup id v device known.Connection = Some (connection_event 0 setup.serial id)
+announced_as setup id v device known.Seat = Some (seat_event connection_id id v)
+announced_as setup id v device known.Device = Some (device_event id v)
+announced_as setup id v (Some device) interface = Some (interface_event device id interface v)
+announced_as setup id v None interface = None
 
-abbrev pub announcement : Setup → ℕ → Entry → Raw
+abbrev pub announcement : Setup → ℕ → Entry → Option Raw
 announcement setup id e = announced_as setup id e.version e.device e.interface
 
 -- the event is one of these
 abbrev pub IsAmong : Raw → List Raw → Type 0
 IsAmong event [] = ⊥
 IsAmong event (x ∷ xs) = (x ≡ event) ⊎ IsAmong event xs
+
+-- there is such an event, and it is one of these
+abbrev pub IsSaid : Option Raw → List Raw → Type 0
+IsSaid None events = ⊥
+IsSaid (Some event) events = IsAmong event events

@@ -30,7 +30,7 @@ ghost use Rattle.ei_session.specs.Requests.{Request, Plain, Bind, RequestDevice,
 ghost use Rattle.ei_session.specs.Requests.{is_heard, item, slot, framed};
 ghost use Rattle.ei_session.specs.Replies.{finish_events, replies as replies_built};
 ghost use Rattle.ei_session.specs.Events.{invalid_object_event, callback_event, device_events, destroyed_event, destroyed_events, reply, replies, AreTargets};
-ghost use Rattle.ei_session.specs.Events.{announcement, IsAmong};
+ghost use Rattle.ei_session.specs.Events.{announcement, IsSaid};
 ghost use Rattle.ei_session.specs.Served.{AreUnrefused, accepted, reading_of, read_first, is_over, over_at, at_end, session};
 ghost use Rattle.ei_spec.specs.declared.limits.TheConstants.{MOST_MESSAGE_BYTES, MOST_TOUCHES};
 
@@ -199,7 +199,7 @@ pub fn interfaces_after()
 pub fn targets()
     ensures targets { (setup : Setup) (before : List Raw) (m : Raw) → AreTargets before m (reply setup before m) }
     ensures announced { (setup : Setup) (past : List Raw) (id : ℕ) (e : Entry) → occurs exhausts past ≡ false → id ≢ 0 → object past id ≡ Some e →
-        IsAmong (announcement setup id e) (replies setup past) }
+        IsSaid (announcement setup id e) (replies setup past) }
     ensures callback { (setup : Setup) (before : List Raw) (m : Raw) (c : ℕ) → refusal setup before m ≡ None → synced before m ≡ Some c →
         (0 < c) × (c < connection_id) × (occurs (λ b x. is_at_most c (synced b x)) before ≡ false) }
     ensures lasts { (setup : Setup) (past : List Raw) → AreOpen (judge setup) past → occurs exhausts past ≡ false }
