@@ -1,18 +1,17 @@
-//! The client's end: its proxies, and its requests, each sent once as the table has them.
+//! The client's end: its proxies, and its requests, each with the arguments that the table has.
 
 use crate::end::{End, HALF, MINUS_ONE, ONE, TWO};
 use crate::proxies::shown;
 use crate::targets::proxy;
-use ei_backend::{Object, PendingRequestResult, Pieces, Tray};
+use ei_backend::{Interface, Kind, Object, PendingRequestResult, Pieces, Tray, kinds};
 use ei_client::{
-    Button, Callback, Connection, Context, Device, Event, Handshake, Keyboard, Pingpong, Pointer,
-    PointerAbsolute, Scroll, Seat, Text, Touchscreen,
+    Button, Connection, Context, Device, Event, Handshake, Keyboard, Pingpong, Pointer,
+    PointerAbsolute, Proxy, Scroll, Seat, Text, Touchscreen, connection, device, handshake, seat,
 };
 use ei_spec::KnownInterface;
 use ei_types::{ButtonState, ContextType, KeyState};
-use ei_wire::{FlushError, NoMemory, ReadError};
-use std::alloc::Global;
-use std::test::Fail;
+use ei_wire::{FlushError, NoMemory, ReadError, SendError};
+use std::alloc::{AllocError, Global};
 
 impl End for Context {
     type Message = Event;
@@ -39,134 +38,213 @@ impl End for Context {
         self.unread_len()
     }
 
-    fn send_all(&mut self) -> Result<(), Fail> {
-        send_all(self)
+    fn send(&mut self, interface: KnownInterface, opcode: u32) -> Result<(), SendError> {
+        match interface {
+            KnownInterface::Handshake => send_handshake(self, opcode),
+            KnownInterface::Connection => send_connection(self, opcode),
+            KnownInterface::Callback => Ok(()),
+            KnownInterface::Pingpong => send_ping(self, opcode),
+            KnownInterface::Seat => send_seat(self, opcode),
+            KnownInterface::Device => send_device(self, opcode),
+            KnownInterface::Pointer => send_pointer(self, opcode),
+            KnownInterface::PointerAbsolute => send_absolute(self, opcode),
+            KnownInterface::Scroll => send_scroll(self, opcode),
+            KnownInterface::Button => send_button(self, opcode),
+            KnownInterface::Keyboard => send_keyboard(self, opcode),
+            KnownInterface::Touchscreen => send_touchscreen(self, opcode),
+            KnownInterface::Text => send_text(self, opcode),
+        }
     }
 
-    fn proxy_text(&self, alloc: Global, object: Object) -> Result<String, Fail> {
+    fn announced(message: &Event) -> Option<&Object> {
+        match message {
+            Event::Handshake(_, handshake::Event::Connection { connection, .. }) => {
+                Some(connection.as_object())
+            }
+            Event::Connection(_, connection::Event::Seat { seat }) => Some(seat.as_object()),
+            Event::Connection(_, connection::Event::Ping { ping }) => Some(ping.as_object()),
+            Event::Seat(_, seat::Event::Device { device }) => Some(device.as_object()),
+            Event::Device(_, device::Event::Interface { object }) => Some(object),
+            _ => None,
+        }
+    }
+
+    fn proxy_text(&self, alloc: Global, object: Object) -> Result<Option<String>, AllocError> {
         match KnownInterface::from_name(object.interface()) {
-            Some(KnownInterface::Handshake) => shown::<Handshake, Context>(alloc, self, object),
-            Some(KnownInterface::Connection) => shown::<Connection, Context>(alloc, self, object),
-            Some(KnownInterface::Callback) => shown::<Callback, Context>(alloc, self, object),
-            Some(KnownInterface::Pingpong) => shown::<Pingpong, Context>(alloc, self, object),
-            Some(KnownInterface::Seat) => shown::<Seat, Context>(alloc, self, object),
-            Some(KnownInterface::Device) => shown::<Device, Context>(alloc, self, object),
-            Some(KnownInterface::Pointer) => shown::<Pointer, Context>(alloc, self, object),
-            Some(KnownInterface::PointerAbsolute) => shown::<PointerAbsolute, Context>(
-                alloc, self, object,
-            ),
-            Some(KnownInterface::Scroll) => shown::<Scroll, Context>(alloc, self, object),
-            Some(KnownInterface::Button) => shown::<Button, Context>(alloc, self, object),
-            Some(KnownInterface::Keyboard) => shown::<Keyboard, Context>(alloc, self, object),
-            Some(KnownInterface::Touchscreen) => shown::<Touchscreen, Context>(alloc, self, object),
-            Some(KnownInterface::Text) => shown::<Text, Context>(alloc, self, object),
-            None => Err("another interface")?,
+            Some(KnownInterface::Handshake) => text_of::<kinds::Handshake>(alloc, self, object),
+            Some(KnownInterface::Connection) => text_of::<kinds::Connection>(alloc, self, object),
+            Some(KnownInterface::Callback) => text_of::<kinds::Callback>(alloc, self, object),
+            Some(KnownInterface::Pingpong) => text_of::<kinds::Pingpong>(alloc, self, object),
+            Some(KnownInterface::Seat) => text_of::<kinds::Seat>(alloc, self, object),
+            Some(KnownInterface::Device) => text_of::<kinds::Device>(alloc, self, object),
+            Some(KnownInterface::Pointer) => text_of::<kinds::Pointer>(alloc, self, object),
+            Some(KnownInterface::PointerAbsolute) => {
+                text_of::<kinds::PointerAbsolute>(alloc, self, object)
+            }
+            Some(KnownInterface::Scroll) => text_of::<kinds::Scroll>(alloc, self, object),
+            Some(KnownInterface::Button) => text_of::<kinds::Button>(alloc, self, object),
+            Some(KnownInterface::Keyboard) => text_of::<kinds::Keyboard>(alloc, self, object),
+            Some(KnownInterface::Touchscreen) => {
+                text_of::<kinds::Touchscreen>(alloc, self, object)
+            }
+            Some(KnownInterface::Text) => text_of::<kinds::Text>(alloc, self, object),
+            None => Ok(None),
         }
     }
 }
 
-/// Sends every request.
-fn send_all(context: &mut Context) -> Result<(), Fail> {
-    send_handshake(context)?;
-    send_connection(context)?;
-    proxy::<Pingpong, Context>(context)?.done(context, 0x0102_0304_0506_0708)?;
-    send_seat(context)?;
-    send_device(context)?;
-    send_pointer(context)?;
-    send_absolute(context)?;
-    send_scroll(context)?;
-    send_button(context)?;
-    send_keyboard(context)?;
-    send_touchscreen(context)?;
-    send_text(context)
+/// The proxy of that kind over the object as a text.
+fn text_of<K: Kind + Drop>(
+    alloc: Global,
+    context: &Context,
+    object: Object,
+) -> Result<Option<String>, AllocError> {
+    shown::<Proxy<K>, Context>(alloc, context, object)
 }
 
-fn send_handshake(context: &mut Context) -> Result<(), Fail> {
-    let handshake: Handshake = proxy(context)?;
-    handshake.handshake_version(context, 4)?;
-    handshake.finish(context)?;
-    handshake.context_type(context, ContextType::Receiver)?;
-    handshake.name(context, "abc")?;
-    handshake.interface_version(context, "ab", 7)?;
-    Ok(())
+fn send_handshake(context: &mut Context, opcode: u32) -> Result<(), SendError> {
+    let Some(handshake) = proxy::<Handshake, Context>(context) else {
+        return Ok(());
+    };
+    match opcode {
+        0 => handshake.handshake_version(context, 4),
+        1 => handshake.finish(context),
+        2 => handshake.context_type(context, ContextType::Receiver),
+        3 => handshake.name(context, "abc"),
+        4 => handshake.interface_version(context, "ab", 7),
+        _ => Ok(()),
+    }
 }
 
-fn send_connection(context: &mut Context) -> Result<(), Fail> {
-    let connection: Connection = proxy(context)?;
-    connection.sync(context, 3)?;
-    connection.disconnect(context)?;
-    Ok(())
+fn send_connection(context: &mut Context, opcode: u32) -> Result<(), SendError> {
+    let Some(connection) = proxy::<Connection, Context>(context) else {
+        return Ok(());
+    };
+    match opcode {
+        0 => {
+            connection.sync(context, 3)?;
+            Ok(())
+        }
+        1 => connection.disconnect(context),
+        _ => Ok(()),
+    }
 }
 
-fn send_seat(context: &mut Context) -> Result<(), Fail> {
-    let seat: Seat = proxy(context)?;
-    seat.release(context)?;
-    seat.bind(context, 127)?;
-    seat.request_device(context, 33)?;
-    Ok(())
+fn send_ping(context: &mut Context, opcode: u32) -> Result<(), SendError> {
+    let Some(ping) = proxy::<Pingpong, Context>(context) else {
+        return Ok(());
+    };
+    match opcode {
+        0 => ping.done(context, 0x0102_0304_0506_0708),
+        _ => Ok(()),
+    }
 }
 
-fn send_device(context: &mut Context) -> Result<(), Fail> {
-    let device: Device = proxy(context)?;
-    device.release(context)?;
-    device.start_emulating(context, 5, 6)?;
-    device.stop_emulating(context, 7)?;
-    device.frame(context, 8, 1000)?;
-    device.ready(context)?;
-    Ok(())
+fn send_seat(context: &mut Context, opcode: u32) -> Result<(), SendError> {
+    let Some(seat) = proxy::<Seat, Context>(context) else {
+        return Ok(());
+    };
+    match opcode {
+        0 => seat.release(context),
+        1 => seat.bind(context, 127),
+        2 => seat.request_device(context, 33),
+        _ => Ok(()),
+    }
 }
 
-fn send_pointer(context: &mut Context) -> Result<(), Fail> {
-    let pointer: Pointer = proxy(context)?;
-    pointer.release(context)?;
-    pointer.motion_relative(context, MINUS_ONE, ONE)?;
-    Ok(())
+fn send_device(context: &mut Context, opcode: u32) -> Result<(), SendError> {
+    let Some(device) = proxy::<Device, Context>(context) else {
+        return Ok(());
+    };
+    match opcode {
+        0 => device.release(context),
+        1 => device.start_emulating(context, 5, 6),
+        2 => device.stop_emulating(context, 7),
+        3 => device.frame(context, 8, 1000),
+        4 => device.ready(context),
+        _ => Ok(()),
+    }
 }
 
-fn send_absolute(context: &mut Context) -> Result<(), Fail> {
-    let pointer: PointerAbsolute = proxy(context)?;
-    pointer.release(context)?;
-    pointer.motion_absolute(context, HALF, TWO)?;
-    Ok(())
+fn send_pointer(context: &mut Context, opcode: u32) -> Result<(), SendError> {
+    let Some(pointer) = proxy::<Pointer, Context>(context) else {
+        return Ok(());
+    };
+    match opcode {
+        0 => pointer.release(context),
+        1 => pointer.motion_relative(context, MINUS_ONE, ONE),
+        _ => Ok(()),
+    }
 }
 
-fn send_scroll(context: &mut Context) -> Result<(), Fail> {
-    let scroll: Scroll = proxy(context)?;
-    scroll.release(context)?;
-    scroll.scroll(context, TWO, MINUS_ONE)?;
-    scroll.scroll_discrete(context, -120, 120)?;
-    scroll.scroll_stop(context, 0, 1, 2)?;
-    Ok(())
+fn send_absolute(context: &mut Context, opcode: u32) -> Result<(), SendError> {
+    let Some(pointer) = proxy::<PointerAbsolute, Context>(context) else {
+        return Ok(());
+    };
+    match opcode {
+        0 => pointer.release(context),
+        1 => pointer.motion_absolute(context, HALF, TWO),
+        _ => Ok(()),
+    }
 }
 
-fn send_button(context: &mut Context) -> Result<(), Fail> {
-    let button: Button = proxy(context)?;
-    button.release(context)?;
-    button.button(context, 273, ButtonState::Released)?;
-    Ok(())
+fn send_scroll(context: &mut Context, opcode: u32) -> Result<(), SendError> {
+    let Some(scroll) = proxy::<Scroll, Context>(context) else {
+        return Ok(());
+    };
+    match opcode {
+        0 => scroll.release(context),
+        1 => scroll.scroll(context, TWO, MINUS_ONE),
+        2 => scroll.scroll_discrete(context, -120, 120),
+        3 => scroll.scroll_stop(context, 0, 1, 2),
+        _ => Ok(()),
+    }
 }
 
-fn send_keyboard(context: &mut Context) -> Result<(), Fail> {
-    let keyboard: Keyboard = proxy(context)?;
-    keyboard.release(context)?;
-    keyboard.key(context, 31, KeyState::Press)?;
-    Ok(())
+fn send_button(context: &mut Context, opcode: u32) -> Result<(), SendError> {
+    let Some(button) = proxy::<Button, Context>(context) else {
+        return Ok(());
+    };
+    match opcode {
+        0 => button.release(context),
+        1 => button.button(context, 273, ButtonState::Released),
+        _ => Ok(()),
+    }
 }
 
-fn send_touchscreen(context: &mut Context) -> Result<(), Fail> {
-    let touchscreen: Touchscreen = proxy(context)?;
-    touchscreen.release(context)?;
-    touchscreen.down(context, 11, ONE, TWO)?;
-    touchscreen.motion(context, 12, TWO, ONE)?;
-    touchscreen.up(context, 13)?;
-    touchscreen.cancel(context, 14)?;
-    Ok(())
+fn send_keyboard(context: &mut Context, opcode: u32) -> Result<(), SendError> {
+    let Some(keyboard) = proxy::<Keyboard, Context>(context) else {
+        return Ok(());
+    };
+    match opcode {
+        0 => keyboard.release(context),
+        1 => keyboard.key(context, 31, KeyState::Press),
+        _ => Ok(()),
+    }
 }
 
-fn send_text(context: &mut Context) -> Result<(), Fail> {
-    let text: Text = proxy(context)?;
-    text.release(context)?;
-    text.keysym(context, 98, KeyState::Released)?;
-    text.utf8(context, "xé")?;
-    Ok(())
+fn send_touchscreen(context: &mut Context, opcode: u32) -> Result<(), SendError> {
+    let Some(touchscreen) = proxy::<Touchscreen, Context>(context) else {
+        return Ok(());
+    };
+    match opcode {
+        0 => touchscreen.release(context),
+        1 => touchscreen.down(context, 11, ONE, TWO),
+        2 => touchscreen.motion(context, 12, TWO, ONE),
+        3 => touchscreen.up(context, 13),
+        4 => touchscreen.cancel(context, 14),
+        _ => Ok(()),
+    }
+}
+
+fn send_text(context: &mut Context, opcode: u32) -> Result<(), SendError> {
+    let Some(text) = proxy::<Text, Context>(context) else {
+        return Ok(());
+    };
+    match opcode {
+        0 => text.release(context),
+        1 => text.keysym(context, 98, KeyState::Released),
+        2 => text.utf8(context, "xé"),
+        _ => Ok(()),
+    }
 }

@@ -1,16 +1,19 @@
 //! What the table doesn't hold: an end without a text, the longest name, and proxies that an object doesn't have.
 
+use crate::end::End;
 use crate::joined::in_pieces;
+use crate::stop::Stop;
 use crate::targets::{proxy, with_targets};
-use ei_backend::{HasBackend, Interface, MessageEnum, Object, PendingRequestResult, Tray};
+use ei_backend::{
+    Backend, HasBackend, Interface, MessageEnum, Object, PendingRequestResult, Pieces, Tray,
+};
 use ei_types::DisconnectReason;
-use ei_wire::Arg;
-use std::alloc::Global;
+use ei_wire::{Arg, NoMemory, ReadError, SendError};
+use std::alloc::{AllocError, Global};
 use std::io::Print;
-use std::test::Fail;
 
 /// Shows each.
-pub(crate) fn show<R: Print + AllocGlobal>(rt: &R) -> Result<(), Fail> {
+pub(crate) fn show<R: Print + AllocGlobal>(rt: &R) -> Result<(), Stop> {
     println!(rt; "without a text: {}", without_a_text(rt.alloc())?)?;
     for count in [1048555, 1048556] {
         println!(rt;
@@ -23,49 +26,96 @@ pub(crate) fn show<R: Print + AllocGlobal>(rt: &R) -> Result<(), Fail> {
 }
 
 /// The bytes of the event that ends a connection without a text, and whether the connection is alive then.
-fn without_a_text(alloc: Global) -> Result<String, Fail> {
+fn without_a_text(alloc: Global) -> Result<String, Stop> {
     let mut server: ei_server::Context = with_targets(alloc)?;
-    let connection: ei_server::Connection = proxy(&server)?;
-    connection.disconnected(&mut server, 5, DisconnectReason::Value, None)?;
-    let digits = hex::encode(alloc, server.backend().unsent())?;
-    Ok(format!(in alloc; "{digits}, alive {}", connection.is_alive(&server))?)
+    let alive = lives_on(&mut server)?;
+    sent(alloc, server.backend(), alive)
+}
+
+/// The bytes that an end sends, and whether the connection is alive.
+fn sent(alloc: Global, backend: &Backend, alive: bool) -> Result<String, Stop> {
+    let digits = hex::encode(alloc, backend.unsent())?;
+    Ok(format!(in alloc; "{digits}, alive {alive}")?)
+}
+
+/// Whether the connection is alive once its last event is sent, without a text.
+fn lives_on(server: &mut ei_server::Context) -> Result<bool, Stop> {
+    let connection: ei_server::Connection = proxy(server).ok_or(Stop::Object)?;
+    connection.disconnected(server, 5, DisconnectReason::Value, None)?;
+    Ok(connection.is_alive(server))
 }
 
 /// A name of so many letters.
-fn long_name(alloc: Global, count: usize) -> Result<String, Fail> {
-    let mut letters = Vec::new(alloc);
-    letters.resize(count, b'a')?;
-    Ok(String::from_str(alloc, str::from_utf8(&letters)?)?)
+fn long_name(alloc: Global, count: usize) -> Result<String, AllocError> {
+    let mut name = String::new(alloc);
+    for _ in 0..count {
+        name.push('a')?;
+    }
+    Ok(name)
 }
 
 /// What becomes of a client's name of so many letters: how many bytes are sent, and how many letters are read.
-fn name_carried(alloc: Global, count: usize) -> Result<String, Fail> {
+fn name_carried(alloc: Global, count: usize) -> Result<String, Stop> {
+    let name = long_name(alloc, count)?;
     let mut client = ei_client::Context::new(alloc)?;
-    let handshake = client.handshake().ok_or("no handshake")?;
-    if let Err(error) = handshake.name(&mut client, long_name(alloc, count)?.as_str()) {
-        return Ok(format!(in alloc; "{error:?}, {} bytes sent", client.backend().unsent().len())?);
+    match send_name(&mut client, name.as_str()) {
+        Ok(()) => carried(alloc, &mut client),
+        Err(error) => unsent(alloc, &client, &error),
     }
+}
+
+/// Sends the name to the handshake.
+fn send_name(client: &mut ei_client::Context, name: &str) -> Result<(), SendError> {
+    match client.handshake() {
+        Some(handshake) => handshake.name(client, name),
+        None => Ok(()),
+    }
+}
+
+/// Why nothing is sent, and how many bytes wait.
+fn unsent(alloc: Global, client: &ei_client::Context, error: &SendError) -> Result<String, Stop> {
+    let waiting = client.backend().unsent().len();
+    Ok(format!(in alloc; "{error:?}, {waiting} bytes sent")?)
+}
+
+/// How many bytes a client sends, and how many letters are read of them.
+fn carried(alloc: Global, client: &mut ei_client::Context) -> Result<String, Stop> {
     let mut tray = Tray::new(alloc);
     client.flush(&mut tray)?;
-    let letters = letters_read(alloc, &tray)?;
+    let letters = letters_read::<ei_server::Context>(alloc, &tray)?;
     Ok(format!(in alloc; "{} bytes sent, {letters} letters read", tray.bytes().len())?)
 }
 
-/// How many letters the name has that a server reads.
-fn letters_read(alloc: Global, sent: &Tray) -> Result<usize, Fail> {
-    let mut server = ei_server::Context::new(alloc)?;
+/// How many letters the name has that an end reads.
+fn letters_read<E: End>(alloc: Global, sent: &Tray) -> Result<usize, Stop> {
+    let mut end = E::new(alloc)?;
     let mut pieces = in_pieces(alloc, sent.bytes(), sent.handles(), 65536)?;
-    for _ in sent.bytes().chunks(65536) {
-        server.read(&mut pieces)?;
+    take_all(&mut end, &mut pieces, sent.bytes())?;
+    let next = end.next()?;
+    letters_in(alloc, &next)
+}
+
+/// Lets all the bytes come.
+fn take_all<E: End>(end: &mut E, pieces: &mut Pieces, bytes: &[u8]) -> Result<(), ReadError> {
+    for _ in bytes.chunks(65536) {
+        end.read(pieces)?;
     }
-    match server.pending_request()? {
-        Some(PendingRequestResult::Request(request)) => letters_of(alloc, &request),
-        _ => Err("no request")?,
+    Ok(())
+}
+
+/// How many letters the request has that is answered.
+fn letters_in<M: MessageEnum>(
+    alloc: Global,
+    next: &Option<PendingRequestResult<M>>,
+) -> Result<usize, Stop> {
+    match next {
+        Some(PendingRequestResult::Request(message)) => Ok(letters_of(alloc, message)?),
+        _ => Err(Stop::Read),
     }
 }
 
 /// How many bytes the text of the message has.
-fn letters_of<M: MessageEnum>(alloc: Global, message: &M) -> Result<usize, Fail> {
+fn letters_of<M: MessageEnum>(alloc: Global, message: &M) -> Result<usize, NoMemory> {
     let mut count = 0usize;
     for arg in &message.args(alloc)? {
         if let Arg::String(Some(text)) = arg {
@@ -76,19 +126,20 @@ fn letters_of<M: MessageEnum>(alloc: Global, message: &M) -> Result<usize, Fail>
 }
 
 /// Whether a seat of the server has a proxy of a connection, and one of a client's seat; and a connection of the
-/// client one of a seat, and one of a server's connection.
-fn other_proxies(alloc: Global) -> Result<String, Fail> {
-    let server: ei_server::Context = with_targets(alloc)?;
-    let seat: ei_server::Seat = proxy(&server)?;
-    let client: ei_client::Context = with_targets(alloc)?;
-    let connection: ei_client::Connection = proxy(&client)?;
-    Ok(format!(in alloc;
-        "{} {} {} {}",
-        has_proxy::<ei_server::Connection>(seat.as_object().copy()),
-        has_proxy::<ei_client::Seat>(seat.as_object().copy()),
-        has_proxy::<ei_client::Seat>(connection.as_object().copy()),
-        has_proxy::<ei_server::Connection>(connection.as_object().copy())
-    )?)
+/// client one of a server's connection, and one of a seat.
+fn other_proxies(alloc: Global) -> Result<String, Stop> {
+    let seat = others::<ei_server::Context, ei_server::Seat>(alloc)?;
+    let connection = others::<ei_client::Context, ei_client::Connection>(alloc)?;
+    Ok(format!(in alloc; "{seat} {connection}")?)
+}
+
+/// Whether the object of that proxy has one of a server's connection, and one of a client's seat.
+fn others<E: End, T: Interface + Drop>(alloc: Global) -> Result<String, Stop> {
+    let end: E = with_targets(alloc)?;
+    let it: T = proxy(&end).ok_or(Stop::Object)?;
+    let connection = has_proxy::<ei_server::Connection>(it.as_object().copy());
+    let seat = has_proxy::<ei_client::Seat>(it.as_object().copy());
+    Ok(format!(in alloc; "{connection} {seat}")?)
 }
 
 /// Whether the object has a proxy of that type.

@@ -1,10 +1,10 @@
 //! An end of the protocol, as the tests see it.
 
 use ei_backend::{HasBackend, MessageEnum, Object, PendingRequestResult, Pieces, Tray};
-use ei_wire::{FlushError, NoMemory, RawFloat, ReadError};
-use std::alloc::Global;
+use ei_spec::KnownInterface;
+use ei_wire::{FlushError, NoMemory, RawFloat, ReadError, SendError};
+use std::alloc::{AllocError, Global};
 use std::fmt;
-use std::test::Fail;
 
 /// The floats that are sent: -1, 0.5, 1 and 2.
 pub(crate) const MINUS_ONE: RawFloat = RawFloat(0xbf80_0000);
@@ -34,9 +34,13 @@ pub(crate) trait End: HasBackend + Drop {
     /// How many bytes came and are not read yet.
     fn unread_len(&self) -> usize;
 
-    /// Sends each message of the end once, in the order of the table.
-    fn send_all(&mut self) -> Result<(), Fail>;
+    /// Sends the message of that opcode to the object of the interface, with the arguments that the table has.
+    /// Nothing where the interface has no such message of this end.
+    fn send(&mut self, interface: KnownInterface, opcode: u32) -> Result<(), SendError>;
 
-    /// The proxy over the object as a text.
-    fn proxy_text(&self, alloc: Global, object: Object) -> Result<String, Fail>;
+    /// The object that a message announces.
+    fn announced(message: &Self::Message) -> Option<&Object>;
+
+    /// The proxy over the object as a text: `None` where the object has none.
+    fn proxy_text(&self, alloc: Global, object: Object) -> Result<Option<String>, AllocError>;
 }

@@ -1,14 +1,15 @@
 //! One end alone over bytes, and both ends joined in memory.
 
 use crate::end::End;
-use crate::reading::{NOTHING, answer};
+use crate::reading::{answer, is_nothing};
 use crate::row::Row;
+use crate::stop::Stop;
 use crate::targets::with_targets;
 use ei_backend::{FIRST_SERVER_ID, HasBackend, Pieces, Tray};
 use ei_spec::Handle;
-use std::alloc::Global;
+use ei_wire::{NoMemory, SendError};
+use std::alloc::{AllocError, Global};
 use std::fmt::Write;
-use std::test::Fail;
 
 /// The bytes in pieces of this size, but for the last, and the handles with the first.
 pub(crate) fn in_pieces(
@@ -16,7 +17,7 @@ pub(crate) fn in_pieces(
     bytes: &[u8],
     handles: &[Handle],
     size: usize,
-) -> Result<Pieces, Fail> {
+) -> Result<Pieces, NoMemory> {
     let mut pieces = Pieces::new(alloc);
     let mut with = handles;
     for piece in bytes.chunks(size.max(1)) {
@@ -28,18 +29,24 @@ pub(crate) fn in_pieces(
     Ok(pieces)
 }
 
+/// A fresh end to which the bytes of a row came, with these handles.
+fn after<E: End>(alloc: Global, row: &Row, handles: &[Handle]) -> Result<E, Stop> {
+    let mut end: E = with_targets(alloc)?;
+    end.read(&mut in_pieces(alloc, &row.bytes, handles, 65536)?)?;
+    Ok(end)
+}
+
 /// What the bytes of a row are read as by a fresh end, with these handles: the first answer, the second where there
 /// is one, and how many bytes are left.
 pub(crate) fn read_alone<E: End>(
     alloc: Global,
     row: &Row,
     handles: &[Handle],
-) -> Result<String, Fail> {
-    let mut end: E = with_targets(alloc)?;
-    end.read(&mut in_pieces(alloc, &row.bytes, handles, 65536)?)?;
+) -> Result<String, Stop> {
+    let mut end: E = after(alloc, row, handles)?;
     let mut text = answer(alloc, &mut end)?;
     let second = answer(alloc, &mut end)?;
-    if second.as_str() != NOTHING {
+    if !is_nothing(second.as_str()) {
         write!(text, " | then {second}")?;
     }
     let left = end.unread_len();
@@ -56,16 +63,24 @@ pub(crate) struct Sent {
     pub(crate) objects: String,
 }
 
+/// Sends the message of each row, in their order.
+fn send_rows<S: End>(sender: &mut S, rows: &[Row]) -> Result<(), SendError> {
+    for row in rows {
+        if let Some((interface, opcode)) = row.message() {
+            sender.send(interface, opcode)?;
+        }
+    }
+    Ok(())
+}
+
 /// Sends all that the end has.
-pub(crate) fn send<S: End>(alloc: Global) -> Result<Sent, Fail> {
+pub(crate) fn send<S: End>(alloc: Global, rows: &[Row]) -> Result<Sent, Stop> {
     let mut sender: S = with_targets(alloc)?;
-    sender.send_all()?;
+    send_rows(&mut sender, rows)?;
     let mut tray = Tray::new(alloc);
     sender.flush(&mut tray)?;
-    Ok(Sent {
-        tray,
-        objects: objects(alloc, &sender)?,
-    })
+    let objects = objects(alloc, &sender)?;
+    Ok(Sent { tray, objects })
 }
 
 /// What an end reads: its messages as texts; how many bytes and handles are left, and its objects then.
@@ -78,7 +93,7 @@ pub(crate) struct Received {
 }
 
 /// Carries what was sent to the other end in pieces of this size.
-pub(crate) fn carried<R: End>(alloc: Global, sent: &Tray, size: usize) -> Result<Received, Fail> {
+pub(crate) fn carried<R: End>(alloc: Global, sent: &Tray, size: usize) -> Result<Received, Stop> {
     let mut reader: R = with_targets(alloc)?;
     let mut pieces = in_pieces(alloc, sent.bytes(), sent.handles(), size)?;
     let mut messages = Vec::new(alloc);
@@ -99,10 +114,10 @@ fn push_answers<R: End>(
     alloc: Global,
     messages: &mut Vec<String>,
     reader: &mut R,
-) -> Result<(), Fail> {
+) -> Result<(), Stop> {
     for _ in 0..reader.unread_len() {
         let text = answer(alloc, reader)?;
-        if text.as_str() == NOTHING {
+        if is_nothing(text.as_str()) {
             break;
         }
         messages.push(text)?;
@@ -111,7 +126,7 @@ fn push_answers<R: End>(
 }
 
 /// The objects among the first of each end.
-fn objects<E: End>(alloc: Global, end: &E) -> Result<String, Fail> {
+fn objects<E: End>(alloc: Global, end: &E) -> Result<String, AllocError> {
     let mut text = String::new(alloc);
     for id in (0..4).chain(FIRST_SERVER_ID..FIRST_SERVER_ID + 32) {
         if let Some(object) = end.backend().object_for_id(id) {

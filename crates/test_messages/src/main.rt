@@ -18,12 +18,13 @@ mod reading;
 mod row;
 mod server;
 mod sides;
+mod stop;
 mod targets;
 
 use crate::row::Table;
-use std::test::Fail;
+use crate::stop::Stop;
 
-fn main(rt: HostRuntime) -> Result<(), Fail> {
+fn main(rt: HostRuntime) -> Result<(), Stop> {
     let table = Table::from_input(&rt)?;
     sides::events(&rt, &table)?;
     sides::requests(&rt, &table)?;

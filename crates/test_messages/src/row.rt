@@ -1,14 +1,26 @@
 //! The table of messages, line by line.
 
+use crate::stop::Stop;
+use crate::targets::interface_of;
+use ei_spec::KnownInterface;
+use ei_wire::Header;
 use std::alloc::Global;
 use std::io::Input;
-use std::test::Fail;
 
 /// A message: its bytes, and what it is read as.
 #[derive(Drop)]
 pub(crate) struct Row {
     pub(crate) bytes: Vec<u8>,
     pub(crate) read_as: String,
+}
+
+impl Row {
+    /// The interface of the object that the message is to, and its opcode.
+    pub(crate) fn message(&self) -> Option<(KnownInterface, u32)> {
+        let (bytes, _) = self.bytes.split_first_chunk::<16>()?;
+        let header = Header::parse(*bytes);
+        Some((interface_of(header.object_id)?, header.opcode))
+    }
 }
 
 /// The messages of each end, and those that are only read.
@@ -22,7 +34,7 @@ pub(crate) struct Table {
 
 impl Table {
     /// The table that the input spells.
-    pub(crate) fn from_input<R: Input + AllocGlobal>(rt: &R) -> Result<Table, Fail> {
+    pub(crate) fn from_input<R: Input + AllocGlobal>(rt: &R) -> Result<Table, Stop> {
         let alloc = rt.alloc();
         let mut table = Table {
             events: Vec::new(alloc),
@@ -37,9 +49,9 @@ impl Table {
     }
 
     /// Adds a line.
-    fn push(&mut self, alloc: Global, line: &str) -> Result<(), Fail> {
-        let (front, read_as) = line.split_once(" | ").ok_or("no bar")?;
-        let (kind, digits) = front.split_once(' ').ok_or("no bytes")?;
+    fn push(&mut self, alloc: Global, line: &str) -> Result<(), Stop> {
+        let (front, read_as) = line.split_once(" | ").ok_or(Stop::Line)?;
+        let (kind, digits) = front.split_once(' ').ok_or(Stop::Line)?;
         let row = Row {
             bytes: bytes_of(alloc, digits)?,
             read_as: String::from_str(alloc, read_as)?,
@@ -49,14 +61,14 @@ impl Table {
             "request" => self.requests.push(row)?,
             "event-alone" => self.lone_events.push(row)?,
             "request-alone" => self.lone_requests.push(row)?,
-            _ => return Err("another kind of line")?,
+            _ => return Err(Stop::Line),
         }
         Ok(())
     }
 }
 
 /// The bytes of hexadecimal digits, two for each byte.
-fn bytes_of(alloc: Global, digits: &str) -> Result<Vec<u8>, Fail> {
+fn bytes_of(alloc: Global, digits: &str) -> Result<Vec<u8>, Stop> {
     let mut bytes = Vec::new(alloc);
     for word in digits.split(' ') {
         bytes.extend_from_slice(&hex::decode(alloc, word)?)?;

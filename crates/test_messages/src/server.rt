@@ -1,18 +1,17 @@
-//! The server's end: its proxies, and its events, each sent once as the table has them.
+//! The server's end: its proxies, and its events, each with the arguments that the table has.
 
 use crate::end::{End, HALF, MINUS_ONE, ONE, TWO};
 use crate::proxies::shown;
 use crate::targets::proxy;
-use ei_backend::{Object, PendingRequestResult, Pieces, Tray};
+use ei_backend::{Interface, Kind, Object, PendingRequestResult, Pieces, Tray, kinds};
 use ei_server::{
-    Button, Callback, Connection, Context, Device, Handshake, Keyboard, Pingpong, Pointer,
-    PointerAbsolute, Request, Scroll, Seat, Text, Touchscreen,
+    Button, Callback, Connection, Context, Device, Handshake, Keyboard, Pointer, PointerAbsolute,
+    Proxy, Request, Scroll, Seat, Text, Touchscreen, connection,
 };
 use ei_spec::{Handle, KnownInterface};
 use ei_types::{ButtonState, DeviceType, DisconnectReason, KeyState, KeymapType};
-use ei_wire::{FlushError, NoMemory, ReadError};
-use std::alloc::Global;
-use std::test::Fail;
+use ei_wire::{FlushError, NoMemory, ReadError, SendError};
+use std::alloc::{AllocError, Global};
 
 impl End for Context {
     type Message = Request;
@@ -39,164 +38,241 @@ impl End for Context {
         self.unread_len()
     }
 
-    fn send_all(&mut self) -> Result<(), Fail> {
-        send_all(self)
+    fn send(&mut self, interface: KnownInterface, opcode: u32) -> Result<(), SendError> {
+        match interface {
+            KnownInterface::Handshake => send_handshake(self, opcode),
+            KnownInterface::Connection => send_connection(self, opcode),
+            KnownInterface::Callback => send_callback(self, opcode),
+            KnownInterface::Pingpong => Ok(()),
+            KnownInterface::Seat => send_seat(self, opcode),
+            KnownInterface::Device => send_device(self, opcode),
+            KnownInterface::Pointer => send_pointer(self, opcode),
+            KnownInterface::PointerAbsolute => send_absolute(self, opcode),
+            KnownInterface::Scroll => send_scroll(self, opcode),
+            KnownInterface::Button => send_button(self, opcode),
+            KnownInterface::Keyboard => send_keyboard(self, opcode),
+            KnownInterface::Touchscreen => send_touchscreen(self, opcode),
+            KnownInterface::Text => send_text(self, opcode),
+        }
     }
 
-    fn proxy_text(&self, alloc: Global, object: Object) -> Result<String, Fail> {
+    fn announced(message: &Request) -> Option<&Object> {
+        match message {
+            Request::Connection(_, connection::Request::Sync { callback }) => {
+                Some(callback.as_object())
+            }
+            _ => None,
+        }
+    }
+
+    fn proxy_text(&self, alloc: Global, object: Object) -> Result<Option<String>, AllocError> {
         match KnownInterface::from_name(object.interface()) {
-            Some(KnownInterface::Handshake) => shown::<Handshake, Context>(alloc, self, object),
-            Some(KnownInterface::Connection) => shown::<Connection, Context>(alloc, self, object),
-            Some(KnownInterface::Callback) => shown::<Callback, Context>(alloc, self, object),
-            Some(KnownInterface::Pingpong) => shown::<Pingpong, Context>(alloc, self, object),
-            Some(KnownInterface::Seat) => shown::<Seat, Context>(alloc, self, object),
-            Some(KnownInterface::Device) => shown::<Device, Context>(alloc, self, object),
-            Some(KnownInterface::Pointer) => shown::<Pointer, Context>(alloc, self, object),
-            Some(KnownInterface::PointerAbsolute) => shown::<PointerAbsolute, Context>(
-                alloc, self, object,
-            ),
-            Some(KnownInterface::Scroll) => shown::<Scroll, Context>(alloc, self, object),
-            Some(KnownInterface::Button) => shown::<Button, Context>(alloc, self, object),
-            Some(KnownInterface::Keyboard) => shown::<Keyboard, Context>(alloc, self, object),
-            Some(KnownInterface::Touchscreen) => shown::<Touchscreen, Context>(alloc, self, object),
-            Some(KnownInterface::Text) => shown::<Text, Context>(alloc, self, object),
-            None => Err("another interface")?,
+            Some(KnownInterface::Handshake) => text_of::<kinds::Handshake>(alloc, self, object),
+            Some(KnownInterface::Connection) => text_of::<kinds::Connection>(alloc, self, object),
+            Some(KnownInterface::Callback) => text_of::<kinds::Callback>(alloc, self, object),
+            Some(KnownInterface::Pingpong) => text_of::<kinds::Pingpong>(alloc, self, object),
+            Some(KnownInterface::Seat) => text_of::<kinds::Seat>(alloc, self, object),
+            Some(KnownInterface::Device) => text_of::<kinds::Device>(alloc, self, object),
+            Some(KnownInterface::Pointer) => text_of::<kinds::Pointer>(alloc, self, object),
+            Some(KnownInterface::PointerAbsolute) => {
+                text_of::<kinds::PointerAbsolute>(alloc, self, object)
+            }
+            Some(KnownInterface::Scroll) => text_of::<kinds::Scroll>(alloc, self, object),
+            Some(KnownInterface::Button) => text_of::<kinds::Button>(alloc, self, object),
+            Some(KnownInterface::Keyboard) => text_of::<kinds::Keyboard>(alloc, self, object),
+            Some(KnownInterface::Touchscreen) => {
+                text_of::<kinds::Touchscreen>(alloc, self, object)
+            }
+            Some(KnownInterface::Text) => text_of::<kinds::Text>(alloc, self, object),
+            None => Ok(None),
         }
     }
 }
 
-/// Sends every event.
-fn send_all(context: &mut Context) -> Result<(), Fail> {
-    send_handshake(context)?;
-    send_connection(context)?;
-    proxy::<Callback, Context>(context)?.done(context, 0x0102_0304_0506_0708)?;
-    send_seat(context)?;
-    send_device(context)?;
-    send_pointer(context)?;
-    send_absolute(context)?;
-    send_scroll(context)?;
-    send_button(context)?;
-    send_keyboard(context)?;
-    send_touchscreen(context)?;
-    send_text(context)
+/// The proxy of that kind over the object as a text.
+fn text_of<K: Kind + Drop>(
+    alloc: Global,
+    context: &Context,
+    object: Object,
+) -> Result<Option<String>, AllocError> {
+    shown::<Proxy<K>, Context>(alloc, context, object)
 }
 
-fn send_handshake(context: &mut Context) -> Result<(), Fail> {
-    let handshake: Handshake = proxy(context)?;
-    handshake.handshake_version(context, 3)?;
-    handshake.interface_version(context, "ab", 7)?;
-    handshake.connection(context, 9, 4)?;
-    Ok(())
+fn send_handshake(context: &mut Context, opcode: u32) -> Result<(), SendError> {
+    let Some(handshake) = proxy::<Handshake, Context>(context) else {
+        return Ok(());
+    };
+    match opcode {
+        0 => handshake.handshake_version(context, 3),
+        1 => handshake.interface_version(context, "ab", 7),
+        2 => {
+            handshake.connection(context, 9, 4)?;
+            Ok(())
+        }
+        _ => Ok(()),
+    }
 }
 
-fn send_connection(context: &mut Context) -> Result<(), Fail> {
-    let connection: Connection = proxy(context)?;
-    connection.seat(context, 2)?;
-    connection.invalid_object(context, 5, 0x0102_0304_0506_0708)?;
-    connection.ping(context, 6)?;
-    connection.disconnected(context, 6, DisconnectReason::Protocol, Some("abcd"))?;
-    Ok(())
+fn send_connection(context: &mut Context, opcode: u32) -> Result<(), SendError> {
+    let Some(connection) = proxy::<Connection, Context>(context) else {
+        return Ok(());
+    };
+    match opcode {
+        0 => connection.disconnected(context, 6, DisconnectReason::Protocol, Some("abcd")),
+        1 => {
+            connection.seat(context, 2)?;
+            Ok(())
+        }
+        2 => connection.invalid_object(context, 5, 0x0102_0304_0506_0708),
+        3 => {
+            connection.ping(context, 6)?;
+            Ok(())
+        }
+        _ => Ok(()),
+    }
 }
 
-fn send_seat(context: &mut Context) -> Result<(), Fail> {
-    let seat: Seat = proxy(context)?;
-    seat.name(context, "a")?;
-    seat.capability(context, 32, "ab")?;
-    seat.done(context)?;
-    seat.device(context, 3)?;
-    seat.destroyed(context, 4)?;
-    Ok(())
+fn send_callback(context: &mut Context, opcode: u32) -> Result<(), SendError> {
+    let Some(callback) = proxy::<Callback, Context>(context) else {
+        return Ok(());
+    };
+    match opcode {
+        0 => callback.done(context, 0x0102_0304_0506_0708),
+        _ => Ok(()),
+    }
 }
 
-fn send_device(context: &mut Context) -> Result<(), Fail> {
-    let device: Device = proxy(context)?;
-    describe(context, &device)?;
-    offer(context, &device)?;
-    emulate(context, &device)?;
-    device.destroyed(context, 14)?;
-    Ok(())
+fn send_seat(context: &mut Context, opcode: u32) -> Result<(), SendError> {
+    let Some(seat) = proxy::<Seat, Context>(context) else {
+        return Ok(());
+    };
+    match opcode {
+        0 => seat.destroyed(context, 4),
+        1 => seat.name(context, "a"),
+        2 => seat.capability(context, 32, "ab"),
+        3 => seat.done(context),
+        4 => {
+            seat.device(context, 3)?;
+            Ok(())
+        }
+        _ => Ok(()),
+    }
 }
 
-/// What a device is.
-fn describe(context: &mut Context, device: &Device) -> Result<(), Fail> {
-    device.name(context, "abc")?;
-    device.device_type(context, DeviceType::Virtual)?;
-    device.dimensions(context, 1920, 1080)?;
-    device.region(context, 10, 20, 30, 40, ONE)?;
-    Ok(())
+fn send_device(context: &mut Context, opcode: u32) -> Result<(), SendError> {
+    let Some(device) = proxy::<Device, Context>(context) else {
+        return Ok(());
+    };
+    match opcode {
+        0 => device.destroyed(context, 14),
+        1 => device.name(context, "abc"),
+        2 => device.device_type(context, DeviceType::Virtual),
+        3 => device.dimensions(context, 1920, 1080),
+        4 => device.region(context, 10, 20, 30, 40, ONE),
+        5 => {
+            device.interface::<Pointer>(context, 8)?;
+            Ok(())
+        }
+        _ => emulate(context, &device, opcode),
+    }
 }
 
-/// What a device has, and whether it takes input.
-fn offer(context: &mut Context, device: &Device) -> Result<(), Fail> {
-    device.interface::<Pointer>(context, 8)?;
-    device.done(context)?;
-    device.resumed(context, 5)?;
-    device.paused(context, 6)?;
-    Ok(())
+/// What is sent of a device that is described: that it is, whether it takes input, and of its input what the server
+/// itself sends; and the name of a region.
+fn emulate(context: &mut Context, device: &Device, opcode: u32) -> Result<(), SendError> {
+    match opcode {
+        6 => device.done(context),
+        7 => device.resumed(context, 5),
+        8 => device.paused(context, 6),
+        9 => device.start_emulating(context, 7, 12),
+        10 => device.stop_emulating(context, 11),
+        11 => device.frame(context, 13, 1000),
+        12 => device.region_mapping_id(context, "ab"),
+        _ => Ok(()),
+    }
 }
 
-/// What the server itself sends of a device's input, and the name of a region.
-fn emulate(context: &mut Context, device: &Device) -> Result<(), Fail> {
-    device.start_emulating(context, 7, 12)?;
-    device.stop_emulating(context, 11)?;
-    device.frame(context, 13, 1000)?;
-    device.region_mapping_id(context, "ab")?;
-    Ok(())
+fn send_pointer(context: &mut Context, opcode: u32) -> Result<(), SendError> {
+    let Some(pointer) = proxy::<Pointer, Context>(context) else {
+        return Ok(());
+    };
+    match opcode {
+        0 => pointer.destroyed(context, 15),
+        1 => pointer.motion_relative(context, ONE, MINUS_ONE),
+        _ => Ok(()),
+    }
 }
 
-fn send_pointer(context: &mut Context) -> Result<(), Fail> {
-    let pointer: Pointer = proxy(context)?;
-    pointer.motion_relative(context, ONE, MINUS_ONE)?;
-    pointer.destroyed(context, 15)?;
-    Ok(())
+fn send_absolute(context: &mut Context, opcode: u32) -> Result<(), SendError> {
+    let Some(pointer) = proxy::<PointerAbsolute, Context>(context) else {
+        return Ok(());
+    };
+    match opcode {
+        0 => pointer.destroyed(context, 16),
+        1 => pointer.motion_absolute(context, TWO, HALF),
+        _ => Ok(()),
+    }
 }
 
-fn send_absolute(context: &mut Context) -> Result<(), Fail> {
-    let pointer: PointerAbsolute = proxy(context)?;
-    pointer.motion_absolute(context, TWO, HALF)?;
-    pointer.destroyed(context, 16)?;
-    Ok(())
+fn send_scroll(context: &mut Context, opcode: u32) -> Result<(), SendError> {
+    let Some(scroll) = proxy::<Scroll, Context>(context) else {
+        return Ok(());
+    };
+    match opcode {
+        0 => scroll.destroyed(context, 17),
+        1 => scroll.scroll(context, MINUS_ONE, TWO),
+        2 => scroll.scroll_discrete(context, 120, -120),
+        3 => scroll.scroll_stop(context, 1, 0, 2),
+        _ => Ok(()),
+    }
 }
 
-fn send_scroll(context: &mut Context) -> Result<(), Fail> {
-    let scroll: Scroll = proxy(context)?;
-    scroll.scroll(context, MINUS_ONE, TWO)?;
-    scroll.scroll_discrete(context, 120, -120)?;
-    scroll.scroll_stop(context, 1, 0, 2)?;
-    scroll.destroyed(context, 17)?;
-    Ok(())
+fn send_button(context: &mut Context, opcode: u32) -> Result<(), SendError> {
+    let Some(button) = proxy::<Button, Context>(context) else {
+        return Ok(());
+    };
+    match opcode {
+        0 => button.destroyed(context, 18),
+        1 => button.button(context, 272, ButtonState::Press),
+        _ => Ok(()),
+    }
 }
 
-fn send_button(context: &mut Context) -> Result<(), Fail> {
-    let button: Button = proxy(context)?;
-    button.button(context, 272, ButtonState::Press)?;
-    button.destroyed(context, 18)?;
-    Ok(())
+fn send_keyboard(context: &mut Context, opcode: u32) -> Result<(), SendError> {
+    let Some(keyboard) = proxy::<Keyboard, Context>(context) else {
+        return Ok(());
+    };
+    match opcode {
+        0 => keyboard.destroyed(context, 21),
+        1 => keyboard.keymap(context, KeymapType::Xkb, 19, Handle(7)),
+        2 => keyboard.key(context, 30, KeyState::Released),
+        3 => keyboard.modifiers(context, 20, 1, 2, 4, 6),
+        _ => Ok(()),
+    }
 }
 
-fn send_keyboard(context: &mut Context) -> Result<(), Fail> {
-    let keyboard: Keyboard = proxy(context)?;
-    keyboard.keymap(context, KeymapType::Xkb, 19, Handle(7))?;
-    keyboard.key(context, 30, KeyState::Released)?;
-    keyboard.modifiers(context, 20, 1, 2, 4, 6)?;
-    keyboard.destroyed(context, 21)?;
-    Ok(())
+fn send_touchscreen(context: &mut Context, opcode: u32) -> Result<(), SendError> {
+    let Some(touchscreen) = proxy::<Touchscreen, Context>(context) else {
+        return Ok(());
+    };
+    match opcode {
+        0 => touchscreen.destroyed(context, 26),
+        1 => touchscreen.down(context, 22, ONE, MINUS_ONE),
+        2 => touchscreen.motion(context, 23, TWO, HALF),
+        3 => touchscreen.up(context, 24),
+        4 => touchscreen.cancel(context, 25),
+        _ => Ok(()),
+    }
 }
 
-fn send_touchscreen(context: &mut Context) -> Result<(), Fail> {
-    let touchscreen: Touchscreen = proxy(context)?;
-    touchscreen.down(context, 22, ONE, MINUS_ONE)?;
-    touchscreen.motion(context, 23, TWO, HALF)?;
-    touchscreen.up(context, 24)?;
-    touchscreen.cancel(context, 25)?;
-    touchscreen.destroyed(context, 26)?;
-    Ok(())
-}
-
-fn send_text(context: &mut Context) -> Result<(), Fail> {
-    let text: Text = proxy(context)?;
-    text.keysym(context, 97, KeyState::Press)?;
-    text.utf8(context, "é")?;
-    text.destroyed(context, 27)?;
-    Ok(())
+fn send_text(context: &mut Context, opcode: u32) -> Result<(), SendError> {
+    let Some(text) = proxy::<Text, Context>(context) else {
+        return Ok(());
+    };
+    match opcode {
+        0 => text.destroyed(context, 27),
+        1 => text.keysym(context, 97, KeyState::Press),
+        2 => text.utf8(context, "é"),
+        _ => Ok(()),
+    }
 }

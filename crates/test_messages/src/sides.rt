@@ -3,16 +3,16 @@
 use crate::end::End;
 use crate::joined::{Received, carried, read_alone, send};
 use crate::row::{Row, Table};
+use crate::stop::Stop;
 use ei_backend::Tray;
 use ei_spec::Handle;
 use std::io::Print;
-use std::test::Fail;
 
 /// The sizes of the pieces in which the bytes come.
 const SIZES: [usize; 3] = [1, 5, 65536];
 
 /// The server sends, the client reads.
-pub(crate) fn events<R: Print + AllocGlobal>(rt: &R, table: &Table) -> Result<(), Fail> {
+pub(crate) fn events<R: Print + AllocGlobal>(rt: &R, table: &Table) -> Result<(), Stop> {
     println!(rt; "events")?;
     show_alone::<ei_client::Context, R>(rt, &table.lone_events, &[])?;
     show_alone::<ei_client::Context, R>(rt, &table.events, &[Handle(7)])?;
@@ -20,7 +20,7 @@ pub(crate) fn events<R: Print + AllocGlobal>(rt: &R, table: &Table) -> Result<()
 }
 
 /// The client sends, the server reads.
-pub(crate) fn requests<R: Print + AllocGlobal>(rt: &R, table: &Table) -> Result<(), Fail> {
+pub(crate) fn requests<R: Print + AllocGlobal>(rt: &R, table: &Table) -> Result<(), Stop> {
     println!(rt; "requests")?;
     show_alone::<ei_server::Context, R>(rt, &table.lone_requests, &[])?;
     show_alone::<ei_server::Context, R>(rt, &table.requests, &[])?;
@@ -32,7 +32,7 @@ fn show_alone<E: End, R: Print + AllocGlobal>(
     rt: &R,
     rows: &[Row],
     handles: &[Handle],
-) -> Result<(), Fail> {
+) -> Result<(), Stop> {
     let mut right = 0usize;
     for row in rows {
         let text = read_alone::<E>(rt.alloc(), row, handles)?;
@@ -45,7 +45,7 @@ fn show_alone<E: End, R: Print + AllocGlobal>(
 }
 
 /// Whether the text is what the row is read as. Shows both where it isn't.
-fn is_right<R: Print>(rt: &R, row: &Row, text: &str) -> Result<bool, Fail> {
+fn is_right<R: Print>(rt: &R, row: &Row, text: &str) -> Result<bool, Stop> {
     let right = text == row.read_as.as_str();
     if !right {
         println!(rt; "wanted {}", row.read_as)?;
@@ -56,8 +56,8 @@ fn is_right<R: Print>(rt: &R, row: &Row, text: &str) -> Result<bool, Fail> {
 
 /// Shows how many rows are sent as they should be, and how many are read by the other end in pieces of each size;
 /// the handles that are sent; and the objects of both ends afterwards.
-fn show_joined<S: End, E: End, R: Print + AllocGlobal>(rt: &R, rows: &[Row]) -> Result<(), Fail> {
-    let sent = send::<S>(rt.alloc())?;
+fn show_joined<S: End, E: End, R: Print + AllocGlobal>(rt: &R, rows: &[Row]) -> Result<(), Stop> {
+    let sent = send::<S>(rt.alloc(), rows)?;
     show_sent(rt, rows, &sent.tray)?;
     println!(rt; "objects of the sender{}", sent.objects)?;
     for size in SIZES {
@@ -69,7 +69,7 @@ fn show_joined<S: End, E: End, R: Print + AllocGlobal>(rt: &R, rows: &[Row]) -> 
 }
 
 /// Shows how many rows are sent as they should be, and each handle.
-fn show_sent<R: Print>(rt: &R, rows: &[Row], tray: &Tray) -> Result<(), Fail> {
+fn show_sent<R: Print>(rt: &R, rows: &[Row], tray: &Tray) -> Result<(), Stop> {
     let mut rest = tray.bytes();
     let mut right = 0usize;
     for row in rows {
@@ -89,7 +89,7 @@ fn show_sent<R: Print>(rt: &R, rows: &[Row], tray: &Tray) -> Result<(), Fail> {
 }
 
 /// Shows how many of the rows were read, one after another, what is left, and the objects then.
-fn show_received<R: Print>(rt: &R, rows: &[Row], received: &Received) -> Result<(), Fail> {
+fn show_received<R: Print>(rt: &R, rows: &[Row], received: &Received) -> Result<(), Stop> {
     let mut right = 0usize;
     for (row, text) in rows.iter().zip(&received.messages) {
         if is_right(rt, row, text.as_str())? {

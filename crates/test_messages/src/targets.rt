@@ -1,10 +1,10 @@
 //! The objects that the messages are to: one of each interface, at both ends under the same id.
 
 use crate::end::End;
+use crate::stop::Stop;
 use ei_backend::{FIRST_SERVER_ID, HasBackend, Interface, InterfaceName};
 use ei_spec::KnownInterface;
 use std::alloc::Global;
-use std::test::Fail;
 
 /// An object.
 pub(crate) struct Target {
@@ -15,7 +15,7 @@ pub(crate) struct Target {
 
 /// The object of each interface. The handshake is there from the first, in version 1; the callback is the client's,
 /// and the others are the server's. Their versions are none of the protocol, and all differ.
-pub(crate) const TARGETS: [Target; 13] = [
+const TARGETS: [Target; 13] = [
     Target {
         interface: KnownInterface::Handshake,
         id: 0,
@@ -83,33 +83,49 @@ pub(crate) const TARGETS: [Target; 13] = [
     },
 ];
 
+/// All of them.
+pub(crate) fn targets() -> &'static [Target] {
+    &TARGETS
+}
+
 /// A fresh end with all of them.
-pub(crate) fn with_targets<E: End>(alloc: Global) -> Result<E, Fail> {
+pub(crate) fn with_targets<E: End>(alloc: Global) -> Result<E, Stop> {
     let mut end = E::new(alloc)?;
-    for target in &TARGETS {
-        if target.interface != KnownInterface::Handshake {
-            put(&mut end, target)?;
+    for target in targets() {
+        if target.id != 0 && !puts(&mut end, target) {
+            return Err(Stop::Object);
         }
     }
     Ok(end)
 }
 
-/// Puts the object into the table, as its own one or as the other end's.
-fn put<E: End>(end: &mut E, target: &Target) -> Result<(), Fail> {
+/// Puts the object into the table, as its own one or as the other end's, and says whether it is there.
+fn puts<E: End>(end: &mut E, target: &Target) -> bool {
     let name = InterfaceName::Known(target.interface);
     let backend = end.backend_mut();
     if (target.id >= FIRST_SERVER_ID) == E::IS_CLIENT {
-        backend.new_peer_object(target.id, name, target.version)?;
+        backend
+            .new_peer_object(target.id, name, target.version)
+            .is_ok()
     } else {
-        backend.new_object(name, target.version)?;
+        backend.new_object(name, target.version).is_ok()
     }
-    Ok(())
 }
 
-/// The id of the object of the interface of that name.
-fn id_of(name: &str) -> Option<u64> {
-    for target in &TARGETS {
-        if target.interface.name() == name {
+/// The interface of the object of that id.
+pub(crate) fn interface_of(id: u64) -> Option<KnownInterface> {
+    for target in targets() {
+        if target.id == id {
+            return Some(target.interface);
+        }
+    }
+    None
+}
+
+/// The id of the object of that interface.
+fn id_of(interface: KnownInterface) -> Option<u64> {
+    for target in targets() {
+        if target.interface == interface {
             return Some(target.id);
         }
     }
@@ -117,8 +133,7 @@ fn id_of(name: &str) -> Option<u64> {
 }
 
 /// The proxy of this type over the object of its interface.
-pub(crate) fn proxy<T: Interface, C: HasBackend>(context: &C) -> Result<T, Fail> {
-    let id = id_of(T::wire_name()).ok_or("no such interface")?;
-    let object = context.backend().object_for_id(id).ok_or("no object")?;
-    Ok(object.clone()?.downcast::<T>().ok_or("another interface")?)
+pub(crate) fn proxy<T: Interface, C: HasBackend>(context: &C) -> Option<T> {
+    let object = context.backend().object_for_id(id_of(T::KNOWN)?)?;
+    object.clone().ok()?.downcast::<T>()
 }
