@@ -1,288 +1,182 @@
 //! The texts of all errors, and what the errors of the wire become.
 
+use crate::stop::Stop;
 use ei_types::{Error, EventError, HandshakeError, RequestError};
 use ei_wire::{EiText, FlushError, NoMemory, ParseError, ReadError, SendError};
-use std::alloc::Global;
-use std::fmt::Display;
-use std::test::Fail;
-
-/// Whether the value is shown as that text.
-pub(crate) fn is_shown<E: Display>(alloc: Global, value: &E, text: &str) -> Result<bool, Fail> {
-    Ok(format!(in alloc; "{value}")?.as_str() == text)
-}
-
-/// The first of these texts that its value isn't shown as.
-pub(crate) fn other_text<'a, E: Display>(
-    alloc: Global,
-    rows: &[(E, &'a str)],
-) -> Result<Option<&'a str>, Fail> {
-    for (value, text) in rows {
-        if !is_shown(alloc, value, text)? {
-            return Ok(Some(*text));
-        }
-    }
-    Ok(None)
-}
+use std::alloc::{AllocError, Global};
+use std::fmt::{Display, Write};
 
 /// What isn't sent, and why.
-const SENDS: [(SendError, &str); 3] = [
-    (SendError::MessageTooLong, "message too long"),
-    (SendError::IdsExhausted, "no object id is left"),
-    (SendError::NoMemory, "out of memory"),
+const SENDS: [SendError; 3] = [
+    SendError::MessageTooLong,
+    SendError::IdsExhausted,
+    SendError::NoMemory,
 ];
 
 /// What isn't read, and why.
-const READS: [(ReadError, &str); 4] = [
-    (
-        ReadError::UnexpectedEof,
-        "IO error: unexpected EOF reading ei socket",
-    ),
-    (ReadError::ReadFault, "IO error: read fault"),
-    (ReadError::HandleLimit, "too many unread handles"),
-    (ReadError::NoMemory, "out of memory"),
+const READS: [ReadError; 4] = [
+    ReadError::UnexpectedEof,
+    ReadError::ReadFault,
+    ReadError::HandleLimit,
+    ReadError::NoMemory,
 ];
 
 /// What isn't flushed, and why.
-const FLUSHES: [(FlushError, &str); 2] = [
-    (FlushError::WriteFault, "IO error: write fault"),
-    (FlushError::NoMemory, "out of memory"),
+const FLUSHES: [FlushError; 2] = [FlushError::WriteFault, FlushError::NoMemory];
+
+/// What is wrong with a message, but for the name of an interface.
+const PARSES: [ParseError; 10] = [
+    ParseError::Utf8(4),
+    ParseError::InvalidId(18374686479671623680),
+    ParseError::InvalidOpcode("seat", 3),
+    ParseError::InvalidVariant("ContextType", 10),
+    ParseError::HeaderLength(0),
+    ParseError::MessageLength(20, 16),
+    ParseError::EndOfMessage,
+    ParseError::NoFd,
+    ParseError::InvalidNull,
+    ParseError::NoMemory,
 ];
 
 /// What a peer's event breaks.
-const EVENTS: [(EventError, &str); 7] = [
-    (
-        EventError::DeviceEventBeforeDone,
-        "device event before done",
-    ),
-    (
-        EventError::DeviceSetupEventAfterDone,
-        "device setup event after done",
-    ),
-    (
-        EventError::SeatSetupEventAfterDone,
-        "seat setup event after done",
-    ),
-    (EventError::SeatEventBeforeDone, "seat event before done"),
-    (EventError::NoDeviceType, "no device"),
-    (
-        EventError::UnexpectedHandshakeEvent,
-        "unexpected handshake event",
-    ),
-    (
-        EventError::UnknownCapabilityInterface,
-        "unknown interface in ei_seat.capability",
-    ),
+const EVENTS: [EventError; 7] = [
+    EventError::DeviceEventBeforeDone,
+    EventError::DeviceSetupEventAfterDone,
+    EventError::SeatSetupEventAfterDone,
+    EventError::SeatEventBeforeDone,
+    EventError::NoDeviceType,
+    EventError::UnexpectedHandshakeEvent,
+    EventError::UnknownCapabilityInterface,
 ];
 
 /// What a peer's request breaks.
-const REQUESTS: [(RequestError, &str); 4] = [
-    (RequestError::InvalidCapabilities, "Invalid capabilities"),
-    (
-        RequestError::DuplicatedTouchDown,
-        "Touch down event for duplicated touch ID",
-    ),
-    (
-        RequestError::TooManyTouches,
-        "Too many simultaneous touch events",
-    ),
-    (
-        RequestError::InvalidTextLength,
-        "Empty or too long text string",
-    ),
+const REQUESTS: [RequestError; 4] = [
+    RequestError::InvalidCapabilities,
+    RequestError::DuplicatedTouchDown,
+    RequestError::TooManyTouches,
+    RequestError::InvalidTextLength,
 ];
 
 /// What ends a handshake.
-const HANDSHAKES: [(HandshakeError, &str); 4] = [
-    (
-        HandshakeError::InvalidObject(9),
-        "invalid object 9 during handshake",
-    ),
-    (
-        HandshakeError::NonHandshakeEvent,
-        "non-handshake event during handshake",
-    ),
-    (
-        HandshakeError::MissingInterface,
-        "missing required interface",
-    ),
-    (
-        HandshakeError::DuplicateEvent,
-        "duplicate event during handshake",
-    ),
+const HANDSHAKES: [HandshakeError; 4] = [
+    HandshakeError::InvalidObject(9),
+    HandshakeError::NonHandshakeEvent,
+    HandshakeError::MissingInterface,
+    HandshakeError::DuplicateEvent,
 ];
 
-/// Whether all errors of the wire but those of messages are shown.
-fn errors_of_the_wire_are_shown(alloc: Global) -> Result<bool, Fail> {
-    Ok(
-        other_text(alloc, &SENDS)?.is_none()
-            && other_text(alloc, &READS)?.is_none()
-            && other_text(alloc, &FLUSHES)?.is_none(),
-    )
+/// Why a session stops, each with a part.
+const PARTS: [Error; 4] = [
+    Error::Parse(ParseError::NoFd),
+    Error::Event(EventError::NoDeviceType),
+    Error::Request(RequestError::InvalidCapabilities),
+    Error::Handshake(HandshakeError::MissingInterface),
+];
+
+/// Why a session stops, but for these.
+const STOPS: [Error; 11] = [
+    Error::UnexpectedEof,
+    Error::ReadFault,
+    Error::WriteFault,
+    Error::HandleLimit,
+    Error::IdsExhausted,
+    Error::MessageTooLong,
+    Error::UnexpectedHandshakeEvent,
+    Error::InvalidInterfaceVersion("ei_callback", 7),
+    Error::PieceLimit,
+    Error::NoMemory,
+    Error::NotBuilt,
+];
+
+/// The texts of the errors of that kind, with a dash between them; or what errors `become` in a session.
+pub(crate) fn answer(alloc: Global, kind: &str) -> Result<String, Stop> {
+    match kind {
+        "interface" => interface(alloc),
+        "become" => became(alloc),
+        _ => Ok(texts_of(alloc, kind)?),
+    }
 }
 
-/// Whether the errors of a session's parts are shown.
-fn errors_of_its_parts_are_shown(alloc: Global) -> Result<bool, Fail> {
-    Ok(
-        other_text(alloc, &EVENTS)?.is_none()
-            && other_text(alloc, &REQUESTS)?.is_none()
-            && other_text(alloc, &HANDSHAKES)?.is_none(),
-    )
+/// The texts of the errors of that kind; of none for another.
+fn texts_of(alloc: Global, kind: &str) -> Result<String, AllocError> {
+    match kind {
+        "send" => texts(alloc, &SENDS),
+        "read" => texts(alloc, &READS),
+        "flush" => texts(alloc, &FLUSHES),
+        "parse" => texts(alloc, &PARSES),
+        "event" => texts(alloc, &EVENTS),
+        "request" => texts(alloc, &REQUESTS),
+        "handshake" => texts(alloc, &HANDSHAKES),
+        "part" => texts(alloc, &PARTS),
+        "stop" => texts(alloc, &STOPS),
+        _ => Ok(String::new(alloc)),
+    }
 }
 
-/// Whether the error is shown as that text.
-fn shows<E: Display + Drop>(alloc: Global, error: E, text: &str) -> Result<bool, Fail> {
-    is_shown(alloc, &error, text)
+/// The texts of the errors.
+fn texts<E: Display>(alloc: Global, errors: &[E]) -> Result<String, AllocError> {
+    let mut text = String::new(alloc);
+    for error in errors {
+        push_mark(&mut text)?;
+        write!(text, "{error}")?;
+    }
+    Ok(text)
 }
 
-/// Whether the errors of messages with a number are shown.
-fn numbers_are_shown(alloc: Global) -> Result<bool, Fail> {
-    let id = ParseError::InvalidId(18374686479671623680);
-    let variant = ParseError::InvalidVariant("ContextType", 10);
-    Ok(
-        shows(
-            alloc,
-            ParseError::Utf8(4),
-            "invalid UTF-8 string in message: at byte 4",
-        )? && shows(alloc, id, "new object id '18374686479671623680' invalid")?
-            && shows(
-                alloc,
-                ParseError::InvalidOpcode("seat", 3),
-                "opcode '3' invalid for interface 'seat'",
-            )?
-            && shows(
-                alloc,
-                variant,
-                "variant '10' invalid for enum 'ContextType'",
-            )?
-            && shows(alloc, ParseError::HeaderLength(0), "header length 0 < 16")?
-            && shows(
-                alloc,
-                ParseError::MessageLength(20, 16),
-                "message length didn't match header (20 != 16)",
-            )?,
-    )
+/// Adds the dash between two errors.
+fn push_mark(text: &mut String) -> Result<(), AllocError> {
+    if text.is_empty() {
+        return Ok(());
+    }
+    text.push_str(" - ")
 }
 
-/// Whether the other errors of messages are shown.
-fn others_are_shown(alloc: Global) -> Result<bool, Fail> {
-    Ok(
-        shows(
-            alloc,
-            ParseError::EndOfMessage,
-            "found end of message while parsing argument",
-        )? && shows(alloc, ParseError::NoFd, "expected fd")?
-            && shows(
-                alloc,
-                ParseError::InvalidNull,
-                "NULL value for non-nullable argument",
-            )?
-            && shows(alloc, ParseError::NoMemory, "out of memory")?,
-    )
-}
-
-/// Whether the interface that a message names is shown.
-fn a_named_interface_is_shown(alloc: Global) -> Result<bool, Fail> {
+/// The text of the error for a name that no interface has.
+fn interface(alloc: Global) -> Result<String, Stop> {
     let name = EiText::new(alloc, "ei_gesture")?;
-    shows(
-        alloc,
-        ParseError::InvalidInterface(name),
-        "unknown interface 'ei_gesture'",
-    )
+    Ok(format!(in alloc; "{}", ParseError::InvalidInterface(name))?)
 }
 
-/// Whether an error that stops a session is shown with its part.
-fn parts_are_shown(alloc: Global) -> Result<bool, Fail> {
-    let event = Error::Event(EventError::NoDeviceType);
-    let request = Error::Request(RequestError::InvalidCapabilities);
-    let handshake = Error::Handshake(HandshakeError::MissingInterface);
-    Ok(
-        shows(
-            alloc,
-            Error::Parse(ParseError::NoFd),
-            "parse error: expected fd",
-        )? && shows(alloc, event, "event error: no device")?
-            && shows(alloc, request, "request error: Invalid capabilities")?
-            && shows(
-                alloc,
-                handshake,
-                "handshake error: missing required interface",
-            )?,
-    )
+/// What the errors of the wire become, in their order.
+fn became(alloc: Global) -> Result<String, Stop> {
+    let mut text = String::new(alloc);
+    push_sends(&mut text)?;
+    push_reads(&mut text)?;
+    push_flushes(&mut text)?;
+    push_others(&mut text)?;
+    Ok(text)
 }
 
-/// Whether an error of the wire that stops a session is shown.
-fn stops_by_the_wire_are_shown(alloc: Global) -> Result<bool, Fail> {
-    Ok(
-        shows(
-            alloc,
-            Error::UnexpectedEof,
-            "IO error: unexpected EOF reading ei socket",
-        )? && shows(alloc, Error::ReadFault, "IO error: read fault")?
-            && shows(alloc, Error::WriteFault, "IO error: write fault")?
-            && shows(alloc, Error::HandleLimit, "too many unread handles")?
-            && shows(alloc, Error::IdsExhausted, "no object id is left")?
-            && shows(alloc, Error::MessageTooLong, "message too long")?,
-    )
+/// Adds what the errors of sending become.
+fn push_sends(text: &mut String) -> Result<(), AllocError> {
+    push(text, SendError::MessageTooLong.into())?;
+    push(text, SendError::IdsExhausted.into())?;
+    push(text, SendError::NoMemory.into())
 }
 
-/// Whether the other errors that stop a session are shown.
-fn other_stops_are_shown(alloc: Global) -> Result<bool, Fail> {
-    Ok(
-        shows(
-            alloc,
-            Error::UnexpectedHandshakeEvent,
-            "unexpected handshake event",
-        )? && shows(
-            alloc,
-            Error::InvalidInterfaceVersion("ei_callback", 7),
-            "invalid version 7 for interface 'ei_callback'",
-        )? && shows(alloc, Error::PieceLimit, "piece limit reached")?
-            && shows(alloc, Error::NoMemory, "out of memory")?
-            && shows(alloc, Error::NotBuilt, "message not built")?,
-    )
+/// Adds what the errors of reading become.
+fn push_reads(text: &mut String) -> Result<(), AllocError> {
+    push(text, ReadError::UnexpectedEof.into())?;
+    push(text, ReadError::ReadFault.into())?;
+    push(text, ReadError::HandleLimit.into())?;
+    push(text, ReadError::NoMemory.into())
 }
 
-/// Whether the error that stops a session is that one.
-fn is_same(error: Error, want: Error) -> bool {
-    error == want
+/// Adds what the errors of flushing become.
+fn push_flushes(text: &mut String) -> Result<(), AllocError> {
+    push(text, FlushError::WriteFault.into())?;
+    push(text, FlushError::NoMemory.into())
 }
 
-/// Whether the errors of the wire become those that stop a session.
-fn errors_of_the_wire_stop_a_session() -> bool {
-    is_same(SendError::MessageTooLong.into(), Error::MessageTooLong)
-        && is_same(SendError::IdsExhausted.into(), Error::IdsExhausted)
-        && is_same(SendError::NoMemory.into(), Error::NoMemory)
-        && is_same(ReadError::UnexpectedEof.into(), Error::UnexpectedEof)
-        && is_same(ReadError::ReadFault.into(), Error::ReadFault)
-        && is_same(ReadError::HandleLimit.into(), Error::HandleLimit)
-        && is_same(ReadError::NoMemory.into(), Error::NoMemory)
+/// Adds what the others become.
+fn push_others(text: &mut String) -> Result<(), AllocError> {
+    push(text, ParseError::NoMemory.into())?;
+    push(text, ParseError::NoFd.into())?;
+    push(text, NoMemory.into())
 }
 
-/// Whether the others do.
-fn other_errors_stop_a_session() -> bool {
-    is_same(FlushError::WriteFault.into(), Error::WriteFault)
-        && is_same(FlushError::NoMemory.into(), Error::NoMemory)
-        && is_same(ParseError::NoMemory.into(), Error::NoMemory)
-        && is_same(ParseError::NoFd.into(), Error::Parse(ParseError::NoFd))
-        && is_same(NoMemory.into(), Error::NoMemory)
-}
-
-#[test]
-fn errors_are_shown(rt: HostRuntime) -> Result<(), Fail> {
-    assert!(rt; errors_of_the_wire_are_shown(rt.alloc())?);
-    assert!(rt; errors_of_its_parts_are_shown(rt.alloc())?);
-    assert!(rt; numbers_are_shown(rt.alloc())?);
-    assert!(rt; others_are_shown(rt.alloc())?);
-    assert!(rt; a_named_interface_is_shown(rt.alloc())?);
-    Ok(())
-}
-
-#[test]
-fn errors_that_stop_a_session_are_shown(rt: HostRuntime) -> Result<(), Fail> {
-    assert!(rt; parts_are_shown(rt.alloc())?);
-    assert!(rt; stops_by_the_wire_are_shown(rt.alloc())?);
-    assert!(rt; other_stops_are_shown(rt.alloc())?);
-    assert!(rt; errors_of_the_wire_stop_a_session());
-    assert!(rt; other_errors_stop_a_session());
-    Ok(())
+/// Adds an error.
+fn push(text: &mut String, error: Error) -> Result<(), AllocError> {
+    push_mark(text)?;
+    write!(text, "{error:?}")
 }

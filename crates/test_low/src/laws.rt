@@ -33,8 +33,8 @@ fn word_of_a_key_state(state: KeyState)
     laws_of(&state);
 }
 
-#[test]
-fn laws_at_types() {
+/// The laws at types of the protocol.
+pub(crate) fn laws_at_types() {
     word_of_a_key_state(KeyState::Press);
     groups::<Handle, EiText>();
     waiting_inputs::<Handle, EiText>();

@@ -2,11 +2,25 @@
 
 ghost use Rattle.std.specs.Prelude.{◌≡◌, IfOk, vec_len};
 
+use crate::stop::Stop;
 use ei_backend::{Clock, Fault, Input, MemoryText, Pieces, Readings, Sink, Source, Taken, Tray};
 use ei_spec::Handle;
 use ei_wire::NoMemory;
 use std::alloc::Global;
-use std::test::Fail;
+
+/// Whether the source, the sink, the text or the clock answers as it should, and fails where it is said to.
+pub(crate) fn answer(alloc: Global, call: &str) -> Result<bool, Stop> {
+    match call {
+        "pieces" => Ok(hands_on_pieces(alloc)?),
+        "failing-pieces" => Ok(takes_fail_where_named(alloc)?),
+        "tray" => Ok(keeps_what_is_put(&mut Tray::new(alloc))),
+        "failing-tray" => Ok(puts_fail_where_named(&mut failing_tray(alloc)?)),
+        "text" => Ok(hands_on_a_text(&mut MemoryText::new(alloc, b"abc")?)),
+        "failing-text" => Ok(fetches_fail_where_named(&mut failing_text(alloc)?)),
+        "clock" => Ok(hands_on_readings(alloc)?),
+        _ => Err(Stop::Line),
+    }
+}
 
 /// So many bytes of room.
 fn bytes_room(alloc: Global, count: usize) -> Result<Vec<u8>, NoMemory>
@@ -33,7 +47,7 @@ fn are_first(room: &[u8], handle_room: &[Handle], bytes: &[u8], handles: &[Handl
 }
 
 /// Pieces of which the second and the fourth call fail.
-fn failing_pieces(alloc: Global) -> Result<Pieces, Fail> {
+fn failing_pieces(alloc: Global) -> Result<Pieces, NoMemory> {
     let mut pieces = Pieces::new(alloc);
     pieces.fail_at(4)?;
     pieces.fail_at(2)?;
@@ -44,7 +58,7 @@ fn failing_pieces(alloc: Global) -> Result<Pieces, Fail> {
 const CALLS: [bool; 5] = [false, true, false, true, false];
 
 /// Whether pieces of room for them are handed on, and then none.
-fn hands_on_pieces(alloc: Global) -> Result<bool, Fail> {
+fn hands_on_pieces(alloc: Global) -> Result<bool, NoMemory> {
     let mut room = bytes_room(alloc, 65536)?;
     let mut handle_room = handles_room(alloc, 64)?;
     let mut pieces = Pieces::new(alloc);
@@ -55,7 +69,7 @@ fn hands_on_pieces(alloc: Global) -> Result<bool, Fail> {
 }
 
 /// Whether a source fails where it is said to.
-fn takes_fail_where_named(alloc: Global) -> Result<bool, Fail> {
+fn takes_fail_where_named(alloc: Global) -> Result<bool, NoMemory> {
     let mut room = bytes_room(alloc, 65536)?;
     let mut handle_room = handles_room(alloc, 64)?;
     let mut pieces = failing_pieces(alloc)?;
@@ -83,7 +97,7 @@ fn keeps_what_is_put(tray: &mut Tray) -> bool {
 }
 
 /// A tray of which the second and the fourth call fail.
-fn failing_tray(alloc: Global) -> Result<Tray, Fail> {
+fn failing_tray(alloc: Global) -> Result<Tray, NoMemory> {
     let mut tray = Tray::new(alloc);
     tray.fail_at(4)?;
     tray.fail_at(2)?;
@@ -112,7 +126,7 @@ fn hands_on_a_text(text: &mut MemoryText) -> bool {
 }
 
 /// A text of which the second and the fourth call fail.
-fn failing_text(alloc: Global) -> Result<MemoryText, Fail> {
+fn failing_text(alloc: Global) -> Result<MemoryText, NoMemory> {
     let mut text = MemoryText::new(alloc, b"abcde")?;
     text.fail_at(4)?;
     text.fail_at(2)?;
@@ -131,7 +145,7 @@ fn fetches_fail_where_named(text: &mut MemoryText) -> bool {
 }
 
 /// Whether a clock shows its readings, and then 0.
-fn hands_on_readings(alloc: Global) -> Result<bool, Fail> {
+fn hands_on_readings(alloc: Global) -> Result<bool, NoMemory> {
     let mut readings = Readings::new(alloc, &[5, 9])?;
     for reading in [5, 9, 0, 0] {
         if readings.now() != reading {
@@ -139,26 +153,4 @@ fn hands_on_readings(alloc: Global) -> Result<bool, Fail> {
         }
     }
     Ok(true)
-}
-
-#[test]
-fn sources(rt: HostRuntime) -> Result<(), Fail> {
-    assert!(rt; hands_on_pieces(rt.alloc())?);
-    assert!(rt; takes_fail_where_named(rt.alloc())?);
-    Ok(())
-}
-
-#[test]
-fn trays(rt: HostRuntime) -> Result<(), Fail> {
-    assert!(rt; keeps_what_is_put(&mut Tray::new(rt.alloc())));
-    assert!(rt; puts_fail_where_named(&mut failing_tray(rt.alloc())?));
-    Ok(())
-}
-
-#[test]
-fn texts_and_clocks(rt: HostRuntime) -> Result<(), Fail> {
-    assert!(rt; hands_on_a_text(&mut MemoryText::new(rt.alloc(), b"abc")?));
-    assert!(rt; fetches_fail_where_named(&mut failing_text(rt.alloc())?));
-    assert!(rt; hands_on_readings(rt.alloc())?);
-    Ok(())
 }

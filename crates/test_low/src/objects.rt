@@ -1,194 +1,150 @@
-//! Objects, the names of their interfaces, and the messages to them, with ample memory.
+//! The objects of an endpoint: ids, names and versions, and the messages to them.
 
-use crate::version::endpoint;
+use crate::arguments::argument;
+use crate::stop::Stop;
+use crate::words::{first, id, number, said};
+use crate::world::World;
 use ei_backend::{Backend, HasBackend, InterfaceName, Object};
 use ei_spec::KnownInterface;
 use ei_wire::{Arg, SendError};
 use std::alloc::Global;
-use std::test::Fail;
+use std::fmt::Debug;
 
-/// Whether the name of a seat's interface is known as one.
-fn a_known_name_is_known(alloc: Global) -> Result<bool, Fail> {
-    Ok(InterfaceName::of(alloc, "ei_seat")? == InterfaceName::Known(KnownInterface::Seat))
+/// What a call answers:
+/// - `own NAME VERSION`: the endpoint's next object;
+/// - `peer ID NAME VERSION`: the object of the peer;
+/// - `of ID`: the object of that id in the table, and whether the table has one;
+/// - `remove ID`: nothing, and takes it out;
+/// - `next`: the next own id, and how many are left, up to a hundred;
+/// - `keep ID`: whether a clone of the object equals it, and keeps the clone;
+/// - `equal ID`: whether the object equals the one that is kept;
+/// - `alive`: whether the endpoint has the object that is kept;
+/// - `ask OPCODE ARGUMENT`: whether the message to the object that is kept is written;
+/// - `seat TARGET VERSION ARGUMENT ARGUMENT`: the seat that a message of opcode 2 to the target announces.
+pub(crate) fn answer(world: &mut World, call: &str) -> Result<String, Stop> {
+    let (name, rest) = first(call);
+    match name {
+        "own" => own(world, rest),
+        "peer" => peer(world, rest),
+        "of" => of(world.alloc, &world.backend, id(rest)?),
+        "remove" => remove(world, id(rest)?),
+        "next" => next(world.alloc, &world.backend),
+        "keep" => keep(world, id(rest)?),
+        "equal" => equal(world, id(rest)?),
+        "alive" => alive(world),
+        "ask" => ask(world, rest),
+        "seat" => seat(world, rest),
+        _ => Err(Stop::Line),
+    }
 }
 
-/// A name that no interface has.
-fn other_name(alloc: Global) -> Result<InterfaceName, Fail> {
-    Ok(InterfaceName::of(alloc, "zz")?)
+/// The object, or why there is none.
+fn made<E: Debug>(alloc: Global, object: &Result<Object, E>) -> Result<String, Stop> {
+    match object {
+        Ok(object) => shown(alloc, object),
+        Err(error) => Ok(format!(in alloc; "{error:?}")?),
+    }
 }
 
-/// Whether such a name is kept as it is, and equals itself alone.
-fn another_name_is_kept(alloc: Global) -> Result<bool, Fail> {
-    let other = other_name(alloc)?;
-    let is_kept = matches!(other, InterfaceName::Other(_)) && other.as_str() == "zz";
-    Ok(
-        is_kept
-            && other == other_name(alloc)?
-            && other != InterfaceName::Known(KnownInterface::Seat),
-    )
+/// An object by what it is shown as, its id, its interface, its version and its side.
+fn shown(alloc: Global, object: &Object) -> Result<String, Stop> {
+    let (id, version, client) = (object.id(), object.version(), object.client_side());
+    Ok(format!(in alloc;
+        "{object:?} {id:x} {} {version} {client}",
+        object.interface()
+    )?)
 }
 
-/// The next object of an end, of an interface that isn't known.
-fn next_object(alloc: Global, backend: &mut Backend) -> Result<Object, Fail> {
-    Ok(backend.new_object(other_name(alloc)?, 1)?)
+/// Makes the endpoint's next object.
+fn own(world: &mut World, rest: &str) -> Result<String, Stop> {
+    let (name, version) = first(rest);
+    let name = InterfaceName::of(world.alloc, name)?;
+    let object = world.backend.new_object(name, number(version)?);
+    made(world.alloc, &object)
 }
 
-/// The second object of a client.
-fn second_object(alloc: Global) -> Result<Object, Fail> {
-    let mut client = endpoint(alloc, true)?;
-    next_object(alloc, &mut client)?;
-    next_object(alloc, &mut client)
+/// Puts the peer's object into the table.
+fn peer(world: &mut World, rest: &str) -> Result<String, Stop> {
+    let (of, rest) = first(rest);
+    let (name, version) = first(rest);
+    let name = InterfaceName::of(world.alloc, name)?;
+    let object = world
+        .backend
+        .new_peer_object(id(of)?, name, number(version)?);
+    made(world.alloc, &object)
 }
 
-/// Whether the object equals a clone of it.
-fn equals_its_clone(object: &Object) -> Result<bool, Fail> {
-    Ok(*object == object.clone()?)
+/// The object of that id in the table, and whether the table has one.
+fn of(alloc: Global, backend: &Backend, id: u64) -> Result<String, Stop> {
+    match backend.object_for_id(id) {
+        Some(object) if backend.has_object_for_id(id) => shown(alloc, object),
+        None if !backend.has_object_for_id(id) => Ok(String::from_str(alloc, "none")?),
+        _ => Ok(String::from_str(alloc, "both")?),
+    }
 }
 
-/// Whether the object is shown by its id alone.
-fn is_shown_by_its_id(alloc: Global, object: &Object) -> Result<bool, Fail> {
-    Ok(format!(in alloc; "{object:?}")?.as_str() == "Object(_, 2)")
+/// Takes the object of that id out.
+fn remove(world: &mut World, id: u64) -> Result<String, Stop> {
+    world.backend.remove_id(id);
+    Ok(String::from_str(world.alloc, "done")?)
 }
 
-/// Whether an object of an interface that isn't known is cloned and shown.
-fn objects_are_shown(alloc: Global) -> Result<bool, Fail> {
-    let object = second_object(alloc)?;
-    let is_named = object.interface() == "zz";
-    Ok(is_named && equals_its_clone(&object)? && is_shown_by_its_id(alloc, &object)?)
+/// The next own id, and how many are left, up to a hundred.
+fn next(alloc: Global, backend: &Backend) -> Result<String, Stop> {
+    let (next, left) = (backend.next_id(), backend.ids_left().min(100));
+    Ok(format!(in alloc; "{next:x} {left}")?)
 }
 
-/// The next object of an end, of that interface.
-fn next_known(backend: &mut Backend, kind: KnownInterface, version: u32) -> Result<Object, Fail> {
-    Ok(backend.new_object(InterfaceName::Known(kind), version)?)
+/// Keeps a clone of the object, and says whether it equals it.
+fn keep(world: &mut World, id: u64) -> Result<String, Stop> {
+    let object = world.backend.object_for_id(id).ok_or(Stop::Line)?;
+    let clone = object.clone()?;
+    let same = clone == *object;
+    world.kept = Some(clone);
+    said(world.alloc, same)
 }
 
-/// The first object of a client.
-fn own_object(alloc: Global, kind: KnownInterface, version: u32) -> Result<Object, Fail> {
-    let mut client = endpoint(alloc, true)?;
-    next_known(&mut client, kind, version)
+/// Whether the object equals the one that is kept.
+fn equal(world: &World, id: u64) -> Result<String, Stop> {
+    let object = world.backend.object_for_id(id).ok_or(Stop::Line)?;
+    let kept = world.kept.as_ref().ok_or(Stop::Line)?;
+    said(world.alloc, object == kept)
 }
 
-/// The peer's object 1, a button of version 1.
-fn peer_button(backend: &mut Backend) -> Result<Object, Fail> {
-    Ok(backend.new_peer_object(1, InterfaceName::Known(KnownInterface::Button), 1)?)
-}
-
-/// Whether a client's first object of that interface and version equals its first button of version 1.
-fn equals_a_button(alloc: Global, kind: KnownInterface, version: u32) -> Result<bool, Fail> {
-    let object = own_object(alloc, kind, version)?;
-    Ok(object == own_object(alloc, KnownInterface::Button, 1)?)
-}
-
-/// Whether the first button of a client differs from this object.
-fn differs_from_own(alloc: Global, object: &Object) -> Result<bool, Fail> {
-    Ok(*object != own_object(alloc, KnownInterface::Button, 1)?)
-}
-
-/// Whether an object has a side, by which it differs from the peer's.
-fn objects_differ_by_side(alloc: Global) -> Result<bool, Fail> {
-    let mut server = endpoint(alloc, false)?;
-    differs_from_own(alloc, &peer_button(&mut server)?)
-}
-
-/// Whether objects of one id differ by their interfaces and by their versions.
-fn objects_differ_by_interface_and_version(alloc: Global) -> Result<bool, Fail> {
-    Ok(
-        equals_a_button(alloc, KnownInterface::Button, 1)?
-            && !equals_a_button(alloc, KnownInterface::Button, 2)?
-            && !equals_a_button(alloc, KnownInterface::Scroll, 1)?,
-    )
+/// Whether the endpoint has the object that is kept.
+fn alive(world: &World) -> Result<String, Stop> {
+    let kept = world.kept.as_ref().ok_or(Stop::Line)?;
+    said(world.alloc, kept.is_alive(&world.backend))
 }
 
 /// Writes a message to the object at any end.
-fn ask<C: HasBackend>(
-    ctx: &mut C,
+fn request<C: HasBackend>(
+    context: &mut C,
     object: &Object,
     opcode: u32,
     args: &[Arg<'_>],
 ) -> Result<(), SendError> {
-    object.request(ctx, opcode, args)
+    object.request(context, opcode, args)
 }
 
-/// The message of opcode 3 to object 1, with the word 7.
-const ASKED: &[u8] = b"\x01\0\0\0\0\0\0\0\x14\0\0\0\x03\0\0\0\x07\0\0\0";
-
-/// Whether a message of opcode 3 and with the word 7 has these bytes.
-fn is_asked(backend: &mut Backend, object: &Object, bytes: &[u8]) -> Result<bool, Fail> {
-    ask(backend, object, 3, &[Arg::Uint32(7)])?;
-    Ok(backend.unsent() == bytes)
+/// Writes a message to the object that is kept.
+fn ask(world: &mut World, rest: &str) -> Result<String, Stop> {
+    let (opcode, arg) = first(rest);
+    let args = [argument(arg)?];
+    let kept = world.kept.as_ref().ok_or(Stop::Line)?;
+    let asked = request(&mut world.backend, kept, number(opcode)?, &args);
+    said(world.alloc, asked.is_ok())
 }
 
-/// Whether the object is alive until it is taken out.
-fn is_taken_out(backend: &mut Backend, object: &Object) -> bool {
-    let was_alive = object.is_alive(backend);
-    backend.remove_id(object.id());
-    was_alive && !object.is_alive(backend)
-}
-
-/// Whether a message goes to its object, which lives until it is taken out.
-fn a_message_goes_to_its_object(alloc: Global) -> Result<bool, Fail> {
-    let mut backend = endpoint(alloc, true)?;
-    let object = next_known(&mut backend, KnownInterface::Button, 1)?;
-    Ok(is_asked(&mut backend, &object, ASKED)? && is_taken_out(&mut backend, &object))
-}
-
-/// Announces a seat of version 4 by a message of opcode 2 to object 5.
-fn announce_seat(backend: &mut Backend, args: &[Arg<'_>]) -> Result<Object, Fail> {
-    Ok(backend.request_new(5, 2, args, InterfaceName::Known(KnownInterface::Seat), 4)?)
-}
-
-/// Whether it is the seat of version 4 with this id, at this end.
-fn is_seat(object: &Object, id: u64, client: bool) -> bool {
-    object.id() == id
-        && object.interface() == "ei_seat"
-        && object.version() == 4
-        && object.client_side() == client
-}
-
-/// Whether the object of that id is the seat, the last one, and the message that announces it has these bytes.
-fn has_seat(backend: &Backend, id: u64, client: bool, bytes: &[u8]) -> bool {
-    match backend.object_for_id(id) {
-        Some(object) => {
-            is_seat(object, id, client)
-                && backend.next_id() == id.wrapping_add(1)
-                && backend.unsent() == bytes
-        }
-        None => false,
-    }
-}
-
-/// Whether an end announces its first object, a seat of this id, with a message of these bytes: the id and the word 3.
-fn announces(alloc: Global, client: bool, id: u64, bytes: &[u8]) -> Result<bool, Fail> {
-    let mut backend = endpoint(alloc, client)?;
-    let seat = announce_seat(&mut backend, &[Arg::NewId(id), Arg::Uint32(3)])?;
-    Ok(is_seat(&seat, id, client) && has_seat(&backend, id, client, bytes))
-}
-
-/// The message by which a server announces its first seat.
-const OF_A_SERVER: &[u8] = b"\x05\0\0\0\0\0\0\0\x1c\0\0\0\x02\0\0\0\0\0\0\0\0\0\0\xff\x03\0\0\0";
-
-/// The message by which a client announces its first seat.
-const OF_A_CLIENT: &[u8] = b"\x05\0\0\0\0\0\0\0\x1c\0\0\0\x02\0\0\0\x01\0\0\0\0\0\0\0\x03\0\0\0";
-
-#[test]
-fn names_of_interfaces_are_known_or_other(rt: HostRuntime) -> Result<(), Fail> {
-    assert!(rt; a_known_name_is_known(rt.alloc())?);
-    assert!(rt; another_name_is_kept(rt.alloc())?);
-    Ok(())
-}
-
-#[test]
-fn objects_are_told_apart(rt: HostRuntime) -> Result<(), Fail> {
-    assert!(rt; objects_are_shown(rt.alloc())?);
-    assert!(rt; objects_differ_by_side(rt.alloc())?);
-    assert!(rt; objects_differ_by_interface_and_version(rt.alloc())?);
-    Ok(())
-}
-
-#[test]
-fn messages_go_to_objects(rt: HostRuntime) -> Result<(), Fail> {
-    assert!(rt; a_message_goes_to_its_object(rt.alloc())?);
-    assert!(rt; announces(rt.alloc(), false, 0xff00_0000_0000_0000, OF_A_SERVER)?);
-    assert!(rt; announces(rt.alloc(), true, 1, OF_A_CLIENT)?);
-    Ok(())
+/// Announces a seat.
+fn seat(world: &mut World, rest: &str) -> Result<String, Stop> {
+    let (target, rest) = first(rest);
+    let (version, rest) = first(rest);
+    let (one, other) = first(rest);
+    let args = [argument(one)?, argument(other)?];
+    let name = InterfaceName::Known(KnownInterface::Seat);
+    let seat = world
+        .backend
+        .request_new(id(target)?, 2, &args, name, number(version)?);
+    made(world.alloc, &seat)
 }

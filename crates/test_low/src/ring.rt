@@ -1,10 +1,19 @@
 //! The ring of the bytes that are unread: messages that lie across its end, and how it grows.
 
-use crate::version::{InterfaceVersion, PIECE, endpoint, give, next};
+use crate::stop::Stop;
+use crate::version::{InterfaceVersion, PIECE, give, next};
 use ei_backend::{Backend, PendingRequestResult, Pieces};
 use ei_wire::NoMemory;
 use std::alloc::Global;
-use std::test::Fail;
+
+/// Whether messages are read `across` its end, and whether it `grows` for the longest message.
+pub(crate) fn answer(alloc: Global, call: &str) -> Result<bool, Stop> {
+    match call {
+        "across" => messages_are_read_across_the_end(alloc),
+        "grows" => the_ring_grows_for_the_longest_message(alloc),
+        _ => Err(Stop::Line),
+    }
+}
 
 /// An id that no object has.
 const NOBODY: u64 = 5;
@@ -17,15 +26,7 @@ fn is_version(len: u32) -> bool {
     len >= 28 && len % 4 == 0
 }
 
-/// The header of a message of opcode 4 of this length to this object.
-fn push_header(bytes: &mut Vec<u8>, id: u64, len: u32) -> Result<(), NoMemory> {
-    bytes.extend_from_slice(&id.to_le_bytes())?;
-    bytes.extend_from_slice(&len.to_le_bytes())?;
-    bytes.extend_from_slice(&4u32.to_le_bytes())?;
-    Ok(())
-}
-
-/// A name of so many letters, with its length and what closes it.
+/// Adds a name of so many letters, with its length and what closes it.
 fn push_name(bytes: &mut Vec<u8>, letters: u32) -> Result<(), NoMemory> {
     bytes.extend_from_slice(&letters.wrapping_add(1).to_le_bytes())?;
     for at in 0..letters {
@@ -35,35 +36,26 @@ fn push_name(bytes: &mut Vec<u8>, letters: u32) -> Result<(), NoMemory> {
     Ok(())
 }
 
-/// An `interface_version` of this length.
-fn push_version(bytes: &mut Vec<u8>, len: u32) -> Result<(), NoMemory> {
-    push_header(bytes, 0, len)?;
-    push_name(bytes, len.wrapping_sub(25))?;
-    bytes.extend_from_slice(&VERSION.to_le_bytes())?;
+/// Adds the header of a message of opcode 4 of this length to this object.
+fn push_header(bytes: &mut Vec<u8>, id: u64, len: u32) -> Result<(), NoMemory> {
+    bytes.extend_from_slice(&id.to_le_bytes())?;
+    bytes.extend_from_slice(&len.to_le_bytes())?;
+    bytes.extend_from_slice(&4u32.to_le_bytes())?;
     Ok(())
 }
 
-/// A message of this length to no object.
-fn push_other(bytes: &mut Vec<u8>, len: u32) -> Result<(), NoMemory> {
-    push_header(bytes, NOBODY, len)?;
-    bytes.resize(len as usize, 0)?;
-    Ok(())
-}
-
-/// Adds a message of this length, at least 16: an `interface_version` with as long a name as there is room for,
-/// where one can have that length, and else a message to no object.
-fn push_message(bytes: &mut Vec<u8>, len: u32) -> Result<(), NoMemory> {
-    if is_version(len) {
-        push_version(bytes, len)
-    } else {
-        push_other(bytes, len)
-    }
-}
-
-/// A message of this length.
+/// A message of this length, at least 16: an `interface_version` with as long a name as there is room for, where one
+/// can have that length, and else a message to no object.
 fn message(alloc: Global, len: u32) -> Result<Vec<u8>, NoMemory> {
     let mut bytes = Vec::new(alloc);
-    push_message(&mut bytes, len)?;
+    if is_version(len) {
+        push_header(&mut bytes, 0, len)?;
+        push_name(&mut bytes, len.wrapping_sub(25))?;
+        bytes.extend_from_slice(&VERSION.to_le_bytes())?;
+    } else {
+        push_header(&mut bytes, NOBODY, len)?;
+        bytes.resize(len as usize, 0)?;
+    }
     Ok(bytes)
 }
 
@@ -105,9 +97,9 @@ struct Reader {
 }
 
 impl Reader {
-    fn new(alloc: Global) -> Result<Reader, Fail> {
+    fn new(alloc: Global) -> Result<Reader, Stop> {
         Ok(Reader {
-            backend: endpoint(alloc, false)?,
+            backend: Backend::new(alloc, false)?,
             pieces: Pieces::new(alloc),
             next: Vec::new(alloc),
             waiting: 0,
@@ -115,13 +107,15 @@ impl Reader {
     }
 
     /// Lets the piece come.
-    fn read(&mut self) -> Result<(), Fail> {
-        self.backend.read(&mut self.pieces)?;
+    fn read(&mut self) -> Result<(), Stop> {
+        if self.backend.read(&mut self.pieces).is_err() {
+            return Err(Stop::Line);
+        }
         Ok(())
     }
 
     /// Lets the next bytes come, and says whether the message that came is the right one.
-    fn comes(&mut self) -> Result<bool, Fail> {
+    fn comes(&mut self) -> Result<bool, Stop> {
         give(&mut self.pieces, &self.next, &[])?;
         self.next.clear();
         self.read()?;
@@ -130,20 +124,20 @@ impl Reader {
     }
 
     /// Lets these bytes come, and says how much the ring holds then.
-    fn held_after(&mut self, bytes: &[u8]) -> Result<usize, Fail> {
+    fn held_after(&mut self, bytes: &[u8]) -> Result<usize, Stop> {
         give(&mut self.pieces, bytes, &[])?;
         self.read()?;
         Ok(self.backend.ring_capacity())
     }
 
     /// Whether no message is whole, and so many bytes are unread.
-    fn holds(&mut self, count: u32) -> Result<bool, Fail> {
+    fn holds(&mut self, count: u32) -> Result<bool, Stop> {
         let answer = next(&mut self.backend)?;
         Ok(answer.is_none() && self.backend.unread_len() == count as usize)
     }
 
     /// Lets the first bytes of a message of this length come behind the others of the last one.
-    fn begin(&mut self, first: &[u8], others: &[u8], len: u32) -> Result<bool, Fail> {
+    fn begin(&mut self, first: &[u8], others: &[u8], len: u32) -> Result<bool, Stop> {
         self.next.extend_from_slice(first)?;
         let came = self.comes()?;
         self.next.extend_from_slice(others)?;
@@ -152,13 +146,13 @@ impl Reader {
     }
 
     /// Lets a message of this length come, of which so many bytes come first.
-    fn begin_at(&mut self, bytes: &[u8], len: u32, before: u32) -> Result<bool, Fail> {
+    fn begin_at(&mut self, bytes: &[u8], len: u32, before: u32) -> Result<bool, Stop> {
         let (first, others) = bytes.split_at(bytes.len().min(before as usize));
         Ok(self.begin(first, others, len)? && self.holds(before)?)
     }
 
     /// Lets the message of this length come with each start, and says at which one it was wrong.
-    fn begin_each(&mut self, bytes: &[u8], len: u32) -> Result<Option<u32>, Fail> {
+    fn begin_each(&mut self, bytes: &[u8], len: u32) -> Result<Option<u32>, Stop> {
         for before in 1..len {
             if !self.begin_at(bytes, len, before)? {
                 return Ok(Some(before));
@@ -169,7 +163,7 @@ impl Reader {
 }
 
 /// Lets a message of this length come, and reads it.
-fn pass(alloc: Global, reader: &mut Reader, len: u32) -> Result<(), Fail> {
+fn pass(alloc: Global, reader: &mut Reader, len: u32) -> Result<(), Stop> {
     let bytes = message(alloc, len)?;
     reader.held_after(&bytes)?;
     next(&mut reader.backend)?;
@@ -177,7 +171,7 @@ fn pass(alloc: Global, reader: &mut Reader, len: u32) -> Result<(), Fail> {
 }
 
 /// A reader whose next byte is one of the last four of the ring.
-fn near_the_end(alloc: Global) -> Result<Reader, Fail> {
+fn near_the_end(alloc: Global) -> Result<Reader, Stop> {
     let mut reader = Reader::new(alloc)?;
     pass(alloc, &mut reader, 65536)?;
     pass(alloc, &mut reader, 65532)?;
@@ -185,13 +179,13 @@ fn near_the_end(alloc: Global) -> Result<Reader, Fail> {
 }
 
 /// The first start at which a message of this length is wrong.
-fn wrong_start(alloc: Global, reader: &mut Reader, len: u32) -> Result<Option<u32>, Fail> {
+fn wrong_start(alloc: Global, reader: &mut Reader, len: u32) -> Result<Option<u32>, Stop> {
     let bytes = message(alloc, len)?;
     reader.begin_each(&bytes, len)
 }
 
 /// The first of these lengths of which a message is wrong at some start.
-fn wrong_length(alloc: Global, reader: &mut Reader) -> Result<Option<u32>, Fail> {
+fn wrong_length(alloc: Global, reader: &mut Reader) -> Result<Option<u32>, Stop> {
     for len in [16, 28, 31, 200] {
         if wrong_start(alloc, reader, len)?.is_some() {
             return Ok(Some(len));
@@ -201,15 +195,20 @@ fn wrong_length(alloc: Global, reader: &mut Reader) -> Result<Option<u32>, Fail>
 }
 
 /// Whether the last message comes whole, and the ring is as long as before.
-fn ends_whole(reader: &mut Reader) -> Result<bool, Fail> {
+fn ends_whole(reader: &mut Reader) -> Result<bool, Stop> {
     Ok(reader.comes()? && reader.holds(0)? && reader.backend.ring_capacity() == 131072)
+}
+
+/// Whether nothing is unread, each message is read then, and nothing is unread again.
+fn are_read(alloc: Global, reader: &mut Reader) -> Result<bool, Stop> {
+    Ok(reader.holds(0)? && wrong_length(alloc, reader)?.is_none() && ends_whole(reader)?)
 }
 
 // What lies across the end is moved to the end. So the first bytes of each message are the last of the ring, and
 // the others come with the next piece.
-fn messages_are_read_across_the_end(alloc: Global) -> Result<bool, Fail> {
+fn messages_are_read_across_the_end(alloc: Global) -> Result<bool, Stop> {
     let mut reader = near_the_end(alloc)?;
-    Ok(reader.holds(0)? && wrong_length(alloc, &mut reader)?.is_none() && ends_whole(&mut reader)?)
+    are_read(alloc, &mut reader)
 }
 
 /// What the ring holds after each of sixteen pieces of 65536 bytes, the last of 65535.
@@ -219,7 +218,7 @@ const HELD: [usize; 16] = [
 ];
 
 /// Lets the bytes come in pieces, and says how many bytes had come where the ring didn't hold what it should.
-fn held_otherwise(reader: &mut Reader, bytes: &[u8]) -> Result<Option<usize>, Fail> {
+fn held_otherwise(reader: &mut Reader, bytes: &[u8]) -> Result<Option<usize>, Stop> {
     for (piece, held) in bytes.chunks(PIECE).zip(HELD) {
         if reader.held_after(piece)? != held {
             return Ok(Some(reader.backend.unread_len()));
@@ -229,31 +228,29 @@ fn held_otherwise(reader: &mut Reader, bytes: &[u8]) -> Result<Option<usize>, Fa
 }
 
 /// Whether the last byte makes the longest message whole.
-fn is_whole_with(reader: &mut Reader, last: &[u8]) -> Result<bool, Fail> {
+fn is_whole_with(reader: &mut Reader, last: &[u8]) -> Result<bool, Stop> {
     let held = reader.held_after(last)?;
     Ok(held == 2097152 && is_right(&next(&mut reader.backend)?, 1048576))
 }
 
-/// Whether the longest message is read in pieces, the last one of a byte.
-fn is_read_in_pieces(alloc: Global, bytes: &[u8]) -> Result<bool, Fail> {
-    let (most, last) = bytes.split_at(bytes.len().min(1048575));
-    let mut reader = Reader::new(alloc)?;
+/// Whether the ring holds all but the last byte, and the message is whole with it.
+fn are_held(reader: &mut Reader, most: &[u8], last: &[u8]) -> Result<bool, Stop> {
     Ok(
-        held_otherwise(&mut reader, most)?.is_none()
+        held_otherwise(reader, most)?.is_none()
             && reader.holds(1048575)?
-            && is_whole_with(&mut reader, last)?,
+            && is_whole_with(reader, last)?,
     )
 }
 
-// The ring is doubled where a piece may not find room in it.
-fn the_ring_grows_for_the_longest_message(alloc: Global) -> Result<bool, Fail> {
-    let bytes = message(alloc, 1048576)?;
-    is_read_in_pieces(alloc, &bytes)
+/// Whether the longest message is read in pieces, the last one of a byte.
+fn is_read_in_pieces(alloc: Global, bytes: &[u8]) -> Result<bool, Stop> {
+    let (most, last) = bytes.split_at(bytes.len().min(1048575));
+    let mut reader = Reader::new(alloc)?;
+    are_held(&mut reader, most, last)
 }
 
-#[test]
-fn the_ring_is_read(rt: HostRuntime) -> Result<(), Fail> {
-    assert!(rt; messages_are_read_across_the_end(rt.alloc())?);
-    assert!(rt; the_ring_grows_for_the_longest_message(rt.alloc())?);
-    Ok(())
+// The ring is doubled where a piece may not find room in it.
+fn the_ring_grows_for_the_longest_message(alloc: Global) -> Result<bool, Stop> {
+    let bytes = message(alloc, 1048576)?;
+    is_read_in_pieces(alloc, &bytes)
 }

@@ -1,15 +1,16 @@
-//! The `interface_version` of the handshake, the one message that the tests read, fresh endpoints, and pieces of bytes.
+//! The `interface_version` of the handshake, the one message that is read, fresh endpoints, and pieces of bytes.
 
 ghost use Rattle.std.specs.Prelude.{[], ◌∷◌, false};
 ghost use Rattle.ei_spec.specs.Value.{Word, Letters};
 
+use crate::stop::Stop;
 use ei_backend::{
-    Backend, InterfaceName, MessageEnum, Object, PendingRequestResult, Pieces, Table,
+    Backend, FIRST_SERVER_ID, InterfaceName, MessageEnum, Object, PendingRequestResult, Pieces,
+    Table,
 };
 use ei_spec::{Handle, KnownInterface};
-use ei_wire::{Arg, ByteStream, EiText, NoMemory, ParseError, ReadError};
+use ei_wire::{Arg, ByteStream, EiText, NoMemory, ParseError};
 use std::alloc::Global;
-use std::test::Fail;
 
 /// The most bytes of a piece.
 pub(crate) const PIECE: usize = 65536;
@@ -67,27 +68,25 @@ impl MessageEnum for InterfaceVersion {
     }
 }
 
-/// A fresh endpoint of that side.
-pub(crate) fn endpoint(alloc: Global, client: bool) -> Result<Backend, Fail> {
-    Ok(Backend::new(alloc, client)?)
+/// A fresh endpoint of that kind: a server or a client, or one whose own ids begin at its last one, or behind it.
+pub(crate) fn endpoint_of(alloc: Global, kind: &str) -> Result<Backend, Stop> {
+    match kind {
+        "server" => Ok(Backend::new(alloc, false)?),
+        "client" => Ok(Backend::new(alloc, true)?),
+        "last-of-server" => Ok(Backend::with_next_id(alloc, false, u64::MAX - 1)?),
+        "last-of-client" => Ok(Backend::with_next_id(alloc, true, FIRST_SERVER_ID - 1)?),
+        "none-of-client" => Ok(Backend::with_next_id(alloc, true, FIRST_SERVER_ID)?),
+        _ => Err(Stop::Line),
+    }
 }
 
 /// Adds a piece to a source, unless it has no byte, or more bytes or handles than a piece may have.
-pub(crate) fn give(pieces: &mut Pieces, bytes: &[u8], handles: &[Handle]) -> Result<(), Fail> {
+pub(crate) fn give(pieces: &mut Pieces, bytes: &[u8], handles: &[Handle]) -> Result<(), Stop> {
     if bytes.is_empty() || bytes.len() > PIECE || handles.len() > 64 {
-        return Err("no piece")?;
+        return Err(Stop::Line);
     }
     pieces.push(bytes, handles)?;
     Ok(())
-}
-
-/// Whether the next call of the source is answered so.
-pub(crate) fn reads(
-    backend: &mut Backend,
-    pieces: &mut Pieces,
-    want: Result<usize, ReadError>,
-) -> bool {
-    backend.read(pieces) == want
 }
 
 /// What the next message is read as.
@@ -95,4 +94,21 @@ pub(crate) fn next(
     backend: &mut Backend,
 ) -> Result<Option<PendingRequestResult<InterfaceVersion>>, NoMemory> {
     backend.pending()
+}
+
+/// The next message as a text, or why there is none.
+pub(crate) fn pending(alloc: Global, backend: &mut Backend) -> Result<String, Stop> {
+    let Ok(next) = next(backend) else {
+        return Ok(String::from_str(alloc, "no memory")?);
+    };
+    match next {
+        None => Ok(String::from_str(alloc, "nothing")?),
+        Some(PendingRequestResult::InvalidObject(id)) => {
+            Ok(format!(in alloc; "no object {id:x}")?)
+        }
+        Some(PendingRequestResult::ParseError(error)) => Ok(format!(in alloc; "{error:?}")?),
+        Some(PendingRequestResult::Request(message)) => {
+            Ok(format!(in alloc; "{} {}", message.name.as_str(), message.version)?)
+        }
+    }
 }
