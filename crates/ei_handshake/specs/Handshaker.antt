@@ -1,14 +1,15 @@
 -- What a server's handshake does with a request.
-use Rattle.std.specs.Prelude.{◌≡◌, ℕ, min, ◌+◌, ◌≤◌, Bool, true, false, List, [], ◌∷◌, ◌++◌, Option, Some, None, Result, Ok, Err, is_some, refl}
+use Rattle.std.specs.Prelude.{◌≡◌, ℕ, min, ◌+◌, ◌<◌, ◌≤◌, Bool, true, false, List, [], ◌∷◌, ◌++◌, Option, Some, None, Result, Ok, Err, is_some, unwrap_or, refl}
 use Rattle.std.specs.List.{list_all}
 use Rattle.std.specs.FinMap as finite
-use Rattle.std.specs.Coded.{Coded, code_by, coded×, coded_ℕ}
+use Rattle.std.specs.Coded.{Coded, code_by, coded×, coded_ℕ, coded_list, coded_option}
 use Rattle.ei_spec.specs.declared.interface.KnownInterface.{KnownInterface}
 use Rattle.ei_spec.specs.declared.interface.KnownInterface.TheVariants as known
 use Rattle.ei_spec.specs.Interface.{Known, ObjectView, name_of, known_of, server_version}
 use Rattle.ei_spec.specs.Value.{Word, Long}
 use Rattle.ei_spec.specs.Message.{Raw, all_bytes}
 use Rattle.ei_backend.specs.Backend.{BackendView, removed}
+use Rattle.ei_backend.specs.Endpoint.{endpoint_of}
 use Rattle.ei_backend.specs.Table.{own, own_end, with_own, without}
 use Rattle.ei_server.specs.declared.request.Request.{Request}
 use Rattle.ei_server.specs.declared.request.Request.TheVariants as request
@@ -17,19 +18,31 @@ use Rattle.ei_server.specs.declared.handshake.Request.TheVariants as asked
 use Rattle.ei_types.specs.declared.error.Error.{Error}
 use Rattle.ei_types.specs.declared.error.Error.TheVariants as error
 use Rattle.ei_types.specs.declared.error.HandshakeError.TheVariants as handshake_error
+use Rattle.ei_types.specs.declared.enums.ContextType.{ContextType}
 use Rattle.ei_types.specs.declared.enums.ContextType.TheVariants.{Receiver}
+use Rattle.ei_types.specs.contracts.enums.ContextType as context
 use Rattle.ei_session.specs.Built.{required}
 use Rattle.ei_session.specs.Replies.{settled_event, settled_events, connection_event}
 use Rattle.ei_handshake.specs.Versions.{VersionMap, version_code}
 use Rattle.ei_handshake.specs.declared.server.EisHandshakeResp.{EisHandshakeResp}
 
--- the serial that the connection will bear, and the versions so far
+-- the serial that the connection will bear, the versions so far, and the name and the context type, where they came
 pub record HandshakerView : Type 0 where
   pub serial : ℕ
   pub versions : VersionMap
+  pub name : Option (List ℕ)
+  pub context_type : Option ContextType
 
 abbrev pub handshaker_code : Coded HandshakerView
-handshaker_code = code_by (ℕ × VersionMap) (coded× coded_ℕ version_code) (λ h. (h.serial, h.versions)) (λ p. record { serial = p.0; versions = p.1 }) (λ _. refl)
+handshaker_code = code_by (ℕ × (VersionMap × (Option (List ℕ) × Option ContextType)))
+    (coded× coded_ℕ (coded× version_code (coded× (coded_option (coded_list coded_ℕ)) (coded_option context.the_row.coded))))
+    (λ h. (h.serial, (h.versions, (h.name, h.context_type)))) (λ p. record { serial = p.0; versions = p.1.0; name = p.1.1.0; context_type = p.1.1.1 }) (λ _. refl)
+
+-- a handshaker that was told nothing
+abbrev pub untold : ℕ → HandshakerView
+untold serial = record { serial = serial; versions = finite.empty; name = None; context_type = None }
+
+-- ---- versions
 
 -- the server's version of an interface that a handshake settles
 abbrev pub settled_version : KnownInterface → Option ℕ
@@ -56,10 +69,16 @@ settled_in versions interface = finite.get versions (name_of interface)
 abbrev pub has_required : VersionMap → Bool
 has_required versions = list_all (λ interface. is_some (settled_in versions interface)) required
 
+-- ---- what is sent
+
 -- the event of an interface, where it is settled
 abbrev pub event_if : ℕ → KnownInterface → Option ℕ → List Raw
 event_if handshake interface None = []
 event_if handshake interface (Some v) = settled_event handshake interface v ∷ []
+
+-- the events of all interfaces that are among the versions
+abbrev pub kept_events : ℕ → VersionMap → List Raw
+kept_events handshake versions = settled_events handshake (settled_in versions)
 
 -- the endpoint with these messages buffered
 abbrev pub sends : BackendView → List Raw → BackendView
@@ -69,58 +88,98 @@ sends b messages = record b { unsent = b.unsent ++ all_bytes messages }
 abbrev pub hands_over : BackendView → ℕ → ℕ → BackendView
 hands_over b handshake serial = record (sends b (connection_event handshake serial b.table.next_own ∷ [])) { table = without (with_own b.table (Known known.Connection) 1) handshake }
 
--- what the handshake of a complete finish answers
-pub record Completes (handshake : ℕ) (h : HandshakerView) (b : BackendView) (resp : EisHandshakeResp) (new : HandshakerView) (sent : BackendView) : Type 0 where
-  pub complete : has_required h.versions ≡ true
-  pub connection : resp.connection ≡ own b.table (Known known.Connection) 1
-  pub name : resp.name ≡ None
-  pub context_type : resp.context_type ≡ Receiver
-  pub versions : resp.negotiated_interfaces ≡ h.versions
-  pub empty : new ≡ record h { versions = finite.empty }
-  pub events : sent ≡ hands_over (sends b (settled_events handshake (settled_in h.versions))) handshake h.serial
+-- ---- what stays
 
--- the handshake and the endpoint are as before
+-- the handshaker and the endpoint are as before
 pub record Same (h : HandshakerView) (b : BackendView) (new : HandshakerView) (sent : BackendView) : Type 0 where
   pub handshaker : new ≡ h
   pub endpoint : sent ≡ b
 
--- how an announcement may be refused
-abbrev pub RefusesAnnouncement : Error → HandshakerView → BackendView → HandshakerView → BackendView → Type 0
-RefusesAnnouncement error.NoMemory h b new sent = Same h b new sent
-RefusesAnnouncement e h b new sent = ⊥
+-- they are, but that the endpoint has these messages more to send, and may have made more memory ready
+pub record Leaves (messages : List Raw) (h : HandshakerView) (b : BackendView) (new : HandshakerView) (sent : BackendView) : Type 0 where
+  pub handshaker : new ≡ h
+  pub endpoint : endpoint_of sent ≡ endpoint_of (sends b messages)
 
--- how a finish may be refused
+-- they are, but that the endpoint may have made more memory ready
+pub record SameButMemory (h : HandshakerView) (b : BackendView) (new : HandshakerView) (sent : BackendView) : Type 0 where
+  pub handshaker : new ≡ h
+  pub endpoint : endpoint_of sent ≡ endpoint_of b
+
+-- ---- what the client tells
+
+-- the handshaker that was told one thing more
+abbrev pub told : HandshakerView → Asked → HandshakerView
+told h (asked.HandshakeVersion version) = h
+told h (asked.Name name) = record h { name = Some name }
+told h (asked.ContextType kind) = record h { context_type = Some kind }
+told h (asked.InterfaceVersion name version) = record h { versions = with_version h.versions name version }
+told h asked.Finish = h
+
+-- whether a name or a context type comes again
+abbrev pub is_repeated : HandshakerView → Asked → Bool
+is_repeated h (asked.Name name) = is_some h.name
+is_repeated h (asked.ContextType kind) = is_some h.context_type
+is_repeated h other = false
+
+-- what came for the second time is refused as such
+abbrev pub IsSecond : Bool → Error → Type 0
+IsSecond came (error.Handshake handshake_error.DuplicateEvent) = came ≡ true
+IsSecond came e = ⊥
+
+-- what takes memory to keep
+abbrev pub TakesMemory : Asked → Type 0
+TakesMemory (asked.InterfaceVersion name version) = Unit {0}
+TakesMemory other = ⊥
+
+-- how what is told may be refused
+abbrev pub RefusesTold : Error → HandshakerView → BackendView → Asked → HandshakerView → BackendView → Type 0
+RefusesTold error.NoMemory h b m new sent = TakesMemory m × Same h b new sent
+RefusesTold e h b m new sent = IsSecond (is_repeated h m) e × Same h b new sent
+
+-- what is told is kept, or refused
+abbrev pub Keeps : HandshakerView → BackendView → Asked → Result (Option EisHandshakeResp) Error → HandshakerView → BackendView → Type 0
+Keeps h b m (Ok None) new sent = (is_repeated h m ≡ false) × (new ≡ told h m) × (sent ≡ b)
+Keeps h b m (Ok (Some resp)) new sent = ⊥
+Keeps h b m (Err e) new sent = RefusesTold e h b m new sent
+
+-- ---- the finish
+
+-- a finish is complete: the connection is handed over behind the events, and only the versions leave the handshaker
+pub record Completes (handshake : ℕ) (h : HandshakerView) (b : BackendView) (resp : EisHandshakeResp) (new : HandshakerView) (sent : BackendView) : Type 0 where
+  pub complete : has_required h.versions ≡ true
+  pub ids : b.table.next_own < own_end b.table
+  pub connection : resp.connection ≡ own b.table (Known known.Connection) 1
+  pub name : resp.name ≡ h.name
+  pub context_type : resp.context_type ≡ unwrap_or h.context_type Receiver
+  pub versions : resp.negotiated_interfaces ≡ h.versions
+  pub empty : new ≡ record h { versions = finite.empty }
+  pub events : endpoint_of sent ≡ endpoint_of (hands_over (sends b (kept_events handshake h.versions)) handshake h.serial)
+
+-- how a finish may be refused: where a required interface is missing, and then where no own id is left
 abbrev pub RefusesFinish : Error → ℕ → HandshakerView → BackendView → HandshakerView → BackendView → Type 0
-RefusesFinish error.NoMemory handshake h b new sent = new ≡ h
-RefusesFinish (error.Handshake handshake_error.MissingInterface) handshake h b new sent = (has_required h.versions ≡ false) × (new ≡ h) × (sent ≡ sends b (settled_events handshake (settled_in h.versions)))
-RefusesFinish error.IdsExhausted handshake h b new sent = (has_required h.versions ≡ true) × (own_end b.table ≤ b.table.next_own) × (new ≡ h) × (sent ≡ sends b (settled_events handshake (settled_in h.versions)))
+RefusesFinish error.NoMemory handshake h b new sent = SameButMemory h b new sent
+RefusesFinish (error.Handshake handshake_error.MissingInterface) handshake h b new sent = (has_required h.versions ≡ false) × Leaves (kept_events handshake h.versions) h b new sent
+RefusesFinish error.IdsExhausted handshake h b new sent =
+    (has_required h.versions ≡ true) × (own_end b.table ≤ b.table.next_own) × Leaves (kept_events handshake h.versions) h b new sent
 RefusesFinish e handshake h b new sent = ⊥
 
 -- what a finish may answer
-abbrev pub Finishes : ℕ → HandshakerView → BackendView → Result EisHandshakeResp Error → HandshakerView → BackendView → Type 0
-Finishes handshake h b (Ok resp) new sent = Completes handshake h b resp new sent
+abbrev pub Finishes : ℕ → HandshakerView → BackendView → Result (Option EisHandshakeResp) Error → HandshakerView → BackendView → Type 0
+Finishes handshake h b (Ok None) new sent = ⊥
+Finishes handshake h b (Ok (Some resp)) new sent = Completes handshake h b resp new sent
 Finishes handshake h b (Err e) new sent = RefusesFinish e handshake h b new sent
+
+-- ---- any request
+
+-- what a server's handshake does with a request of the handshake
+abbrev pub HandlesAsked : ℕ → HandshakerView → BackendView → Asked → Result (Option EisHandshakeResp) Error → HandshakerView → BackendView → Type 0
+HandlesAsked handshake h b asked.Finish result new sent = Finishes handshake h b result new sent
+HandlesAsked handshake h b m result new sent = Keeps h b m result new sent
 
 -- how any other request is refused
 abbrev pub RefusesOther : Error → HandshakerView → BackendView → HandshakerView → BackendView → Type 0
 RefusesOther (error.Handshake handshake_error.NonHandshakeEvent) h b new sent = Same h b new sent
 RefusesOther e h b new sent = ⊥
-
--- how a request of the handshake that isn't built is refused
-abbrev pub RefusesUnbuilt : Error → HandshakerView → BackendView → HandshakerView → BackendView → Type 0
-RefusesUnbuilt error.NotBuilt h b new sent = Same h b new sent
-RefusesUnbuilt e h b new sent = ⊥
-
--- what a server's handshake does with a request of the handshake
-abbrev pub HandlesAsked : ℕ → HandshakerView → BackendView → Asked → Result (Option EisHandshakeResp) Error → HandshakerView → BackendView → Type 0
-HandlesAsked handshake h b (asked.InterfaceVersion name version) (Ok None) new sent = (new ≡ record h { versions = with_version h.versions name version }) × (sent ≡ b)
-HandlesAsked handshake h b (asked.InterfaceVersion name version) (Ok (Some resp)) new sent = ⊥
-HandlesAsked handshake h b (asked.InterfaceVersion name version) (Err e) new sent = RefusesAnnouncement e h b new sent
-HandlesAsked handshake h b asked.Finish (Ok None) new sent = ⊥
-HandlesAsked handshake h b asked.Finish (Ok (Some resp)) new sent = Completes handshake h b resp new sent
-HandlesAsked handshake h b asked.Finish (Err e) new sent = RefusesFinish e handshake h b new sent
-HandlesAsked handshake h b other (Ok answer) new sent = ⊥
-HandlesAsked handshake h b other (Err e) new sent = RefusesUnbuilt e h b new sent
 
 -- what a server's handshake does with a request
 abbrev pub Handles : HandshakerView → BackendView → Request → Result (Option EisHandshakeResp) Error → HandshakerView → BackendView → Type 0

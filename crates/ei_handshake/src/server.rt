@@ -1,14 +1,18 @@
 //! The server's handshake.
 
-ghost use Rattle.std.specs.Prelude.{◌≡◌, ◌≤◌, ◌<◌, ℕ, Some, None, Ok, Err, IsSome, IfOk, OnOk, OnErr, IfErr, [], ◌∷◌};
+ghost use Rattle.std.specs.Prelude.{◌≡◌, ◌≤◌, ◌<◌, ◌+◌, ◌*◌, ℕ, Some, None, Ok, Err, IsSome, IfOk, OnOk, OnErr, IfErr, is_some, true, false, [], ◌∷◌};
 ghost use Rattle.std.specs.Option.{ForSome};
 ghost use Rattle.std.specs.FinMap as finite;
 ghost use Rattle.ei_types.specs.declared.error.Error.TheVariants as error;
 ghost use Rattle.ei_backend.specs.Table.{found};
-ghost use Rattle.ei_session.specs.Replies.{greeting_to, settled_events};
-ghost use Rattle.ei_handshake.specs.Handshaker.{settled_version, with_version, settled_in, has_required, event_if, sends, Handles, HandlesAsked, Finishes};
+ghost use Rattle.ei_backend.specs.Backend.{unsent_of, with_room};
+ghost use Rattle.ei_backend.specs.Outgoing.{HasSpare};
+ghost use Rattle.ei_session.specs.Replies.{greeting_to};
+ghost use Rattle.ei_handshake.specs.Handshaker.{untold, settled_version, with_version, settled_in, has_required, event_if, kept_events, sends};
+ghost use Rattle.ei_handshake.specs.Handshaker.{Handles, HandlesAsked, IsSecond, Completes, RefusesFinish};
 
 use crate::versions::Versions;
+use ei_backend::HasBackend;
 use ei_server::{Connection, Context, Handshake, Request, handshake};
 use ei_spec::KnownInterface;
 use ei_types::{ContextType, Error, HandshakeError, known_interfaces};
@@ -30,12 +34,21 @@ pub struct EisHandshakeResp {
     pub negotiated_interfaces: Versions,
 }
 
-/// The server's side of a handshake.
+/// How many bytes the event of a version has at most.
+const MOST_EVENT_BYTES: usize = 44;
+
+/// How many bytes the events have at most that answer a finish: one for each of the twelve interfaces, and
+/// the connection's.
+const MOST_FINISH_BYTES: usize = 12 * MOST_EVENT_BYTES + 32;
+
+/// The server's side of a handshake: what the client told so far.
 #[derive(Drop)]
 pub struct EisHandshaker {
     alloc: Global,
     initial_serial: u32,
     versions: Versions,
+    name: Option<EiText>,
+    context_type: Option<ContextType>,
 }
 
 impl Model for EisHandshaker {
@@ -45,7 +58,7 @@ impl Model for EisHandshaker {
 
     ghost coded = { handshaker_code };
 
-    ghost view = { λ h. record { serial = h.initial_serial; versions = h.versions } };
+    ghost view = { λ h. record { serial = h.initial_serial; versions = h.versions; name = h.name; context_type = h.context_type } };
 }
 
 impl EisHandshaker {
@@ -57,7 +70,7 @@ impl EisHandshaker {
         initial_serial: u32,
     ) -> Result<EisHandshaker, NoMemory>
         requires { IsSome (found ctx.old.table 0) }
-        ensures fresh { IfOk result (λ h. h ≡ record { serial = initial_serial; versions = finite.empty }) }
+        ensures fresh { IfOk result (λ h. h ≡ untold initial_serial) }
         ensures greets { OnOk result (ForSome (found ctx.old.table 0) (λ handshake. ctx.new ≡ sends ctx.old (greeting_to handshake.id ∷ []))) }
         ensures err { OnErr result (ctx.new ≡ ctx.old) }
     {
@@ -69,21 +82,29 @@ impl EisHandshaker {
             alloc,
             initial_serial,
             versions: Versions::new(alloc),
+            name: None,
+            context_type: None,
         })
     }
 
-    /// Does what a request of the handshake asks. It answers the connection at a complete `finish`.
+    /// Does what a request of the handshake asks. It answers the connection at a complete `finish`, and
+    /// nothing at any other request that isn't refused.
     ///
-    /// `NonHandshakeEvent` for a request of another interface; `MissingInterface` at a `finish` before
-    /// which ei_connection, ei_callback or ei_pingpong wasn't announced, with the events for those that
-    /// were announced left buffered; `IdsExhausted` where no own id is left for the connection; `NotBuilt`
-    /// for a request of the handshake that is neither `interface_version` nor `finish`.
+    /// The version in `handshake_version` is ignored, and so are unknown names of interfaces. Of a name that
+    /// is announced again the last version counts.
+    ///
+    /// `NonHandshakeEvent` exactly for a request of another interface; `DuplicateEvent` exactly for a second
+    /// name or context type; `MissingInterface` exactly at a `finish` before which ei_connection, ei_callback
+    /// or ei_pingpong wasn't announced; `IdsExhausted` exactly at any other `finish` where no own id is left
+    /// for the connection. The last two leave the events of the versions buffered. `NoMemory` at an
+    /// announcement or a `finish`: then nothing is kept or buffered, and only more memory may be ready.
     pub fn handle_request(
         &mut self,
         ctx: &mut Context,
         request: Request,
     ) -> Result<Option<EisHandshakeResp>, Error>
-        ensures { Handles self.old ctx.old request result self.new ctx.new }
+        ensures handles { Handles self.old ctx.old request result self.new ctx.new }
+        ensures ring { ctx.new.capacity ≡ ctx.old.capacity }
     {
         match request {
             Request::Handshake(handshake, asked) => self.handle(ctx, handshake, asked),
@@ -98,9 +119,19 @@ impl EisHandshaker {
         handshake: Handshake,
         asked: handshake::Request,
     ) -> Result<Option<EisHandshakeResp>, Error>
-        ensures { HandlesAsked handshake.id self.old ctx.old asked result self.new ctx.new }
+        ensures handles { HandlesAsked handshake.id self.old ctx.old asked result self.new ctx.new }
+        ensures ring { ctx.new.capacity ≡ ctx.old.capacity }
     {
         match asked {
+            handshake::Request::HandshakeVersion { .. } => Ok(None),
+            handshake::Request::Name { name } => {
+                self.keep_name(name)?;
+                Ok(None)
+            }
+            handshake::Request::ContextType { context_type } => {
+                self.keep_context_type(context_type)?;
+                Ok(None)
+            }
             handshake::Request::InterfaceVersion { name, version } => {
                 self.announce(name.as_str(), version)?;
                 Ok(None)
@@ -109,8 +140,35 @@ impl EisHandshaker {
                 let resp = self.finish(ctx, &handshake)?;
                 Ok(Some(resp))
             }
-            _ => Err(Error::NotBuilt),
         }
+    }
+
+    /// Keeps the client's name. `DuplicateEvent` where one came before.
+    fn keep_name(&mut self, name: EiText) -> Result<(), Error>
+        ensures first { OnOk result (is_some self.old.name ≡ false) }
+        ensures ok { OnOk result (self.new ≡ record self.old { name = Some name }) }
+        ensures err { OnErr result (self.new ≡ self.old) }
+        ensures only { IfErr result (IsSecond (is_some self.old.name)) }
+    {
+        if self.name.is_some() {
+            return Err(Error::Handshake(HandshakeError::DuplicateEvent));
+        }
+        self.name = Some(name);
+        Ok(())
+    }
+
+    /// Keeps what the client is for. `DuplicateEvent` where it was told before.
+    fn keep_context_type(&mut self, context_type: ContextType) -> Result<(), Error>
+        ensures first { OnOk result (is_some self.old.context_type ≡ false) }
+        ensures ok { OnOk result (self.new ≡ record self.old { context_type = Some context_type }) }
+        ensures err { OnErr result (self.new ≡ self.old) }
+        ensures only { IfErr result (IsSecond (is_some self.old.context_type)) }
+    {
+        if self.context_type.is_some() {
+            return Err(Error::Handshake(HandshakeError::DuplicateEvent));
+        }
+        self.context_type = Some(context_type);
+        Ok(())
     }
 
     /// Whether ei_connection, ei_callback and ei_pingpong were announced.
@@ -136,15 +194,30 @@ impl EisHandshaker {
         self.versions.insert(name, own.min(version))
     }
 
-    /// Ends the handshake: the versions that both ends have, and the connection.
+    /// A copy of the client's name.
+    fn copy_name(&self) -> Result<Option<EiText>, NoMemory>
+        ensures { IfOk result (λ name. name ≡ self.now.name) }
+    {
+        match &self.name {
+            Some(name) => Ok(Some(name.copy(self.alloc)?)),
+            None => Ok(None),
+        }
+    }
+
+    /// Ends the handshake: the versions that both ends have, and the connection. All memory is made ready
+    /// before the first event.
     fn finish(
         &mut self,
         ctx: &mut Context,
         handshake: &Handshake,
     ) -> Result<EisHandshakeResp, Error>
-        ensures { Finishes handshake.now.id self.old ctx.old result self.new ctx.new }
+        ensures ok { IfOk result (λ resp. Completes handshake.now.id self.old ctx.old resp self.new ctx.new) }
+        ensures err { IfErr result (λ e. RefusesFinish e handshake.now.id self.old ctx.old self.new ctx.new) }
+        ensures ring { ctx.new.capacity ≡ ctx.old.capacity }
     {
-        send_settled(handshake, ctx, &self.versions)?;
+        let name = self.copy_name()?;
+        make_room(ctx)?;
+        send_kept(handshake, ctx, &self.versions);
         if !self.has_required() {
             return Err(Error::Handshake(HandshakeError::MissingInterface));
         }
@@ -152,8 +225,8 @@ impl EisHandshaker {
         let versions = mem::replace(&mut self.versions, Versions::new(self.alloc));
         Ok(EisHandshakeResp {
             connection,
-            name: None,
-            context_type: ContextType::Receiver,
+            name,
+            context_type: self.context_type.unwrap_or(ContextType::Receiver),
             negotiated_interfaces: versions,
         })
     }
@@ -171,33 +244,39 @@ fn server_version(interface: KnownInterface) -> Option<u32>
     }
 }
 
+/// Makes room for all that a finish sends.
+fn make_room(ctx: &mut Context) -> Result<(), NoMemory>
+    ensures ok { OnOk result (ctx.new ≡ with_room MOST_FINISH_BYTES 0 1 ctx.old) }
+    ensures err { OnErr result (ctx.new ≡ ctx.old) }
+{
+    ctx.backend_mut().reserve(MOST_FINISH_BYTES, 0, 1)
+}
+
 /// Tells the client the version of an interface, where both ends have it.
-fn send_if_settled(
+fn send_if_kept(
     handshake: &Handshake,
     ctx: &mut Context,
     versions: &Versions,
     interface: KnownInterface,
-) -> Result<(), Error>
-    ensures ok { OnOk result (ctx.new ≡ sends ctx.old (event_if handshake.now.id interface (settled_in versions.now interface))) }
-    ensures only { IfErr result (λ e. e ≡ error.NoMemory) }
+)
+    requires { HasSpare MOST_EVENT_BYTES 0 (unsent_of ctx.old) ctx.old.room }
+    ensures { ctx.new ≡ sends ctx.old (event_if handshake.now.id interface (settled_in versions.now interface)) }
 {
-    match versions.get(interface.name()) {
-        Some(version) => {
-            handshake.interface_version(ctx, interface.name(), version)?;
-            Ok(())
-        }
-        None => Ok(()),
+    let name = interface.name();
+    if let Some(version) = versions.get(name) {
+        // There is room for it, and it is short.
+        handshake.interface_version(ctx, name, version).unwrap();
     }
 }
 
 /// Tells the client the versions that both ends have, in the order of the list.
-fn send_settled(handshake: &Handshake, ctx: &mut Context, versions: &Versions) -> Result<(), Error>
-    ensures ok { OnOk result (ctx.new ≡ sends ctx.old (settled_events handshake.now.id (settled_in versions.now))) }
-    ensures only { IfErr result (λ e. e ≡ error.NoMemory) }
+fn send_kept(handshake: &Handshake, ctx: &mut Context, versions: &Versions)
+    requires { HasSpare (12 * MOST_EVENT_BYTES) 0 (unsent_of ctx.old) ctx.old.room }
+    ensures sends { ctx.new ≡ sends ctx.old (kept_events handshake.now.id versions.now) }
+    ensures spare { (n : ℕ) → HasSpare (n + 12 * MOST_EVENT_BYTES) 0 (unsent_of ctx.old) ctx.old.room → HasSpare n 0 (unsent_of ctx.new) ctx.new.room }
 {
     let interfaces = known_interfaces();
     for (interface, _) in &interfaces {
-        send_if_settled(handshake, ctx, versions, *interface)?;
+        send_if_kept(handshake, ctx, versions, *interface);
     }
-    Ok(())
 }

@@ -51,6 +51,13 @@ impl Versions {
         self.get(name).is_some()
     }
 
+    /// How many names there are.
+    pub fn len(&self) -> usize
+        ensures { result ≡ finite.len self.now }
+    {
+        self.versions.len()
+    }
+
     /// Gives the name this version, in place of the one before.
     pub(crate) fn insert(&mut self, name: &str, version: u32) -> Result<(), NoMemory>
         ensures ok { OnOk result (self.new ≡ finite.insert self.old name.now version) }
