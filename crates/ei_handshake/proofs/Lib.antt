@@ -1,2 +1,4 @@
 pub mod Sending
+pub mod Room
 pub mod VersionLemmas
+pub mod SettledLaws

@@ -1,3 +1,4 @@
+pub mod Endpoint
 pub mod Handshaker
 pub mod Pending
 pub mod Versions
