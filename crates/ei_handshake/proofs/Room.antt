@@ -18,7 +18,7 @@ use Rattle.ei_types.specs.declared.error.Error.TheVariants as error
 use Rattle.ei_backend.specs.Table.{own, own_end, with_own, without}
 use Rattle.ei_backend.specs.Outgoing.{Room, HasSpare}
 use Rattle.ei_backend.specs.Backend.{BackendView, unsent_of, with_room, after_row}
-use Rattle.ei_handshake.specs.Endpoint.{Endpoint, endpoint_of}
+use Rattle.ei_backend.specs.Endpoint.{Endpoint, endpoint_of}
 use Rattle.ei_backend.specs.Sends.{SendsText, SendsNew}
 use Rattle.ei_backend.proofs.GoingOut.{message_length}
 use Rattle.ei_server.specs.Handshake.{event}

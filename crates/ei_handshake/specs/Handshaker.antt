@@ -9,7 +9,7 @@ use Rattle.ei_spec.specs.Interface.{Known, ObjectView, name_of, known_of, server
 use Rattle.ei_spec.specs.Value.{Word, Long}
 use Rattle.ei_spec.specs.Message.{Raw, all_bytes}
 use Rattle.ei_backend.specs.Backend.{BackendView, removed}
-use Rattle.ei_handshake.specs.Endpoint.{endpoint_of}
+use Rattle.ei_backend.specs.Endpoint.{endpoint_of}
 use Rattle.ei_backend.specs.Table.{own, own_end, with_own, without}
 use Rattle.ei_server.specs.declared.request.Request.{Request}
 use Rattle.ei_server.specs.declared.request.Request.TheVariants as request

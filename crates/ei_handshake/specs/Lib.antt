@@ -1,4 +1,3 @@
-pub mod Endpoint
 pub mod Handshaker
 pub mod Pending
 pub mod Versions
