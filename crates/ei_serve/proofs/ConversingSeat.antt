@@ -114,7 +114,7 @@ with_seat_is setup before after handles resp context over =
     there
     ∙ ap (λ (x : List Raw). seated_at (sends start (handing setup before)) connection_object v x) same_offers
     ∙ ap (λ (x : ℕ). seated_at (sends start (handing setup before)) connection_object x wanted) same_version
-    ∙ ap (λ (x : BackendView). record x { table = seat_table (version before known.Seat) }) (sends-append start (handing setup before) (seat_parts (version before known.Seat) wanted))
+    ∙ ap (λ (x : BackendView). record x { table = record (seat_table (version before known.Seat)) { room = over.ring.places } }) (sends-append start (handing setup before) (seat_parts (version before known.Seat) wanted))
     ∙ ap (λ (x : List Raw). sends (quiet (seat_table (version before known.Seat)) after handles over.ring) x) (finish_is setup before)
 
 -- ---- what is sent, and what stands when it is

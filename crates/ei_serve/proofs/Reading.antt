@@ -18,9 +18,9 @@ use Rattle.ei_backend.specs.Ring.{first_capacity, grown}
 use Rattle.ei_backend.proofs.RingLaws.{grown_bounded}
 use Rattle.ei_backend.specs.Incoming.{IsFirst}
 use Rattle.ei_backend.specs.Backend.{BackendView, ReadsOn, ReadsPiece, new_backend, unsent_of, with_unsent}
-use Rattle.ei_backend.specs.Outgoing.{nothing}
+use Rattle.ei_backend.specs.Outgoing.{nothing, no_room}
 use Rattle.ei_handshake.specs.Versions.{VersionMap}
-use Rattle.ei_handshake.specs.Handshaker.{HandshakerView, sends, settled_in}
+use Rattle.ei_handshake.specs.Handshaker.{HandshakerView, sends, settled_in, untold}
 use Rattle.ei_request.specs.Connection.{ConnectionView}
 use Rattle.ei_request.specs.Converter.{ConverterView}
 use Rattle.ei_serve.specs.declared.phase.Phase.{Phase}
@@ -42,13 +42,13 @@ unfolding connected occurs
 connected_none = refl
 
 -- a new endpoint whose greeting went out shakes hands
-pub starts : (setup : Setup) (serial : ℕ) (b greeted flushed : BackendView) (h : HandshakerView) → b ≡ new_backend handshake_table → ForSome (found b.table 0) (λ handshake. greeted ≡ sends b (greeting_to handshake.id ∷ [])) → h ≡ record { serial = serial; versions = empty } → unsent_of flushed ≡ nothing → flushed ≡ with_unsent (unsent_of flushed) greeted → setup.serial ≡ serial → ShakesHands setup [] [] [] flushed h
+pub starts : (setup : Setup) (serial : ℕ) (b greeted flushed : BackendView) (h : HandshakerView) → b ≡ new_backend handshake_table → ForSome (found b.table 0) (λ handshake. greeted ≡ sends b (greeting_to handshake.id ∷ [])) → h ≡ untold serial → unsent_of flushed ≡ nothing → flushed ≡ with_unsent (unsent_of flushed) greeted → setup.serial ≡ serial → ShakesHands setup [] [] [] flushed h
 starts setup serial b greeted flushed h new greets fresh sent kept same =
     let first : found b.table 0 ≡ Some (first_object false) = ap (λ (x : BackendView). found x.table 0) new ∙ found_first false first_server_id in
     let greeting : greeted ≡ sends (new_backend handshake_table) (greeting_to 0 ∷ []) = greets (first_object false) first ∙ ap (λ (x : BackendView). sends x (greeting_to 0 ∷ [])) new in
     record {
       unfinished = connected_none;
-      ring = record { capacity = first_capacity; most = omega arith };
+      ring = record { capacity = first_capacity; most = omega arith; room = no_room; places = 0 };
       endpoint = kept ∙ ap (λ (x : Piece). with_unsent x greeted) sent ∙ ap (λ (x : BackendView). with_unsent nothing x) greeting;
       serial = ap (λ (x : HandshakerView). x.serial) fresh ∙ sym same;
       versions = settled_none h.versions (ap (λ (x : HandshakerView). x.versions) fresh);
@@ -58,7 +58,7 @@ starts setup serial b greeted flushed h new greets fresh sent kept same =
 
 -- the ring of an endpoint with few bytes unread, once room was made in it for a piece
 abbrev with_room : (rest : List ℕ) → Ring → length rest < 1048576 → Ring
-with_room rest ring short = record { capacity = grown (length rest) ring.capacity; most = grown_bounded (length rest) ring.capacity short ring.most }
+with_room rest ring short = record { capacity = grown (length rest) ring.capacity; most = grown_bounded (length rest) ring.capacity short ring.most; room = ring.room; places = ring.places }
 
 -- what a source that told these pieces says of a read
 abbrev pub Told : Option (List Piece) → Option (List Piece) → Result ℕ ReadError → BackendView → BackendView → Type 0

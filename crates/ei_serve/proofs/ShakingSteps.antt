@@ -15,6 +15,7 @@ use Rattle.ei_types.specs.declared.error.HandshakeError.TheVariants as handshake
 use Rattle.ei_wire.specs.declared.error.ParseError.TheVariants as parse_error
 use Rattle.ei_backend.specs.Table.{own, own_end}
 use Rattle.ei_backend.specs.Backend.{BackendView}
+use Rattle.ei_backend.specs.Endpoint.{Endpoint, endpoint_of}
 use Rattle.ei_server.specs.declared.request.Request.{Request}
 use Rattle.ei_server.specs.declared.request.Request.TheVariants as request
 use Rattle.ei_server.specs.declared.handshake.Request.TheVariants as asked
@@ -24,7 +25,7 @@ use Rattle.ei_session.specs.Built.{judge}
 use Rattle.ei_session.specs.Replies.{connection_event, settled_event, settled_events}
 use Rattle.ei_session.proofs.OneMore.{accepts, connected_more, refuses}
 use Rattle.ei_handshake.specs.Versions.{VersionMap}
-use Rattle.ei_handshake.specs.Handshaker.{Handles, HandshakerView, RefusesAnnouncement, RefusesFinish, has_required, hands_over, sends, settled_in}
+use Rattle.ei_handshake.specs.Handshaker.{Handles, HandshakerView, RefusesTold, RefusesFinish, has_required, hands_over, kept_events, sends, settled_in}
 use Rattle.ei_handshake.specs.declared.server.EisHandshakeResp.{EisHandshakeResp}
 use Rattle.ei_handshake.proofs.Sending.{sends-append}
 use Rattle.ei_serve.specs.declared.shaking.Shaken.{Shaken}
@@ -107,12 +108,13 @@ handled (request.Handshake proxy (asked.InterfaceVersion name version)) setup pa
       record {
         unfinished = connected_more past m ∙ ap (λ (x : Bool). x || connected past) no ∙ s.unfinished;
         ring = s.ring;
-        endpoint = d.1 ∙ f.1.new_is;
-        serial = ap (λ (x : HandshakerView). x.serial) d.0 ∙ s.serial;
-        versions = λ i. ap (λ (x : HandshakerView). settled_in x.versions i) d.0 ∙ settled_then h.versions past m name version s.unfinished (announced_front name version rest handles s.ring b f.1) f.2 s.versions i;
+        endpoint = d.2 ∙ f.1.new_is;
+        serial = ap (λ (x : HandshakerView). x.serial) d.1 ∙ s.serial;
+        versions = λ i. ap (λ (x : HandshakerView). settled_in x.versions i) d.1 ∙ settled_then h.versions past m name version s.unfinished (announced_front name version rest handles s.ring b f.1) f.2 s.versions i;
       },
     )
-handled (request.Handshake proxy other) setup past rest handles first b sent h new s f d = absurd d
+handled (request.Handshake proxy asked.Finish) setup past rest handles first b sent h new s f d = absurd d
+handled (request.Handshake proxy other) setup past rest handles first b sent h new s f d = let g : false ≡ true = f.2 in absurd cc
 handled other setup past rest handles first b sent h new s f d = absurd d
 
 pub handled_at : (s : Request) (answer : Option EisHandshakeResp) (setup : Setup) (past : List Raw) (rest : List ℕ) (handles : List Handle) (first b sent : BackendView) (h new : HandshakerView) → (shakes : ShakesHands setup past rest handles first h) → IsFront rest handles shakes.ring h.versions b s → answer ≡ None → Handles h b s (Ok answer) new sent → Handled setup past rest handles sent new
@@ -133,20 +135,45 @@ handed_over : (after : List ℕ) (handles : List Handle) (ring : Ring) (serial :
     hands_over (sends (quiet handshake_table after handles ring) events) 0 serial ≡ sends (quiet connection_table after handles ring) (events ++ connection_event 0 serial connection_id ∷ [])
 handed_over after handles ring serial events = sends-append (quiet connection_table after handles ring) events (connection_event 0 serial connection_id ∷ [])
 
-sent_is : (after : List ℕ) (handles : List Handle) (ring : Ring) (b : BackendView) (id serial told : ℕ) (x y : KnownInterface → Option ℕ) → b ≡ quiet handshake_table after handles ring → id ≡ 0 → serial ≡ told → ((interface : KnownInterface) → x interface ≡ y interface) →
-    hands_over (sends b (settled_events id x)) id serial ≡ sends (quiet connection_table after handles ring) (settled_events 0 y ++ connection_event 0 told connection_id ∷ [])
-sent_is after handles ring b id serial told x y e i s same =
-    ap (λ (c : BackendView). hands_over (sends c (settled_events id x)) id serial) e
-    ∙ ap (λ (n : ℕ). hands_over (sends (quiet handshake_table after handles ring) (settled_events n x)) n serial) i
-    ∙ ap (hands_over (sends (quiet handshake_table after handles ring) (settled_events 0 x)) 0) s
-    ∙ ap (λ (events : List Raw). hands_over (sends (quiet handshake_table after handles ring) events) 0 told) (same_events 0 x y same)
-    ∙ handed_over after handles ring told (settled_events 0 y)
+-- an endpoint, with the memory that it has made ready
+abbrev with_memory : Endpoint → Ring → BackendView
+with_memory e ring = record {
+  table = record { objects = e.objects; next_own = e.next_own; next_peer = e.next_peer; client = e.client; room = ring.places };
+  unread = e.unread;
+  handles = e.handles;
+  unsent = e.unsent;
+  unsent_handles = e.unsent_handles;
+  closed = e.closed;
+  capacity = ring.capacity;
+  room = ring.room;
+}
+
+-- the ring of an endpoint in which room was made to send
+abbrev ring_of : Ring → BackendView → Ring
+ring_of ring b = record { capacity = ring.capacity; most = ring.most; room = b.room; places = b.table.room }
+
+memory_is : (ring : Ring) (b : BackendView) → b.capacity ≡ ring.capacity → b ≡ with_memory (endpoint_of b) (ring_of ring b)
+memory_is ring b e = ap (λ (n : ℕ). record b { capacity = n }) e
+
+sent_is : (after : List ℕ) (handles : List Handle) (ring : Ring) (b sent : BackendView) (id serial told : ℕ) (versions : VersionMap) (y : KnownInterface → Option ℕ) → b ≡ quiet handshake_table after handles ring → id ≡ 0 → serial ≡ told → ((interface : KnownInterface) → settled_in versions interface ≡ y interface) →
+    endpoint_of sent ≡ endpoint_of (hands_over (sends b (kept_events id versions)) id serial) → sent.capacity ≡ b.capacity →
+    sent ≡ sends (quiet connection_table after handles (ring_of ring sent)) (settled_events 0 y ++ connection_event 0 told connection_id ∷ [])
+sent_is after handles ring b sent id serial told versions y e i s same is c =
+    let x = settled_in versions in
+    memory_is ring sent (c ∙ ap (λ (v : BackendView). v.capacity) e)
+    ∙ ap (λ (v : Endpoint). with_memory v (ring_of ring sent)) (
+      is
+      ∙ ap (λ (v : BackendView). endpoint_of (hands_over (sends v (settled_events id x)) id serial)) e
+      ∙ ap (λ (n : ℕ). endpoint_of (hands_over (sends (quiet handshake_table after handles ring) (settled_events n x)) n serial)) i
+      ∙ ap (λ (n : ℕ). endpoint_of (hands_over (sends (quiet handshake_table after handles ring) (settled_events 0 x)) 0 n)) s
+      ∙ ap (λ (events : List Raw). endpoint_of (hands_over (sends (quiet handshake_table after handles ring) events) 0 told)) (same_events 0 x y same)
+      ∙ ap endpoint_of (handed_over after handles ring told (settled_events 0 y)))
 
 abbrev pub Completed : Setup → List Raw → List ℕ → List Handle → EisHandshakeResp → BackendView → Type 0
 Completed setup past rest handles resp b = (m : Raw) × (after : List ℕ) × (front rest ≡ Whole m after) × (judge past m ≡ Accepted) × (is_finish m ≡ true) × HandsOver setup past after handles resp b
 
-completed : (s : Request) (setup : Setup) (past : List Raw) (rest : List ℕ) (handles : List Handle) (first b sent : BackendView) (h new : HandshakerView) (resp : EisHandshakeResp) → (shakes : ShakesHands setup past rest handles first h) → IsFront rest handles shakes.ring h.versions b s → Handles h b s (Ok (Some resp)) new sent → Completed setup past rest handles resp sent
-completed (request.Handshake proxy asked.Finish) setup past rest handles first b sent h new resp s f d =
+completed : (s : Request) (setup : Setup) (past : List Raw) (rest : List ℕ) (handles : List Handle) (first b sent : BackendView) (h new : HandshakerView) (resp : EisHandshakeResp) → (shakes : ShakesHands setup past rest handles first h) → IsFront rest handles shakes.ring h.versions b s → Handles h b s (Ok (Some resp)) new sent → sent.capacity ≡ b.capacity → Completed setup past rest handles resp sent
+completed (request.Handshake proxy asked.Finish) setup past rest handles first b sent h new resp s f d c =
     let m = f.1.m in (
       m,
       f.1.after,
@@ -156,21 +183,22 @@ completed (request.Handshake proxy asked.Finish) setup past rest handles first b
       record {
         connection = d.connection ∙ ap (λ (x : BackendView). own x.table (Known known.Connection) 1) f.1.new_is;
         versions = λ i. ap (λ (x : VersionMap). settled_in x i) d.versions ∙ s.versions i;
-        ring = s.ring;
-        endpoint = d.events ∙ sent_is f.1.after handles s.ring b proxy.id h.serial setup.serial (settled_in h.versions) (settled past) f.1.new_is f.0 s.serial s.versions;
+        ring = ring_of s.ring sent;
+        endpoint = sent_is f.1.after handles s.ring b sent proxy.id h.serial setup.serial h.versions (settled past) f.1.new_is f.0 s.serial s.versions d.events c;
       },
     )
-completed (request.Handshake proxy other) setup past rest handles first b sent h new resp s f d = absurd d
-completed other setup past rest handles first b sent h new resp s f d = absurd d
+completed (request.Handshake proxy other) setup past rest handles first b sent h new resp s f d c = absurd d
+completed other setup past rest handles first b sent h new resp s f d c = absurd d
 
-pub completed_at : (s : Request) (answer : Option EisHandshakeResp) (setup : Setup) (past : List Raw) (rest : List ℕ) (handles : List Handle) (first b sent : BackendView) (h new : HandshakerView) (resp : EisHandshakeResp) → (shakes : ShakesHands setup past rest handles first h) → IsFront rest handles shakes.ring h.versions b s → answer ≡ Some resp → Handles h b s (Ok answer) new sent → Completed setup past rest handles resp sent
-completed_at s answer setup past rest handles first b sent h new resp shakes f e d = completed s setup past rest handles first b sent h new resp shakes f (subst (λ (x : Option EisHandshakeResp). Handles h b s (Ok x) new sent) e d)
+pub completed_at : (s : Request) (answer : Option EisHandshakeResp) (setup : Setup) (past : List Raw) (rest : List ℕ) (handles : List Handle) (first b sent : BackendView) (h new : HandshakerView) (resp : EisHandshakeResp) → (shakes : ShakesHands setup past rest handles first h) → IsFront rest handles shakes.ring h.versions b s → answer ≡ Some resp → Handles h b s (Ok answer) new sent → sent.capacity ≡ b.capacity → Completed setup past rest handles resp sent
+completed_at s answer setup past rest handles first b sent h new resp shakes f e d c = completed s setup past rest handles first b sent h new resp shakes f (subst (λ (x : Option EisHandshakeResp). Handles h b s (Ok x) new sent) e d) c
 
 -- ---- how handling is refused
 
-refuses_announcement : (e : Error) (past : List Raw) (rest : List ℕ) (h new : HandshakerView) (b sent : BackendView) → RefusesAnnouncement e h b new sent → Refuses past rest e
-refuses_announcement error.NoMemory past rest h new b sent d = tt
-refuses_announcement e past rest h new b sent d = absurd d
+refuses_announcement : (e : Error) (name : List ℕ) (version : ℕ) (past : List Raw) (rest : List ℕ) (h new : HandshakerView) (b sent : BackendView) → RefusesTold e h b (asked.InterfaceVersion name version) new sent → Refuses past rest e
+refuses_announcement error.NoMemory name version past rest h new b sent d = tt
+refuses_announcement (error.Handshake handshake_error.DuplicateEvent) name version past rest h new b sent d = let g : false ≡ true = d.0 in absurd cc
+refuses_announcement e name version past rest h new b sent d = absurd d.0
 
 -- an id is left for the connection
 id_left : (b : BackendView) (after : List ℕ) (handles : List Handle) (ring : Ring) → b ≡ quiet handshake_table after handles ring → own_end b.table ≤ b.table.next_own → ⊥
@@ -185,7 +213,7 @@ refuses_finish error.IdsExhausted past rest after handles ring id h new b sent q
 refuses_finish e past rest after handles ring id h new b sent q t d = absurd d
 
 pub refuses_handled : (s : Request) (e : Error) (past : List Raw) (rest : List ℕ) (handles : List Handle) (ring : Ring) (b sent : BackendView) (h new : HandshakerView) → IsFront rest handles ring h.versions b s → Handles h b s (Err e) new sent → Refuses past rest e
-refuses_handled (request.Handshake proxy (asked.InterfaceVersion name version)) e past rest handles ring b sent h new f d = refuses_announcement e past rest h new b sent d
+refuses_handled (request.Handshake proxy (asked.InterfaceVersion name version)) e past rest handles ring b sent h new f d = refuses_announcement e name version past rest h new b sent d
 refuses_handled (request.Handshake proxy asked.Finish) e past rest handles ring b sent h new f d = refuses_finish e past rest f.1.after handles ring proxy.id h new b sent f.1.new_is f.2 d
 refuses_handled (request.Handshake proxy other) e past rest handles ring b sent h new f d = let g : false ≡ true = f.2 in absurd cc
 refuses_handled other e past rest handles ring b sent h new f d = absurd f

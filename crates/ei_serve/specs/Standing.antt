@@ -12,7 +12,7 @@ use Rattle.ei_session.specs.Setup.{Setup}
 use Rattle.ei_session.specs.Handshake.{connected, settled, version}
 use Rattle.ei_session.specs.Session.{reading_of, accepted, is_over}
 use Rattle.ei_backend.specs.Table.{TableView, new_table, first_server_id, own, with_own, without}
-use Rattle.ei_backend.specs.Outgoing.{no_room}
+use Rattle.ei_backend.specs.Outgoing.{Room}
 use Rattle.ei_backend.specs.Backend.{BackendView}
 use Rattle.ei_handshake.specs.Versions.{VersionMap}
 use Rattle.ei_handshake.specs.Handshaker.{HandshakerView, settled_in}
@@ -49,14 +49,16 @@ seat_table v = with_own connection_table (Known known.Seat) v
 abbrev pub most_capacity : ℕ
 most_capacity = 2097152
 
--- how many bytes a ring holds
+-- how many bytes a ring holds, and how much may wait and how many own objects may be made without want of memory
 pub record Ring : Type 0 where
   pub capacity : ℕ
   pub most : capacity ≤ most_capacity
+  pub room : Room
+  pub places : ℕ
 
 -- an open endpoint over these objects that has nothing to send
 abbrev pub quiet : TableView → List ℕ → List Handle → Ring → BackendView
-quiet table unread handles ring = record { table = table; unread = unread; handles = handles; unsent = []; unsent_handles = []; closed = false; capacity = ring.capacity; room = no_room }
+quiet table unread handles ring = record { table = record table { room = ring.places }; unread = unread; handles = handles; unsent = []; unsent_handles = []; closed = false; capacity = ring.capacity; room = ring.room }
 
 -- the versions are those that the messages settled
 abbrev pub AreSettled : VersionMap → List Raw → Type 0

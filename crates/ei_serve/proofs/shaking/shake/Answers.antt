@@ -27,16 +27,16 @@ returns-in_err-handle_request-clause-shakes c = λ setup past rest handles s.
     let a = answers_here setup past rest handles c.args.context.now c.next_request.new.context c.args.handshaker.now c.in_ok-request.field-0 (Some c.in-Some.request) s c.in-Some.is c.in_ok-request.ensures.asks in
     let f = is_front c.in-Some.request c.in_ok-request-2.request rest handles s.ring c.args.handshaker.now.versions c.next_request.new.context (sym c.in_ok-request-2.ensures) a in
     at_err c.from_residual-in_err-handle_request.result p.0 c.in_err-handle_request.field-0.0 setup past rest handles _ _ p.1 p.2
-    (refuses_handled c.in_ok-request-2.request _ past rest handles s.ring c.next_request.new.context c.handle_request.new.ctx c.args.handshaker.now c.handle_request.new.self f c.in_err-handle_request.ensures)
+    (refuses_handled c.in_ok-request-2.request _ past rest handles s.ring c.next_request.new.context c.handle_request.new.ctx c.args.handshaker.now c.handle_request.new.self f c.in_err-handle_request.ensures.handles)
 
 pub returns-in-None-clause-shakes : goal.returns-in-None-clause-shakes
 returns-in-None-clause-shakes c = λ setup past rest handles s.
     let a = answers_here setup past rest handles c.args.context.now c.next_request.new.context c.args.handshaker.now c.in_ok-request.field-0 (Some c.in-Some.request) s c.in-Some.is c.in_ok-request.ensures.asks in
     let f = is_front c.in-Some.request c.in_ok-request-2.request rest handles s.ring c.args.handshaker.now.versions c.next_request.new.context (sym c.in_ok-request-2.ensures) a in
-    handled_at c.in_ok-request-2.request c.in_ok-handle_request.field-0 setup past rest handles c.args.context.now c.next_request.new.context c.handle_request.new.ctx c.args.handshaker.now c.handle_request.new.self s f c.in-None.is c.in_ok-handle_request.ensures
+    handled_at c.in_ok-request-2.request c.in_ok-handle_request.field-0 setup past rest handles c.args.context.now c.next_request.new.context c.handle_request.new.ctx c.args.handshaker.now c.handle_request.new.self s f c.in-None.is c.in_ok-handle_request.ensures.handles
 
 pub returns-in-Some-2-clause-shakes : goal.returns-in-Some-2-clause-shakes
 returns-in-Some-2-clause-shakes c = λ setup past rest handles s.
     let a = answers_here setup past rest handles c.args.context.now c.next_request.new.context c.args.handshaker.now c.in_ok-request.field-0 (Some c.in-Some.request) s c.in-Some.is c.in_ok-request.ensures.asks in
     let f = is_front c.in-Some.request c.in_ok-request-2.request rest handles s.ring c.args.handshaker.now.versions c.next_request.new.context (sym c.in_ok-request-2.ensures) a in
-    completed_at c.in_ok-request-2.request c.in_ok-handle_request.field-0 setup past rest handles c.args.context.now c.next_request.new.context c.handle_request.new.ctx c.args.handshaker.now c.handle_request.new.self c.in-Some-2.resp s f c.in-Some-2.is c.in_ok-handle_request.ensures
+    completed_at c.in_ok-request-2.request c.in_ok-handle_request.field-0 setup past rest handles c.args.context.now c.next_request.new.context c.handle_request.new.ctx c.args.handshaker.now c.handle_request.new.self c.in-Some-2.resp s f c.in-Some-2.is c.in_ok-handle_request.ensures.handles c.in_ok-handle_request.ensures.ring
