@@ -1,9 +1,7 @@
 //! The server's handshake.
 
-ghost use Rattle.std.specs.Prelude.{◌≡◌, ◌≤◌, ◌<◌, ◌+◌, ◌*◌, ℕ, Some, None, Ok, Err, IsSome, IfOk, OnOk, OnErr, IfErr, is_some, true, false, [], ◌∷◌};
+ghost use Rattle.std.specs.Prelude.{◌≡◌, ◌+◌, ◌*◌, ℕ, Some, None, IsSome, IfOk, OnOk, OnErr, IfErr, is_some, false, [], ◌∷◌};
 ghost use Rattle.std.specs.Option.{ForSome};
-ghost use Rattle.std.specs.FinMap as finite;
-ghost use Rattle.ei_types.specs.declared.error.Error.TheVariants as error;
 ghost use Rattle.ei_backend.specs.Table.{found};
 ghost use Rattle.ei_backend.specs.Backend.{unsent_of, with_room};
 ghost use Rattle.ei_backend.specs.Outgoing.{HasSpare};
