@@ -6,7 +6,7 @@ use Rattle.ei_spec.specs.declared.interface.KnownInterface.{KnownInterface}
 use Rattle.ei_spec.specs.declared.interface.KnownInterface.TheVariants as known
 use Rattle.ei_spec.specs.Interface.{known_of, the_twelve}
 use Rattle.ei_spec.specs.Message.{Raw}
-use Rattle.ei_session.specs.Built.{all_settled}
+use Rattle.ei_session.specs.Handshake.{all_settled}
 use Rattle.ei_session.specs.Handshake.{Announced, announced, connected, settled}
 use Rattle.ei_session.specs.Replies.{settled_event, settled_events}
 use Rattle.ei_session.specs.SettledMap.{settled_map}

@@ -21,7 +21,7 @@ use Rattle.ei_types.specs.declared.error.HandshakeError.TheVariants as handshake
 use Rattle.ei_types.specs.declared.enums.ContextType.{ContextType}
 use Rattle.ei_types.specs.declared.enums.ContextType.TheVariants.{Receiver}
 use Rattle.ei_types.specs.contracts.enums.ContextType as context
-use Rattle.ei_session.specs.Built.{required}
+use Rattle.ei_session.specs.Handshake.{required}
 use Rattle.ei_session.specs.Replies.{settled_event, settled_events, connection_event}
 use Rattle.ei_handshake.specs.Versions.{VersionMap, version_code}
 use Rattle.ei_handshake.specs.declared.server.EisHandshakeResp.{EisHandshakeResp}

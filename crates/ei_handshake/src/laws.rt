@@ -3,8 +3,7 @@
 ghost use Rattle.std.specs.Prelude.{◌≡◌, ℕ, List, [], ◌∷◌, false, None, Some};
 ghost use Rattle.std.specs.FinMap as finite;
 ghost use Rattle.ei_spec.specs.Message.{Raw};
-ghost use Rattle.ei_session.specs.Built.{all_settled};
-ghost use Rattle.ei_session.specs.Handshake.{Announced, announced, connected, settled};
+ghost use Rattle.ei_session.specs.Handshake.{Announced, all_settled, announced, connected, settled};
 ghost use Rattle.ei_session.specs.Replies.{settled_events};
 ghost use Rattle.ei_session.specs.SettledMap.{settled_map};
 ghost use Rattle.ei_handshake.specs.Handshaker.{with_version, has_required, kept_events};

@@ -5,11 +5,13 @@ use Rattle.std.specs.Coded.{Coded, code_by, coded×, coded_ℕ}
 use Rattle.ei_spec.specs.declared.interface.KnownInterface.{KnownInterface}
 use Rattle.ei_spec.specs.declared.interface.KnownInterface.TheVariants as known
 use Rattle.ei_spec.specs.Interface.{Known, ObjectView, name_of}
+use Rattle.ei_spec.specs.Value.{Word, Long}
 use Rattle.ei_spec.specs.Message.{Raw}
 use Rattle.ei_backend.specs.Backend.{BackendView}
 use Rattle.ei_backend.specs.Codes.{backend_code, object_code}
 use Rattle.ei_backend.specs.Table.{own, with_own}
 use Rattle.ei_types.specs.Capability.{has_bit}
+use Rattle.ei_session.specs.Arguments.{event}
 use Rattle.ei_session.specs.Replies.{seat_event, name_event, capability_event, capability_events, done_event}
 use Rattle.ei_handshake.specs.Versions.{VersionMap, version_code}
 use Rattle.ei_handshake.specs.Handshaker.{sends, settled_in}
@@ -57,6 +59,10 @@ seat_events c name mask =
 -- the connection with a new seat
 abbrev pub with_seat : ConnectionView → Option (List ℕ) → ℕ → ConnectionView
 with_seat c name mask = record c { ctx = record (sends c.ctx (seat_events c name mask)) { table = with_own c.ctx.table (Known known.Seat) (seat_version c.negotiated) } }
+
+-- the event that no object has the id
+abbrev pub no_object_event : ConnectionView → ℕ → Raw
+no_object_event c id = event known.Connection (codes "invalid_object") c.proxy.id (Word c.last_serial ∷ Long id ∷ [])
 
 -- the connection with these messages buffered
 abbrev pub with_events : ConnectionView → List Raw → ConnectionView

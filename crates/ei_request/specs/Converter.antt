@@ -7,7 +7,7 @@ use Rattle.ei_server.specs.declared.request.Request.TheVariants as request
 use Rattle.ei_server.specs.declared.connection.Request.TheVariants as of_connection
 use Rattle.ei_types.specs.declared.error.Error.{Error}
 use Rattle.ei_types.specs.declared.error.Error.TheVariants as error
-use Rattle.ei_session.specs.Framed.{Request, Disconnect}
+use Rattle.ei_session.specs.Requests.{Request, Disconnect}
 use Rattle.ei_request.specs.Connection.{ConnectionView, connection_code}
 use Rattle.ei_request.specs.declared.event.EisRequest.{EisRequest}
 use Rattle.ei_request.specs.declared.event.EisRequest.TheVariants as asked

@@ -1,6 +1,6 @@
 //! The connection of a server.
 
-ghost use Rattle.std.specs.Prelude.{◌≡◌, ◌≤◌, ℕ, Some, None, Err, IfOk, IfErr, OnOk, IsSome, is_some, [], ◌∷◌};
+ghost use Rattle.std.specs.Prelude.{◌≡◌, ◌≤◌, ℕ, Some, None, Err, IfOk, IfErr, OnOk, OnErr, IsSome, is_some, [], ◌∷◌};
 ghost use Rattle.std.specs.FinMap as finite;
 ghost use Rattle.std.specs.Borrow.{sem};
 ghost use Rattle.ei_wire.specs.declared.error.SendError.TheVariants as send_error;
@@ -9,7 +9,7 @@ ghost use Rattle.ei_backend.specs.Table.{own_end};
 ghost use Rattle.std.specs.Option.{option_copied};
 ghost use Rattle.ei_session.specs.Replies.{capability_event, capability_events};
 ghost use Rattle.ei_handshake.specs.Handshaker.{sends};
-ghost use Rattle.ei_request.specs.Connection.{with_seat, new_seat, capability_if, is_settled};
+ghost use Rattle.ei_request.specs.Connection.{with_seat, new_seat, capability_if, is_settled, with_events, no_object_event};
 ghost use Rattle.ei_request.specs.Lending.{LendsContext};
 
 use crate::seat::Seat;
@@ -97,6 +97,18 @@ impl Connection {
         ensures { result ≡ self.now.last_serial }
     {
         self.last_serial
+    }
+
+    /// Tells the client that a request was sent to an id that no object has.
+    ///
+    /// `NoMemory`: nothing is sent.
+    pub fn invalid_object(&mut self, invalid_id: u64) -> Result<(), SendError>
+        ensures ok { OnOk result (self.new ≡ with_events self.old (no_object_event self.old invalid_id ∷ [])) }
+        ensures err { OnErr result (self.new ≡ self.old) }
+        ensures only { IfErr result (λ e. e ≡ send_error.NoMemory) }
+    {
+        self.proxy
+            .invalid_object(&mut self.context, self.last_serial, invalid_id)
     }
 
     /// Announces a seat: `seat`, `name` where there is one, `capability` for each of the capabilities

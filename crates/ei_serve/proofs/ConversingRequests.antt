@@ -1,6 +1,6 @@
 -- What the objects of a connection say of the message at the front.
-use Rattle.std.proofs.Common.{inl, inr, ◌⊎◌, ◌||◌, ◌≡◌, ℕ, Bool, true, false, cond, ◌==◌, ◌&&◌, List, [], ◌∷◌, ◌++◌, take, Option, Some, None, is_some, Result}
-use Rattle.std.proofs.Common.{Ok, Err, refl, sym, ap, subst, ◌∙◌}
+use Rattle.std.proofs.Common.{inl, inr, ◌≡◌, ◌≢◌, ℕ, Bool, true, false, cond, eqb, ◌==◌, ◌||◌, List, [], ◌∷◌, ◌++◌, Option, Some, None, Result}
+use Rattle.std.proofs.Common.{Ok, Err, refl, sym, ap, subst, ◌∙◌, arith}
 use Rattle.std.specs.Ordering.{nat_cmp, eq_by_cmp}
 use Rattle.std.specs.Cmp.{nat_cmp_total, unsigned_tied}
 use Rattle.std.specs.FinMap.{empty, get-empty, get-insert, get-remove}
@@ -8,15 +8,21 @@ use Rattle.std.proofs.lemmas.Bool.{eqb-true}
 use Rattle.ei_spec.specs.declared.handle.Handle.{Handle}
 use Rattle.ei_spec.specs.declared.interface.KnownInterface.{KnownInterface}
 use Rattle.ei_spec.specs.declared.interface.KnownInterface.TheVariants as known
-use Rattle.ei_spec.specs.Value.{Value}
 use Rattle.ei_spec.specs.Interface.{Known, ObjectView}
+use Rattle.ei_spec.specs.Reading.{Fault}
 use Rattle.ei_spec.specs.Message.{Raw, Short, Whole, front}
-use Rattle.ei_spec.specs.Stream.{Final}
+use Rattle.ei_spec.specs.Piece.{Piece}
+use Rattle.ei_spec.specs.Stream.{Accepted, Final, Refused}
 use Rattle.ei_session.specs.Setup.{Setup, connection_id, seat_id}
 use Rattle.ei_session.specs.Arguments.{request_args}
 use Rattle.ei_session.specs.Handshake.{connected, version}
-use Rattle.ei_session.specs.Built.{is_disconnect, judge}
-use Rattle.ei_session.proofs.OneMore.{ends, refuses_after}
+use Rattle.ei_session.specs.Objects.{Entry, object, handed_over}
+use Rattle.ei_session.specs.Refusals.{Refusal, NotBuilt, is_disconnect}
+use Rattle.ei_session.specs.Requests.{item, Disconnect}
+use Rattle.ei_session.specs.Events.{reply}
+use Rattle.ei_session.specs.Guard.{judge}
+use Rattle.ei_session.proofs.FirstObjects.{the_connection}
+use Rattle.ei_session.proofs.GuardLaws.{last, last_item, last_reply, other, unknown, is_one, other_opcode, unread, elsewhere}
 use Rattle.ei_backend.specs.Table.{found, own, with_own, first_object}
 use Rattle.ei_backend.specs.Backend.{BackendView}
 use Rattle.ei_server.specs.declared.request.Request.{Request}
@@ -25,16 +31,21 @@ use Rattle.ei_server.specs.declared.connection.Request.TheVariants as of_connect
 use Rattle.ei_server.specs.Request.{target_of, code_of, values_of}
 use Rattle.ei_types.specs.declared.error.Error.{Error}
 use Rattle.ei_types.specs.declared.error.Error.TheVariants as error
+use Rattle.ei_wire.specs.Gives.{fault_of}
+use Rattle.ei_wire.specs.declared.error.ParseError.{ParseError}
 use Rattle.ei_wire.specs.declared.error.ParseError.TheVariants as parse_error
-use Rattle.ei_request.specs.Connection.{ConnectionView}
-use Rattle.ei_request.specs.Converter.{ConverterView, Converts, is_handshake, is_last}
+use Rattle.ei_request.specs.Converter.{is_handshake, is_last}
 use Rattle.ei_request.specs.Converter as converter
 use Rattle.ei_request.specs.declared.event.EisRequest.{EisRequest}
 use Rattle.ei_request.specs.declared.event.EisRequest.TheVariants as asked
+use Rattle.ei_serve.specs.declared.phase.Phase.{Phase}
 use Rattle.ei_serve.specs.declared.phase.Step.{Step}
-use Rattle.ei_serve.specs.Asking.{AllKnown, is_sync, Takes, Unreadable, Asks, RefusesToAsk}
-use Rattle.ei_serve.specs.Standing.{IsConnected, AreSettled, Ring, handshake_table, connection_object, connection_table, seat_table, quiet}
-use Rattle.ei_serve.specs.Steps.{Refuses, Converses}
+use Rattle.ei_serve.specs.declared.phase.Step.TheVariants as step
+use Rattle.ei_serve.specs.Asking.{AllKnown, is_sync, Takes, IsGone, Unreadable, SaysWhy, unreadable_as}
+use Rattle.ei_serve.specs.Standing.{handshake_table, connection_object, connection_table, seat_table}
+use Rattle.ei_serve.specs.Steps.{RefusesFront, Refuses, TakesRequest, Steps}
+use Rattle.ei_serve.proofs.Endpoints.{Memory, quiet_with}
+use Rattle.ei_serve.proofs.Stepping.{refused_step, goes_last}
 
 -- ---- the objects of a connection
 
@@ -88,176 +99,147 @@ known_by id o (IsSeat i e) = (known.Seat, e)
 pub all_known : (v : ℕ) → AllKnown (seat_table v)
 all_known v = λ id o e. known_by id o (kinds v id o e)
 
--- ---- a disconnect
+-- ---- the same objects, as the definitions have them
 
-all_three : (id opcode : ℕ) (args : Option (List Value)) (values : List Value) → id ≡ connection_id → opcode ≡ 1 → args ≡ Some values → ((id == connection_id) && ((opcode == 1) && is_some args)) ≡ true
-all_three id opcode args values i o a = rw (i, o, a) refl
+-- what is there by the definitions is what the finish handed over
+abbrev pub AreHandedOver : List Raw → Type 0
+AreHandedOver past = (id : ℕ) → object past id ≡ handed_over past id
 
-disconnects : (m : Raw) (values : List Value) → m.id ≡ connection_id → 1 ≡ m.opcode → request_args known.Connection m ≡ Some values → is_disconnect m ≡ true
-unfolding is_disconnect
-disconnects m values i o a = all_three m.id m.opcode (request_args known.Connection m) values i (sym o) a
+handed_connection : (past : List Raw) → handed_over past connection_id ≡ Some the_connection
+unfolding handed_over
+handed_connection past = refl
 
--- a request that was taken is a disconnect
-pub record Disconnects (rest : List ℕ) (r : Request) : Type 0 where
-  pub m : Raw
-  pub after : List ℕ
-  pub front_is : front rest ≡ Whole m after
-  pub disconnect : is_disconnect m ≡ true
-  pub asked : (o : ObjectView) × (r ≡ request.Connection o of_connection.Disconnect)
+handed_seat : (past : List Raw) → handed_over past seat_id ≡ Some (record { interface = known.Seat; version = version past known.Seat; device = None })
+unfolding handed_over
+handed_seat past = refl
+
+handed_nothing : (past : List Raw) (id : ℕ) → eqb id connection_id ≡ false → eqb id seat_id ≡ false → handed_over past id ≡ None
+unfolding handed_over
+handed_nothing past id c s = rw (c, s) refl
+
+-- an object that is found is there
+pub there : (past : List Raw) (id : ℕ) (o : ObjectView) → AreHandedOver past → Kinds id o → (e : Entry) × (object past id ≡ Some e)
+there past id o are (IsConnection i e) = (the_connection, are id ∙ ap (handed_over past) i ∙ handed_connection past)
+there past id o are (IsSeat i e) = (record { interface = known.Seat; version = version past known.Seat; device = None }, are id ∙ ap (handed_over past) i ∙ handed_seat past)
+
+seat_found : (v : ℕ) → found (seat_table v) seat_id ≡ Some (seat_object v)
+seat_found v = found_at v seat_id
+
+not_there : (v id known_id : ℕ) (o : ObjectView) (b : Bool) → eqb id known_id ≡ b → found (seat_table v) known_id ≡ Some o → found (seat_table v) id ≡ None → eqb id known_id ≡ false
+not_there v id known_id o true e f n = let g : None ≡ Some o = sym n ∙ ap (found (seat_table v)) (eqb-true id known_id e) ∙ f in absurd cc
+not_there v id known_id o false e f n = e
+
+-- and one that isn't found isn't
+pub nothing_there : (past : List Raw) (v id : ℕ) → AreHandedOver past → found (seat_table v) id ≡ None → object past id ≡ None
+nothing_there past v id are n =
+    are id
+    ∙ handed_nothing past id (not_there v id connection_id connection_object (eqb id connection_id) refl (connection_found v) n) (not_there v id seat_id (seat_object v) (eqb id seat_id) refl (seat_found v) n)
+
+-- ---- what was taken
 
 interface_is : (o p : ObjectView) → o ≡ p → o.interface ≡ p.interface
 interface_is o p e = ap (λ (x : ObjectView). x.interface) e
 
--- what was taken: a disconnect, or another request to the connection or to its seat
-pub data Taken (rest : List ℕ) (r : Request) : Type 0 where
-  IsDisconnect : Disconnects rest r → Taken rest r
-  IsOther : (m : Raw) → (after : List ℕ) → front rest ≡ Whole m after → is_disconnect m ≡ false → is_handshake r ≡ false → is_last r ≡ false → Taken rest r
+seat_is_no_connection : (id : ℕ) → id ≡ seat_id → id ≢ connection_id
+seat_is_no_connection id s c = let g : seat_id ≡ connection_id = sym s ∙ c in absurd (omega (arith, g))
 
-and_false : (a : Bool) → (a && false) ≡ false
-and_false true = refl
-and_false false = refl
+not_one : (opcode : ℕ) → opcode ≡ 0 → opcode ≢ 1
+not_one opcode z o = let g : 0 ≡ 1 = sym z ∙ o in absurd (omega (arith, g))
 
--- a message of another opcode, or to another object
-other_opcode : (m : Raw) → 0 ≡ m.opcode → is_disconnect m ≡ false
-unfolding is_disconnect
-other_opcode m o = ap (λ (n : ℕ). (m.id == connection_id) && ((n == 1) && is_some (request_args known.Connection m))) (sym o) ∙ and_false (m.id == connection_id)
+-- a disconnect, or another request to the connection or to its seat
+pub data Taken (past : List Raw) (rest : List ℕ) (r : Request) : Type 0 where
+  IsDisconnect : (m : Raw) → (after : List ℕ) → front rest ≡ Whole m after → is_disconnect past m ≡ true → (o : ObjectView) → r ≡ request.Connection o of_connection.Disconnect → Taken past rest r
+  IsOther : (m : Raw) → (after : List ℕ) → front rest ≡ Whole m after → is_disconnect past m ≡ false → (e : Entry) → object past m.id ≡ Some e → is_handshake r ≡ false → is_last r ≡ false → Taken past rest r
 
-other_object : (m : Raw) → m.id ≡ seat_id → is_disconnect m ≡ false
-unfolding is_disconnect
-other_object m i = ap (λ (n : ℕ). (n == connection_id) && ((m.opcode == 1) && is_some (request_args known.Connection m))) i
+module _ (setup : Setup) (past : List Raw) (on : connected past ≡ true) (are : AreHandedOver past) (v : ℕ) (rest : List ℕ) (handles : List Handle) (memory : Memory) where
+  takes_by : (r : Request) (new : BackendView) → (t : Takes (quiet_with (seat_table v) rest handles memory) (target_of r) (code_of r) (values_of r) new) → Kinds t.m.id (target_of r) → Taken past rest r
+  takes_by (request.Connection o of_connection.Disconnect) new t (IsConnection i e) =
+      let k : Known known.Connection ≡ Known t.interface = t.interface_is in
+      let one : t.interface ≡ known.Connection = cc in
+      let plain : is_sync t.interface t.m.opcode ≡ false = ap (λ (x : KnownInterface). is_sync x t.m.opcode) one ∙ ap (λ (n : ℕ). n == 0) (sym t.opcode_is) in
+      IsDisconnect t.m t.rest t.front_is (is_one past t.m [] on i (sym t.opcode_is) (ap (λ (x : KnownInterface). request_args x t.m) (sym one) ∙ t.args plain)) o refl
+  takes_by (request.Connection o (of_connection.Sync callback)) new t (IsConnection i e) =
+      let w = there past t.m.id (target_of (request.Connection o (of_connection.Sync callback))) are (IsConnection i e) in
+      IsOther t.m t.rest t.front_is (other_opcode past t.m (not_one t.m.opcode (sym t.opcode_is))) w.0 w.1 refl refl
+  takes_by (request.Connection o a) new t (IsSeat i e) = absurd cc
+  takes_by (request.Seat o a) new t (IsSeat i e) =
+      let w = there past t.m.id (target_of (request.Seat o a)) are (IsSeat i e) in
+      IsOther t.m t.rest t.front_is (elsewhere past t.m (seat_is_no_connection t.m.id i)) w.0 w.1 refl refl
+  takes_by (request.Handshake o a) new t (IsConnection i e) = let g : Known known.Handshake ≡ Known known.Connection = interface_is _ _ e in absurd cc
+  takes_by (request.Pingpong o a) new t (IsConnection i e) = let g : Known known.Pingpong ≡ Known known.Connection = interface_is _ _ e in absurd cc
+  takes_by (request.Seat o a) new t (IsConnection i e) = let g : Known known.Seat ≡ Known known.Connection = interface_is _ _ e in absurd cc
+  takes_by (request.Device o a) new t (IsConnection i e) = let g : Known known.Device ≡ Known known.Connection = interface_is _ _ e in absurd cc
+  takes_by (request.Pointer o a) new t (IsConnection i e) = let g : Known known.Pointer ≡ Known known.Connection = interface_is _ _ e in absurd cc
+  takes_by (request.PointerAbsolute o a) new t (IsConnection i e) = let g : Known known.PointerAbsolute ≡ Known known.Connection = interface_is _ _ e in absurd cc
+  takes_by (request.Scroll o a) new t (IsConnection i e) = let g : Known known.Scroll ≡ Known known.Connection = interface_is _ _ e in absurd cc
+  takes_by (request.Button o a) new t (IsConnection i e) = let g : Known known.Button ≡ Known known.Connection = interface_is _ _ e in absurd cc
+  takes_by (request.Keyboard o a) new t (IsConnection i e) = let g : Known known.Keyboard ≡ Known known.Connection = interface_is _ _ e in absurd cc
+  takes_by (request.Touchscreen o a) new t (IsConnection i e) = let g : Known known.Touchscreen ≡ Known known.Connection = interface_is _ _ e in absurd cc
+  takes_by (request.Text o a) new t (IsConnection i e) = let g : Known known.Text ≡ Known known.Connection = interface_is _ _ e in absurd cc
+  takes_by (request.Handshake o a) new t (IsSeat i e) = absurd cc
+  takes_by (request.Pingpong o a) new t (IsSeat i e) = absurd cc
+  takes_by (request.Device o a) new t (IsSeat i e) = absurd cc
+  takes_by (request.Pointer o a) new t (IsSeat i e) = absurd cc
+  takes_by (request.PointerAbsolute o a) new t (IsSeat i e) = absurd cc
+  takes_by (request.Scroll o a) new t (IsSeat i e) = absurd cc
+  takes_by (request.Button o a) new t (IsSeat i e) = absurd cc
+  takes_by (request.Keyboard o a) new t (IsSeat i e) = absurd cc
+  takes_by (request.Touchscreen o a) new t (IsSeat i e) = absurd cc
+  takes_by (request.Text o a) new t (IsSeat i e) = absurd cc
 
-takes_by : (v : ℕ) (rest : List ℕ) (handles : List Handle) (ring : Ring) (r : Request) (new : BackendView) → (t : Takes (quiet (seat_table v) rest handles ring) (target_of r) (code_of r) (values_of r) new) → Kinds t.m.id (target_of r) → Taken rest r
-takes_by v rest handles ring (request.Connection o of_connection.Disconnect) new t (IsConnection i e) =
-    let k : Known known.Connection ≡ Known t.interface = t.interface_is in
-    let one : t.interface ≡ known.Connection = cc in
-    let plain : is_sync t.interface t.m.opcode ≡ false = ap (λ (x : KnownInterface). is_sync x t.m.opcode) one ∙ ap (λ (n : ℕ). n == 0) (sym t.opcode_is) in
-    IsDisconnect (record {
-      m = t.m;
-      after = t.rest;
-      front_is = t.front_is;
-      disconnect = disconnects t.m [] i t.opcode_is (ap (λ (x : KnownInterface). request_args x t.m) (sym one) ∙ t.args plain);
-      asked = (o, refl);
-    })
-takes_by v rest handles ring (request.Connection o (of_connection.Sync callback)) new t (IsConnection i e) = IsOther t.m t.rest t.front_is (other_opcode t.m t.opcode_is) refl refl
-takes_by v rest handles ring (request.Connection o a) new t (IsSeat i e) = absurd cc
-takes_by v rest handles ring (request.Seat o a) new t (IsSeat i e) = IsOther t.m t.rest t.front_is (other_object t.m i) refl refl
-takes_by v rest handles ring (request.Handshake o a) new t (IsConnection i e) = let g : Known known.Handshake ≡ Known known.Connection = interface_is _ _ e in absurd cc
-takes_by v rest handles ring (request.Pingpong o a) new t (IsConnection i e) = let g : Known known.Pingpong ≡ Known known.Connection = interface_is _ _ e in absurd cc
-takes_by v rest handles ring (request.Seat o a) new t (IsConnection i e) = let g : Known known.Seat ≡ Known known.Connection = interface_is _ _ e in absurd cc
-takes_by v rest handles ring (request.Device o a) new t (IsConnection i e) = let g : Known known.Device ≡ Known known.Connection = interface_is _ _ e in absurd cc
-takes_by v rest handles ring (request.Pointer o a) new t (IsConnection i e) = let g : Known known.Pointer ≡ Known known.Connection = interface_is _ _ e in absurd cc
-takes_by v rest handles ring (request.PointerAbsolute o a) new t (IsConnection i e) = let g : Known known.PointerAbsolute ≡ Known known.Connection = interface_is _ _ e in absurd cc
-takes_by v rest handles ring (request.Scroll o a) new t (IsConnection i e) = let g : Known known.Scroll ≡ Known known.Connection = interface_is _ _ e in absurd cc
-takes_by v rest handles ring (request.Button o a) new t (IsConnection i e) = let g : Known known.Button ≡ Known known.Connection = interface_is _ _ e in absurd cc
-takes_by v rest handles ring (request.Keyboard o a) new t (IsConnection i e) = let g : Known known.Keyboard ≡ Known known.Connection = interface_is _ _ e in absurd cc
-takes_by v rest handles ring (request.Touchscreen o a) new t (IsConnection i e) = let g : Known known.Touchscreen ≡ Known known.Connection = interface_is _ _ e in absurd cc
-takes_by v rest handles ring (request.Text o a) new t (IsConnection i e) = let g : Known known.Text ≡ Known known.Connection = interface_is _ _ e in absurd cc
-takes_by v rest handles ring (request.Handshake o a) new t (IsSeat i e) = absurd cc
-takes_by v rest handles ring (request.Pingpong o a) new t (IsSeat i e) = absurd cc
-takes_by v rest handles ring (request.Device o a) new t (IsSeat i e) = absurd cc
-takes_by v rest handles ring (request.Pointer o a) new t (IsSeat i e) = absurd cc
-takes_by v rest handles ring (request.PointerAbsolute o a) new t (IsSeat i e) = absurd cc
-takes_by v rest handles ring (request.Scroll o a) new t (IsSeat i e) = absurd cc
-takes_by v rest handles ring (request.Button o a) new t (IsSeat i e) = absurd cc
-takes_by v rest handles ring (request.Keyboard o a) new t (IsSeat i e) = absurd cc
-takes_by v rest handles ring (request.Touchscreen o a) new t (IsSeat i e) = absurd cc
-takes_by v rest handles ring (request.Text o a) new t (IsSeat i e) = absurd cc
+  pub taken : (r : Request) (new : BackendView) → Takes (quiet_with (seat_table v) rest handles memory) (target_of r) (code_of r) (values_of r) new → Taken past rest r
+  taken r new t = takes_by r new t (kinds v t.m.id (target_of r) t.target_is)
 
-pub takes : (v : ℕ) (rest : List ℕ) (handles : List Handle) (ring : Ring) (r : Request) (new : BackendView) → Takes (quiet (seat_table v) rest handles ring) (target_of r) (code_of r) (values_of r) new → Taken rest r
-takes v rest handles ring r new t = takes_by v rest handles ring r new t (kinds v t.m.id (target_of r) t.target_is)
+  -- ---- what is refused
 
--- ---- what is refused
+  not_built : (m : Raw) (after : List ℕ) (e : Entry) → front rest ≡ Whole m after → object past m.id ≡ Some e → is_disconnect past m ≡ false → RefusesFront setup past rest (Some NotBuilt)
+  not_built m after e f k d = (m, after, f, other setup past m e on k d)
 
-no_disconnect_by : (m : Raw) (b : Bool) → (m.id == connection_id) ≡ b → (b ≡ true → (request_args known.Connection m ≡ None) ⊎ (is_sync known.Connection m.opcode ≡ true)) → is_disconnect m ≡ false
-unfolding is_disconnect
-no_disconnect_by m false e h = rw e refl
-no_disconnect_by m true e h = elim (h refl) [ inl none ↦ rw (e, none) (and_false (m.opcode == 1)) | inr sync ↦ other_opcode m (sym (eqb-true m.opcode 0 sync)) ]
+  unread_there : (fault : Fault) (u : Unreadable (quiet_with (seat_table v) rest handles memory) fault) → Kinds u.m.id u.target → is_disconnect past u.m ≡ false
+  unread_there fault u (IsConnection i e) =
+      let k : Known known.Connection ≡ Known u.interface = sym (interface_is u.target connection_object e) ∙ u.interface_is in
+      let one : u.interface ≡ known.Connection = cc in
+      elim u.unread [
+        | inl none ↦ unread past u.m (ap (λ (x : KnownInterface). request_args x u.m) (sym one) ∙ none)
+        | inr sync ↦ other_opcode past u.m (not_one u.m.opcode (eqb-true u.m.opcode 0 (ap (λ (x : KnownInterface). is_sync x u.m.opcode) (sym one) ∙ sync)))
+      ]
+  unread_there fault u (IsSeat i e) = elsewhere past u.m (seat_is_no_connection u.m.id i)
 
-no_disconnect : (v : ℕ) (rest : List ℕ) (handles : List Handle) (ring : Ring) → (u : Unreadable (quiet (seat_table v) rest handles ring)) → is_disconnect u.m ≡ false
-no_disconnect v rest handles ring u = no_disconnect_by u.m (u.m.id == connection_id) refl (λ e.
-    let i : u.m.id ≡ connection_id = eqb-true u.m.id connection_id e in
-    u.why connection_object known.Connection (ap (λ (x : ℕ). found (seat_table v) x) i ∙ connection_found v) refl)
+  unread_refused : (fault : Fault) → Unreadable (quiet_with (seat_table v) rest handles memory) fault → RefusesFront setup past rest (Some NotBuilt)
+  unread_refused fault u =
+      let k = kinds v u.m.id u.target u.target_is in
+      let w = there past u.m.id u.target are k in
+      not_built u.m u.rest w.0 u.front_is w.1 (unread_there fault u k)
 
-pub refused : (v : ℕ) (past : List Raw) (rest : List ℕ) (handles : List Handle) (ring : Ring) → connected past ≡ true → (e : Error) → RefusesToAsk (quiet (seat_table v) rest handles ring) e → Refuses past rest e
-refused v past rest handles ring c (error.Parse (parse_error.HeaderLength n)) h = h
-refused v past rest handles ring c error.NotBuilt u = (u.m, u.rest, u.front_is, refuses_after past u.m c (no_disconnect v rest handles ring u))
-refused v past rest handles ring c error.NoMemory h = tt
-refused v past rest handles ring c e h = absurd h
+  pub parse_refused : (e : ParseError) → SaysWhy (quiet_with (seat_table v) rest handles memory) (fault_of e) → Refuses setup past rest (unreadable_as e)
+  parse_refused (parse_error.HeaderLength n) h = h
+  parse_refused parse_error.NoMemory h = absurd h
+  parse_refused parse_error.EndOfMessage h = unread_refused _ h
+  parse_refused (parse_error.Utf8 n) h = unread_refused _ h
+  parse_refused (parse_error.InvalidId n) h = unread_refused _ h
+  parse_refused parse_error.NoFd h = unread_refused _ h
+  parse_refused (parse_error.InvalidOpcode name n) h = unread_refused _ h
+  parse_refused (parse_error.InvalidVariant name n) h = unread_refused _ h
+  parse_refused (parse_error.InvalidInterface name) h = unread_refused _ h
+  parse_refused (parse_error.MessageLength n k) h = unread_refused _ h
+  parse_refused parse_error.InvalidNull h = unread_refused _ h
 
--- what the converter refuses, the session refuses
-refused_so : (past : List Raw) (rest : List ℕ) (r : Request) → connected past ≡ true → Taken rest r → (e : Error) → converter.Refuses r e → Refuses past rest e
-refused_so past rest r c t error.NoMemory h = tt
-refused_so past rest r c (IsDisconnect d) error.NotBuilt h =
-    let g : true ≡ false = ap (λ (x : Request). is_handshake x || is_last x) (sym d.asked.1) ∙ h in absurd cc
-refused_so past rest r c (IsOther m after f plain hs l) error.NotBuilt h = (m, after, f, refuses_after past m c plain)
-refused_so past rest r c (IsDisconnect d) error.UnexpectedHandshakeEvent h =
-    let g : false ≡ true = ap is_handshake (sym d.asked.1) ∙ h in absurd cc
-refused_so past rest r c (IsOther m after f plain hs l) error.UnexpectedHandshakeEvent h = let g : false ≡ true = sym hs ∙ h in absurd cc
-refused_so past rest r c t e h = absurd h
+  -- what the converter refuses, the session refuses
+  refused_so : (r : Request) → Taken past rest r → (e : Error) → converter.Refuses r e → Refuses setup past rest e
+  refused_so r t error.NoMemory h = tt
+  refused_so r (IsDisconnect m after f d o is) error.NotBuilt h =
+      let g : true ≡ false = ap (λ (x : Request). is_handshake x || is_last x) (sym is) ∙ h in absurd cc
+  refused_so r (IsOther m after f d e k hs l) error.NotBuilt h = not_built m after e f k d
+  refused_so r (IsDisconnect m after f d o is) error.UnexpectedHandshakeEvent h =
+      let g : false ≡ true = ap is_handshake (sym is) ∙ h in absurd cc
+  refused_so r (IsOther m after f d e k hs l) error.UnexpectedHandshakeEvent h = let g : false ≡ true = sym hs ∙ h in absurd cc
+  refused_so r t e h = absurd h
 
--- ---- what a converter that stands does with the message at the front
+  -- ---- what becomes of a request
 
--- the context that is lent is a converter's that stands
-pub record Lent (setup : Setup) (past : List Raw) (rest : List ℕ) (handles : List Handle) (old : ConverterView) (h : ConnectionView) (b : BackendView) : Type 0 where
-  pub connected : IsConnected setup past rest handles old
-  pub handle : h ≡ old.handle
-  pub context : b ≡ h.ctx
-
--- the converter with the context that came back
-abbrev pub back : ConverterView → ConnectionView → BackendView → ConverterView
-back old h new = record { handle = record { ctx = new; proxy = h.proxy; negotiated = h.negotiated; last_serial = h.last_serial }; queue = old.queue }
-
-quiet_is : (setup : Setup) (past : List Raw) (rest : List ℕ) (handles : List Handle) (old : ConverterView) (h : ConnectionView) (b : BackendView) → (l : Lent setup past rest handles old h b) → b ≡ quiet (seat_table (version past known.Seat)) rest handles l.connected.ring
-quiet_is setup past rest handles old h b l = l.context ∙ ap (λ (x : ConnectionView). x.ctx) l.handle ∙ l.connected.endpoint
-
-asked_quiet : (v : ℕ) (rest : List ℕ) (handles : List Handle) (ring : Ring) (b new : BackendView) (r : Result (Option Request) Error) → b ≡ quiet (seat_table v) rest handles ring → (AllKnown b.table → Asks b r new) → Asks (quiet (seat_table v) rest handles ring) r new
-asked_quiet v rest handles ring b new r e h = subst (λ (x : BackendView). Asks x r new) e (h (subst (λ (x : BackendView). AllKnown x.table) (sym e) (all_known v)))
-
-pub refuses_to_ask : (setup : Setup) (past : List Raw) (rest : List ℕ) (handles : List Handle) (old c : ConverterView) (h : ConnectionView) (b new : BackendView) (e y : Error) (r : Result Step Error) (out : List EisRequest) →
-    Lent setup past rest handles old h b → (AllKnown b.table → Asks b (Err e) new) → r ≡ Err y → y ≡ e → Converses setup past rest handles r c out out
-refuses_to_ask setup past rest handles old c h b new e y r out l asks r_is y_is =
-    let v = version past known.Seat in
-    rw (r_is, y_is) (refused v past rest handles l.connected.ring l.connected.finished e (asked_quiet v rest handles l.connected.ring b new (Err e) (quiet_is setup past rest handles old h b l) asks), refl)
-
-pub waits : (setup : Setup) (past : List Raw) (rest : List ℕ) (handles : List Handle) (old : ConverterView) (h : ConnectionView) (b new : BackendView) (o : Option Request) (out : List EisRequest) →
-    Lent setup past rest handles old h b → (AllKnown b.table → Asks b (Ok o) new) → o ≡ None → (front rest ≡ Short) × IsConnected setup past rest handles (back old h new) × (out ≡ out)
-waits setup past rest handles old h b new o out l asks none =
-    let v = version past known.Seat in
-    let w : Asks (quiet (seat_table v) rest handles l.connected.ring) (Ok None) new = subst (λ (x : Option Request). Asks (quiet (seat_table v) rest handles l.connected.ring) (Ok x) new) none (asked_quiet v rest handles l.connected.ring b new (Ok o) (quiet_is setup past rest handles old h b l) asks) in (
-      w.0,
-      record {
-        finished = l.connected.finished;
-        ring = l.connected.ring;
-        endpoint = w.1;
-        proxy = ap (λ (x : ConnectionView). x.proxy) l.handle ∙ l.connected.proxy;
-        versions = subst (λ (x : ConnectionView). AreSettled x.negotiated past) (sym l.handle) l.connected.versions;
-        serial = ap (λ (x : ConnectionView). x.last_serial) l.handle ∙ l.connected.serial;
-        queue = l.connected.queue;
-      },
-      refl,
-    )
-
-taken_of : (setup : Setup) (past : List Raw) (rest : List ℕ) (handles : List Handle) (old : ConverterView) (h : ConnectionView) (b new : BackendView) (o : Option Request) (q : Request) →
-    Lent setup past rest handles old h b → (AllKnown b.table → Asks b (Ok o) new) → o ≡ Some q → Taken rest q
-taken_of setup past rest handles old h b new o q l asks some =
-    let v = version past known.Seat in
-    takes v rest handles l.connected.ring q new (subst (λ (x : Option Request). Asks (quiet (seat_table v) rest handles l.connected.ring) (Ok x) new) some (asked_quiet v rest handles l.connected.ring b new (Ok o) (quiet_is setup past rest handles old h b l) asks))
-
-pub not_converted : (setup : Setup) (past : List Raw) (rest : List ℕ) (handles : List Handle) (old c : ConverterView) (h : ConnectionView) (b new : BackendView) (o : Option Request) (q : Request) (e y : Error) (r : Result Step Error) (out : List EisRequest) →
-    Lent setup past rest handles old h b → (AllKnown b.table → Asks b (Ok o) new) → o ≡ Some q → converter.Refuses q e → r ≡ Err y → y ≡ e → Converses setup past rest handles r c out out
-not_converted setup past rest handles old c h b new o q e y r out l asks some refuses r_is y_is =
-    let t = taken_of setup past rest handles old h b new o q l asks some in
-    rw (r_is, y_is) (refused_so past rest q l.connected.finished t e refuses, refl)
-
-last_of : (rest : List ℕ) (q : Request) → Taken rest q → is_last q ≡ true → Disconnects rest q
-last_of rest q (IsDisconnect d) h = d
-last_of rest q (IsOther m after f plain hs l) h = let g : false ≡ true = sym l ∙ h in absurd cc
-
-pub hands_out : (setup : Setup) (past : List Raw) (rest : List ℕ) (handles : List Handle) (old mid : ConverterView) (h : ConnectionView) (b new : BackendView) (o : Option Request) (q : Request) (out given : List EisRequest) →
-    Lent setup past rest handles old h b → (AllKnown b.table → Asks b (Ok o) new) → o ≡ Some q → Converts (back old h new) q (Ok tt) mid → given ≡ out ++ take 1 mid.queue →
-    (m : Raw) × (after : List ℕ) × (front rest ≡ Whole m after) × (judge past m ≡ Final) × (given ≡ out ++ asked.Disconnect ∷ [])
-hands_out setup past rest handles old mid h b new o q out given l asks some converts given_is =
-    let d = last_of rest q (taken_of setup past rest handles old h b new o q l asks some) converts.0 in
-    let queued : mid.queue ≡ old.queue ++ asked.Disconnect ∷ [] = ap (λ (x : ConverterView). x.queue) converts.1 in
-    let one : mid.queue ≡ asked.Disconnect ∷ [] = queued ∙ ap (λ (x : List EisRequest). x ++ asked.Disconnect ∷ []) l.connected.queue in
-    (d.m, d.after, d.front_is, ends past d.m l.connected.finished d.disconnect, given_is ∙ ap (λ (x : List EisRequest). out ++ take 1 x) one)
+  pub request_steps : (q : Request) (p : Phase) (out given : List EisRequest) (took : Option Piece) → Taken past rest q → (r : Result Step Error) → TakesRequest q r out given → Steps setup past rest handles r p out given took took
+  request_steps q p out given took t (Ok step.Waiting) h = absurd h
+  request_steps q p out given took t (Ok step.Handled) h = absurd h
+  request_steps q p out given took (IsDisconnect m after f d o is) (Ok step.Disconnect) h = (m, after, f, last setup past m d, goes_last setup past m out given took (last_item past m d) (last_reply setup past m d) h.1)
+  request_steps q p out given took (IsOther m after f d e k hs l) (Ok step.Disconnect) h = let g : false ≡ true = sym l ∙ h.0 in absurd cc
+  request_steps q p out given took t (Err e) h = rw h.1 (refused_step setup past rest e out took (refused_so q t e h.0))

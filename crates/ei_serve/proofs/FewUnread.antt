@@ -4,8 +4,9 @@ use Rattle.ei_spec.specs.Message.{Raw, Front, Short, Unlawful, Whole, front}
 use Rattle.ei_spec.specs.Stream.{Verdict, Accepted, Final, Refused, Waiting, Reading, read}
 use Rattle.ei_spec.proofs.FrontLaws.{shorter}
 use Rattle.ei_spec.proofs.GoesOn.{read_short, read_unlawful, read_accepted, read_final, read_refused}
-use Rattle.ei_session.specs.Built.{judge}
-use Rattle.ei_session.specs.Session.{reading_of}
+use Rattle.ei_session.specs.Setup.{Setup}
+use Rattle.ei_session.specs.Served.{reading_by}
+use Rattle.ei_session.specs.Guard.{judge, reading_of}
 use Rattle.ei_session.proofs.AcceptedLaws.{front_short}
 
 module _ {E : Type 0} (judged : List Raw → Raw → Verdict E) where
@@ -38,6 +39,6 @@ module _ {E : Type 0} (judged : List Raw → Raw → Verdict E) where
   left_short past bytes = left_within (suc (length bytes)) past bytes (omega arith)
 
 -- what follows the messages of a stream that may go on
-pub unread_few : (bytes : List ℕ) → (reading_of bytes).stop ≡ Waiting → length (reading_of bytes).rest < 1048576
-unfolding reading_of
-unread_few bytes w = front_short _ (left_short judge [] bytes w)
+pub unread_few : (setup : Setup) (bytes : List ℕ) → (reading_of setup bytes).stop ≡ Waiting → length (reading_of setup bytes).rest < 1048576
+unfolding reading_by
+unread_few setup bytes w = front_short _ (left_short (judge setup) [] bytes w)

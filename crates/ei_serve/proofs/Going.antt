@@ -9,13 +9,13 @@ use Rattle.ei_spec.specs.Piece.{Piece}
 use Rattle.ei_spec.specs.Message.{Raw, Front, Short, Unlawful, Whole, front, bytes_of, all_bytes}
 use Rattle.ei_spec.specs.Stream.{Verdict, Accepted, Final, Refused, read_within, read}
 use Rattle.ei_session.specs.Setup.{Setup}
-use Rattle.ei_session.specs.Built.{judge}
-use Rattle.ei_session.specs.Framed.{Request, framed}
-use Rattle.ei_session.specs.Replies.{replies}
+use Rattle.ei_session.specs.Requests.{Request, framed}
+use Rattle.ei_session.specs.Events.{replies}
+use Rattle.ei_session.specs.Guard.{judge}
 use Rattle.ei_backend.specs.Outside.{with_more}
 use Rattle.ei_request.specs.Converter.{asked_of}
 use Rattle.ei_request.specs.declared.event.EisRequest.{EisRequest}
-use Rattle.ei_serve.specs.Steps.{Gives, Replies, RepliesInPart, Goes, Breaks, TellsFinishInPart}
+use Rattle.ei_serve.specs.Steps.{Gives, IsToldInPart, Replies, RepliesInPart, Goes, Breaks}
 
 -- ---- what a sink holds
 
@@ -30,8 +30,9 @@ none_more held = piece_is held.bytes (held.bytes ++ []) held.handles (held.handl
 pub more_more : (a b : List ℕ) (held : Piece) → with_more b [] (with_more a [] held) ≡ with_more (a ++ b) [] held
 more_more a b held = piece_is _ _ _ _ (append_assoc held.bytes a b) (append-nil (held.handles ++ []))
 
-pub cut : (setup : Setup) (before : List Raw) (took : Option Piece) → TellsFinishInPart setup before took took
-cut setup before took held told = (0, told ∙ ap (λ (x : Piece). Some x) (none_more held))
+-- none of these messages was told
+pub cut : (messages : List Raw) (took : Option Piece) → IsToldInPart messages took took
+cut messages took held told = (0, told ∙ ap (λ (x : Piece). Some x) (none_more held))
 
 -- ---- requests
 
@@ -123,13 +124,13 @@ pub breaks_here : (setup : Setup) (past : List Raw) (rest : List ℕ) (out : Lis
 breaks_here setup past rest out took = record {
   reached = past;
   behind = ([], refl);
-  ahead = extends judge past rest;
+  ahead = extends (judge setup) past rest;
   gives = gives_none setup past past out (λ readings. refl);
   replies = in_part_none setup past took;
 }
 
 -- later on the way
-pub breaks_then : (setup : Setup) (a b : List Raw) (s t : List ℕ) (x y z : List EisRequest) (p q r : Option Piece) → ((done : List Raw) × (b ≡ done ++ a)) → read judge a s ≡ read judge b t → Goes setup a b x y p q → Breaks setup b t y z q r → Breaks setup a s x z p r
+pub breaks_then : (setup : Setup) (a b : List Raw) (s t : List ℕ) (x y z : List EisRequest) (p q r : Option Piece) → ((done : List Raw) × (b ≡ done ++ a)) → read (judge setup) a s ≡ read (judge setup) b t → Goes setup a b x y p q → Breaks setup b t y z q r → Breaks setup a s x z p r
 breaks_then setup a b s t x y z p q r on same g h = record {
   reached = h.reached;
   behind = (h.behind.0 ++ on.0, h.behind.1 ∙ ap (λ (u : List Raw). h.behind.0 ++ u) on.1 ∙ sym (append_assoc h.behind.0 on.0 a));

@@ -10,10 +10,12 @@ use Rattle.ei_spec.specs.Piece.{Piece, stream, handle_count}
 use Rattle.ei_spec.specs.Stream.{Stop, Waiting, Ended, HeaderLength, Refusal, Reading, Verdict, read, go_on}
 use Rattle.ei_spec.proofs.GoesOn as goes_on
 use Rattle.ei_session.specs.Setup.{Setup}
-use Rattle.ei_session.specs.Built.{Refusal as Cause, judge}
-use Rattle.ei_session.specs.Session.{reading_of, accepted, read_first, is_waiting, too_many_handles, is_over, Answer, PieceLimit, HandleLimit, End}
-use Rattle.ei_session.specs.Session.{UnexpectedEof, Stopped, Outcome, over_at, at_end, session}
-use Rattle.ei_session.proofs.Least.{session_over, session_end}
+use Rattle.ei_session.specs.Handshake.{connected}
+use Rattle.ei_session.specs.Refusals.{Refusal as Cause}
+use Rattle.ei_session.specs.Served.{Answer, Disconnect, End, UnexpectedEof, PieceLimit, HandleLimit, Refused, Outcome, answer_of, answer_at, is_waiting}
+use Rattle.ei_session.specs.Served.{too_many_handles, at_end, reading_by, read_first_by, is_over_by, over_at_by}
+use Rattle.ei_session.specs.Guard.{judge, reading_of, accepted, read_first, is_over, over_at, session}
+use Rattle.ei_session.proofs.AllParts.{session_over_by, session_end_by}
 use Rattle.ei_serve.specs.Taking.{with_next}
 use Rattle.ei_serve.proofs.Going.{extends}
 
@@ -39,12 +41,12 @@ unfolding go_on
 go_on_waiting judged r more e = rw (e, go_on) refl
 
 -- reading goes on over a cut
-reading_cut : (bytes more : List ℕ) → reading_of (bytes ++ more) ≡ go_on judge (reading_of bytes) more
-unfolding reading_of
-reading_cut bytes more = goes_on.cut judge [] bytes more
+reading_cut : (setup : Setup) (bytes more : List ℕ) → reading_of setup (bytes ++ more) ≡ go_on (judge setup) (reading_of setup bytes) more
+unfolding reading_by
+reading_cut setup bytes more = goes_on.cut (judge setup) [] bytes more
 
-pub reading_more : (pieces : List Piece) (piece : Piece) → (reading_of (stream pieces)).stop ≡ Waiting → reading_of (stream (with_next pieces piece)) ≡ read judge (accepted (stream pieces)) ((reading_of (stream pieces)).rest ++ piece.bytes)
-reading_more pieces piece e = ap reading_of (stream_more pieces piece) ∙ reading_cut (stream pieces) piece.bytes ∙ go_on_waiting judge (reading_of (stream pieces)) piece.bytes e
+pub reading_more : (setup : Setup) (pieces : List Piece) (piece : Piece) → (reading_of setup (stream pieces)).stop ≡ Waiting → reading_of setup (stream (with_next pieces piece)) ≡ read (judge setup) (accepted setup (stream pieces)) ((reading_of setup (stream pieces)).rest ++ piece.bytes)
+reading_more setup pieces piece e = ap (λ (x : List ℕ). reading_of setup x) (stream_more pieces piece) ∙ reading_cut setup (stream pieces) piece.bytes ∙ go_on_waiting (judge setup) (reading_of setup (stream pieces)) piece.bytes e
 
 -- ---- whether it goes on
 
@@ -54,11 +56,11 @@ GoesOn setup pieces = (k : ℕ) → 1 ≤ k → k ≤ length pieces → is_over 
 
 -- what a session is at a piece is told by the pieces up to it
 over_same : (setup : Setup) (a b : List Piece) (k : ℕ) → take k a ≡ take k b → is_over setup a k ≡ is_over setup b k
-unfolding is_over too_many_handles read_first
-over_same setup a b k e = ap (λ (x : List Piece). ltb setup.pieces k || (ltb 4096 (handle_count x) || not (is_waiting (reading_of (stream x)).stop))) e
+unfolding is_over_by too_many_handles read_first_by
+over_same setup a b k e = ap (λ (x : List Piece). ltb setup.pieces k || (ltb 4096 (handle_count x) || not (is_waiting (reading_of setup (stream x)).stop))) e
 
-not_over : (setup : Setup) (pieces : List Piece) (k : ℕ) → k ≤ setup.pieces → handle_count (take k pieces) ≤ 4096 → (reading_of (stream (take k pieces))).stop ≡ Waiting → is_over setup pieces k ≡ false
-unfolding is_over too_many_handles read_first
+not_over : (setup : Setup) (pieces : List Piece) (k : ℕ) → k ≤ setup.pieces → handle_count (take k pieces) ≤ 4096 → (reading_of setup (stream (take k pieces))).stop ≡ Waiting → is_over setup pieces k ≡ false
+unfolding is_over_by too_many_handles read_first_by
 not_over setup pieces k room few e = or_from _ _ (le-ltb setup.pieces k room) (or_from _ _ (le-ltb 4096 _ few) (ap (λ s. not (is_waiting s)) e))
 
 -- the pieces so far, and all with the next
@@ -74,7 +76,7 @@ take_with_next pieces piece k e = take_all k (with_next pieces piece) (omega (ar
 before_next : (setup : Setup) (pieces : List Piece) (piece : Piece) → GoesOn setup pieces → (k : ℕ) → 1 ≤ k → k ≤ length pieces → is_over setup (with_next pieces piece) k ≡ false
 before_next setup pieces piece on k low high = over_same setup (with_next pieces piece) pieces k (take_before pieces piece k high) ∙ on k low high
 
-pub goes_on_more : (setup : Setup) (pieces : List Piece) (piece : Piece) → GoesOn setup pieces → length pieces < setup.pieces → handle_count (with_next pieces piece) ≤ 4096 → (reading_of (stream (with_next pieces piece))).stop ≡ Waiting → GoesOn setup (with_next pieces piece)
+pub goes_on_more : (setup : Setup) (pieces : List Piece) (piece : Piece) → GoesOn setup pieces → length pieces < setup.pieces → handle_count (with_next pieces piece) ≤ 4096 → (reading_of setup (stream (with_next pieces piece))).stop ≡ Waiting → GoesOn setup (with_next pieces piece)
 goes_on_more setup pieces piece on room few waits k low high =
     elim (cases_lt (length pieces) k) [
       | inl lt ↦
@@ -86,40 +88,40 @@ goes_on_more setup pieces piece on room few waits k low high =
 
 -- ---- how it ends
 
-pub going : (setup : Setup) (pieces : List Piece) → GoesOn setup pieces → session setup pieces ≡ at_end (accepted (stream pieces))
-unfolding read_first
-going setup pieces on = session_end setup pieces on ∙ ap (λ (x : List Piece). at_end (accepted (stream x))) (take_all (length pieces) pieces (omega arith))
+pub going : (setup : Setup) (pieces : List Piece) → GoesOn setup pieces → session setup pieces ≡ at_end (accepted setup (stream pieces))
+unfolding read_first_by
+going setup pieces on = session_end_by (judge setup) setup pieces on ∙ ap (λ (x : List Piece). at_end (accepted setup (stream x))) (take_all (length pieces) pieces (omega arith))
 
 -- it is over with the next piece
 over_next : (setup : Setup) (pieces : List Piece) (piece : Piece) → GoesOn setup pieces → is_over setup (with_next pieces piece) (length pieces + 1) ≡ true → session setup (with_next pieces piece) ≡ over_at setup (with_next pieces piece) (length pieces + 1)
 over_next setup pieces piece on over =
-    session_over setup (with_next pieces piece) (length pieces + 1) (omega arith) (omega (arith, length_push pieces piece)) (λ j low lt. before_next setup pieces piece on j low (omega arith)) over
+    session_over_by (judge setup) setup (with_next pieces piece) (length pieces + 1) (omega arith) (omega (arith, length_push pieces piece)) (λ j low lt. before_next setup pieces piece on j low (omega arith)) over
 
 -- why it is over with a piece
 over_pieces : (setup : Setup) (pieces : List Piece) (k : ℕ) → setup.pieces < k → is_over setup pieces k ≡ true
-unfolding is_over
+unfolding is_over_by
 over_pieces setup pieces k lt = or_left _ _ (lt-ltb setup.pieces k lt)
 
 over_handles : (setup : Setup) (pieces : List Piece) (k : ℕ) → too_many_handles pieces k ≡ true → is_over setup pieces k ≡ true
-unfolding is_over
+unfolding is_over_by
 over_handles setup pieces k many = or_right _ _ (or_left _ _ many)
 
-over_stop : (setup : Setup) (pieces : List Piece) (k : ℕ) → is_waiting (read_first pieces k).stop ≡ false → is_over setup pieces k ≡ true
-unfolding is_over
+over_stop : (setup : Setup) (pieces : List Piece) (k : ℕ) → is_waiting (read_first setup pieces k).stop ≡ false → is_over setup pieces k ≡ true
+unfolding is_over_by
 over_stop setup pieces k e = or_right _ _ (or_right _ _ (not_from_false _ e))
 
 -- the outcome then
-at_pieces : (setup : Setup) (pieces : List Piece) (m : ℕ) → setup.pieces < m → over_at setup pieces m ≡ record { handled = (read_first pieces (m - 1)).past; answer = PieceLimit }
-unfolding over_at
-at_pieces setup pieces m lt = rw (lt-ltb setup.pieces m lt, over_at) refl
+at_pieces : (setup : Setup) (pieces : List Piece) (m : ℕ) → setup.pieces < m → over_at setup pieces m ≡ record { handled = (read_first setup pieces (m - 1)).past; answer = PieceLimit }
+unfolding over_at_by
+at_pieces setup pieces m lt = rw (lt-ltb setup.pieces m lt, over_at_by) refl
 
-at_handles : (setup : Setup) (pieces : List Piece) (m : ℕ) → m ≤ setup.pieces → too_many_handles pieces m ≡ true → over_at setup pieces m ≡ record { handled = (read_first pieces (m - 1)).past; answer = HandleLimit }
-unfolding over_at
-at_handles setup pieces m le many = rw (le-ltb setup.pieces m le, many, over_at) refl
+at_handles : (setup : Setup) (pieces : List Piece) (m : ℕ) → m ≤ setup.pieces → too_many_handles pieces m ≡ true → over_at setup pieces m ≡ record { handled = (read_first setup pieces (m - 1)).past; answer = HandleLimit }
+unfolding over_at_by
+at_handles setup pieces m le many = rw (le-ltb setup.pieces m le, many, over_at_by) refl
 
-at_stop : (setup : Setup) (pieces : List Piece) (m : ℕ) → m ≤ setup.pieces → too_many_handles pieces m ≡ false → over_at setup pieces m ≡ record { handled = (read_first pieces m).past; answer = Stopped (read_first pieces m).stop }
-unfolding over_at
-at_stop setup pieces m le few = rw (le-ltb setup.pieces m le, few, over_at) refl
+at_stop : (setup : Setup) (pieces : List Piece) (m : ℕ) → m ≤ setup.pieces → too_many_handles pieces m ≡ false → over_at setup pieces m ≡ record { handled = (read_first setup pieces m).past; answer = answer_at (read_first setup pieces m) }
+unfolding over_at_by
+at_stop setup pieces m le few = rw (le-ltb setup.pieces m le, few, over_at_by) refl
 
 -- the first pieces, and how many handles come with them
 few_with : (pieces : List Piece) (piece : Piece) → handle_count (with_next pieces piece) ≤ 4096 → too_many_handles (with_next pieces piece) (length pieces + 1) ≡ false
@@ -130,47 +132,61 @@ many_with : (pieces : List Piece) (piece : Piece) → 4096 < handle_count (with_
 unfolding too_many_handles
 many_with pieces piece many = rw (take_with_next pieces piece (length pieces + 1) refl) (lt-ltb 4096 _ many)
 
-read_with : (pieces : List Piece) (piece : Piece) → read_first (with_next pieces piece) (length pieces + 1) ≡ reading_of (stream (with_next pieces piece))
-unfolding read_first
-read_with pieces piece = ap (λ (x : List Piece). reading_of (stream x)) (take_with_next pieces piece (length pieces + 1) refl)
+read_with : (setup : Setup) (pieces : List Piece) (piece : Piece) → read_first setup (with_next pieces piece) (length pieces + 1) ≡ reading_of setup (stream (with_next pieces piece))
+unfolding read_first_by
+read_with setup pieces piece = ap (λ (x : List Piece). reading_of setup (stream x)) (take_with_next pieces piece (length pieces + 1) refl)
 
-read_without : (pieces : List Piece) (piece : Piece) → read_first (with_next pieces piece) (length pieces + 1 - 1) ≡ reading_of (stream pieces)
-unfolding read_first
-read_without pieces piece = ap (λ (x : List Piece). reading_of (stream x)) (take_so_far pieces piece)
+read_without : (setup : Setup) (pieces : List Piece) (piece : Piece) → read_first setup (with_next pieces piece) (length pieces + 1 - 1) ≡ reading_of setup (stream pieces)
+unfolding read_first_by
+read_without setup pieces piece = ap (λ (x : List Piece). reading_of setup (stream x)) (take_so_far pieces piece)
 
-pub stopped : (setup : Setup) (pieces : List Piece) (piece : Piece) → GoesOn setup pieces → length pieces < setup.pieces → handle_count (with_next pieces piece) ≤ 4096 → is_waiting (reading_of (stream (with_next pieces piece))).stop ≡ false → session setup (with_next pieces piece) ≡ record { handled = accepted (stream (with_next pieces piece)); answer = Stopped (reading_of (stream (with_next pieces piece))).stop }
+pub stopped : (setup : Setup) (pieces : List Piece) (piece : Piece) → GoesOn setup pieces → length pieces < setup.pieces → handle_count (with_next pieces piece) ≤ 4096 → is_waiting (reading_of setup (stream (with_next pieces piece))).stop ≡ false → session setup (with_next pieces piece) ≡ record { handled = accepted setup (stream (with_next pieces piece)); answer = answer_at (reading_of setup (stream (with_next pieces piece))) }
 stopped setup pieces piece on room few stops =
-    let r = read_with pieces piece in
+    let r = read_with setup pieces piece in
     over_next setup pieces piece on (over_stop setup (with_next pieces piece) (length pieces + 1) (ap (λ x. is_waiting x.stop) r ∙ stops))
     ∙ at_stop setup (with_next pieces piece) (length pieces + 1) (omega arith) (few_with pieces piece few)
     ∙ rw r refl
 
-pub too_many_pieces : (setup : Setup) (pieces : List Piece) (piece : Piece) → GoesOn setup pieces → setup.pieces ≤ length pieces → session setup (with_next pieces piece) ≡ record { handled = accepted (stream pieces); answer = PieceLimit }
+pub too_many_pieces : (setup : Setup) (pieces : List Piece) (piece : Piece) → GoesOn setup pieces → setup.pieces ≤ length pieces → session setup (with_next pieces piece) ≡ record { handled = accepted setup (stream pieces); answer = PieceLimit }
 too_many_pieces setup pieces piece on full =
     over_next setup pieces piece on (over_pieces setup (with_next pieces piece) (length pieces + 1) (omega arith))
     ∙ at_pieces setup (with_next pieces piece) (length pieces + 1) (omega arith)
-    ∙ rw (read_without pieces piece) refl
+    ∙ rw (read_without setup pieces piece) refl
 
-pub too_many_handles_come : (setup : Setup) (pieces : List Piece) (piece : Piece) → GoesOn setup pieces → length pieces < setup.pieces → 4096 < handle_count (with_next pieces piece) → session setup (with_next pieces piece) ≡ record { handled = accepted (stream pieces); answer = HandleLimit }
+pub too_many_handles_come : (setup : Setup) (pieces : List Piece) (piece : Piece) → GoesOn setup pieces → length pieces < setup.pieces → 4096 < handle_count (with_next pieces piece) → session setup (with_next pieces piece) ≡ record { handled = accepted setup (stream pieces); answer = HandleLimit }
 too_many_handles_come setup pieces piece on room many =
     let m = many_with pieces piece many in
     over_next setup pieces piece on (over_handles setup (with_next pieces piece) (length pieces + 1) m)
     ∙ at_handles setup (with_next pieces piece) (length pieces + 1) (omega arith) m
-    ∙ rw (read_without pieces piece) refl
+    ∙ rw (read_without setup pieces piece) refl
 
 -- ---- the first pieces of more
 
 -- the answer is that of a piece, and not of the end
 abbrev pub IsEarly : Answer → Type 0
-IsEarly PieceLimit = Unit {0}
-IsEarly HandleLimit = Unit {0}
 IsEarly End = ⊥
 IsEarly UnexpectedEof = ⊥
-IsEarly (Stopped stop) = Unit {0}
+IsEarly answer = Unit {0}
 
 end_is_late : (b : Bool) → IsEarly (cond b End UnexpectedEof) → ⊥
 end_is_late true h = h
 end_is_late false h = h
+
+-- the answer is that of a stream which stopped
+abbrev pub IsStopped : Answer → Type 0
+IsStopped Disconnect = Unit {0}
+IsStopped (Refused refusal) = Unit {0}
+IsStopped answer = ⊥
+
+pub end_is_no_stop : (b : Bool) → IsStopped (cond b End UnexpectedEof) → ⊥
+end_is_no_stop true h = h
+end_is_no_stop false h = h
+
+pub not_waiting : (stop : Stop Cause) (past : List Raw) (answer : Answer) → answer_of stop past ≡ answer → IsStopped answer → is_waiting stop ≡ false
+not_waiting Waiting past answer e s = absurd (end_is_no_stop (connected past) (subst IsStopped (sym e) s))
+not_waiting Ended past answer e s = refl
+not_waiting (HeaderLength n) past answer e s = refl
+not_waiting (Refusal c) past answer e s = refl
 
 -- none of the first n numbers passes
 abbrev NonePass : (ℕ → Bool) → ℕ → Type 0
@@ -207,14 +223,14 @@ front_same setup pieces k m le = over_same setup (take k pieces) pieces m (take_
 
 -- the outcome at a piece is told by the pieces up to it
 over_at_same : (setup : Setup) (a b : List Piece) (m : ℕ) → take m a ≡ take m b → take (m - 1) a ≡ take (m - 1) b → over_at setup a m ≡ over_at setup b m
-unfolding over_at too_many_handles read_first
+unfolding over_at_by too_many_handles read_first_by
 over_at_same setup a b m e f =
-    ap (λ (x : List Piece). cond (ltb setup.pieces m) (record { handled = (reading_of (stream (take (m - 1) a))).past; answer = PieceLimit })
-    (cond (ltb 4096 (handle_count x)) (record { handled = (reading_of (stream (take (m - 1) a))).past; answer = HandleLimit })
-    (record { handled = (reading_of (stream x)).past; answer = Stopped (reading_of (stream x)).stop }))) e
-    ∙ ap (λ (x : List Piece). cond (ltb setup.pieces m) (record { handled = (reading_of (stream x)).past; answer = PieceLimit })
-    (cond (ltb 4096 (handle_count (take m b))) (record { handled = (reading_of (stream x)).past; answer = HandleLimit })
-    (record { handled = (reading_of (stream (take m b))).past; answer = Stopped (reading_of (stream (take m b))).stop }))) f
+    ap (λ (x : List Piece). cond (ltb setup.pieces m) (record { handled = (reading_of setup (stream (take (m - 1) a))).past; answer = PieceLimit })
+    (cond (ltb 4096 (handle_count x)) (record { handled = (reading_of setup (stream (take (m - 1) a))).past; answer = HandleLimit })
+    (record { handled = (reading_of setup (stream x)).past; answer = answer_at (reading_of setup (stream x)) }))) e
+    ∙ ap (λ (x : List Piece). cond (ltb setup.pieces m) (record { handled = (reading_of setup (stream x)).past; answer = PieceLimit })
+    (cond (ltb 4096 (handle_count (take m b))) (record { handled = (reading_of setup (stream x)).past; answer = HandleLimit })
+    (record { handled = (reading_of setup (stream (take m b))).past; answer = answer_at (reading_of setup (stream (take m b))) }))) f
 
 front_over : (setup : Setup) (pieces : List Piece) (k : ℕ) → First (is_over setup (take k pieces)) (length (take k pieces)) → session setup pieces ≡ session setup (take k pieces)
 front_over setup pieces k f =
@@ -223,75 +239,75 @@ front_over setup pieces k f =
     let high = f.high in
     let n = length-take k pieces in
     let le : m ≤ k = omega arith in
-    session_over setup pieces m low (omega arith) (λ j a b. sym (front_same setup pieces k j (omega arith)) ∙ f.before j a b) (sym (front_same setup pieces k m le) ∙ f.passes)
+    session_over_by (judge setup) setup pieces m low (omega arith) (λ j a b. sym (front_same setup pieces k j (omega arith)) ∙ f.before j a b) (sym (front_same setup pieces k m le) ∙ f.passes)
     ∙ over_at_same setup pieces (take k pieces) m (sym (take_of_front pieces m k le)) (sym (take_of_front pieces (m - 1) k (omega arith)))
-    ∙ sym (session_over setup (take k pieces) m low high f.before f.passes)
+    ∙ sym (session_over_by (judge setup) setup (take k pieces) m low high f.before f.passes)
 
 pub session_front : (setup : Setup) (pieces : List Piece) (k : ℕ) → IsEarly (session setup (take k pieces)).answer → session setup pieces ≡ session setup (take k pieces)
 session_front setup pieces k early =
     elim (first_among (is_over setup (take k pieces)) (length (take k pieces))) [
-      | inl none ↦ absurd (end_is_late _ (subst (λ (o : Outcome). IsEarly o.answer) (session_end setup (take k pieces) none) early))
+      | inl none ↦ absurd (end_is_late _ (subst (λ (o : Outcome). IsEarly o.answer) (session_end_by (judge setup) setup (take k pieces) none) early))
       | inr f ↦ front_over setup pieces k f
     ]
 
 -- ---- the messages of the first pieces
 
 -- those of more bytes are more behind those before
-stopped_past : (r : Reading Cause) (more : List ℕ) (stop : Stop Cause) → r.stop ≡ stop → (newer : List Raw) × ((go_on judge r more).past ≡ newer ++ r.past)
+stopped_past : (setup : Setup) (r : Reading Cause) (more : List ℕ) (stop : Stop Cause) → r.stop ≡ stop → (newer : List Raw) × ((go_on (judge setup) r more).past ≡ newer ++ r.past)
 unfolding go_on
-stopped_past r more Waiting e = let x = extends judge r.past (r.rest ++ more) in (x.0, rw (e, go_on) x.1)
-stopped_past r more Ended e = ([], rw (e, go_on) refl)
-stopped_past r more (HeaderLength n) e = ([], rw (e, go_on) refl)
-stopped_past r more (Refusal c) e = ([], rw (e, go_on) refl)
+stopped_past setup r more Waiting e = let x = extends (judge setup) r.past (r.rest ++ more) in (x.0, rw (e, go_on) x.1)
+stopped_past setup r more Ended e = ([], rw (e, go_on) refl)
+stopped_past setup r more (HeaderLength n) e = ([], rw (e, go_on) refl)
+stopped_past setup r more (Refusal c) e = ([], rw (e, go_on) refl)
 
-accepted_more : (bytes more : List ℕ) → (newer : List Raw) × (accepted (bytes ++ more) ≡ newer ++ accepted bytes)
-accepted_more bytes more =
-    let r = reading_of bytes in
-    let x = stopped_past r more r.stop refl in
-    (x.0, ap (λ (t : Reading Cause). t.past) (reading_cut bytes more) ∙ x.1)
+accepted_more : (setup : Setup) (bytes more : List ℕ) → (newer : List Raw) × (accepted setup (bytes ++ more) ≡ newer ++ accepted setup bytes)
+accepted_more setup bytes more =
+    let r = reading_of setup bytes in
+    let x = stopped_past setup r more r.stop refl in
+    (x.0, ap (λ (t : Reading Cause). t.past) (reading_cut setup bytes more) ∙ x.1)
 
 stream_front : (pieces : List Piece) (j k : ℕ) → j ≤ k → stream (take k pieces) ≡ stream (take j pieces) ++ stream (drop j (take k pieces))
 stream_front pieces j k le =
     ap stream (sym (take-append-drop j (take k pieces)) ∙ ap (λ (x : List Piece). x ++ drop j (take k pieces)) (take_of_front pieces j k le))
     ∙ stream_append (take j pieces) (drop j (take k pieces))
 
-pub accepted_front : (pieces : List Piece) (j k : ℕ) → j ≤ k → (more : List Raw) × (accepted (stream (take k pieces)) ≡ more ++ accepted (stream (take j pieces)))
-accepted_front pieces j k le =
-    let x = accepted_more (stream (take j pieces)) (stream (drop j (take k pieces))) in
-    (x.0, ap accepted (stream_front pieces j k le) ∙ x.1)
+pub accepted_front : (setup : Setup) (pieces : List Piece) (j k : ℕ) → j ≤ k → (more : List Raw) × (accepted setup (stream (take k pieces)) ≡ more ++ accepted setup (stream (take j pieces)))
+accepted_front setup pieces j k le =
+    let x = accepted_more setup (stream (take j pieces)) (stream (drop j (take k pieces))) in
+    (x.0, ap (λ (t : List ℕ). accepted setup t) (stream_front pieces j k le) ∙ x.1)
 
 -- what a session handles begins with the messages of the first k pieces
-abbrev BeginsWith : Outcome → List Piece → ℕ → Type 0
-BeginsWith o pieces k = (more : List Raw) × (o.handled ≡ more ++ accepted (stream (take k pieces)))
+abbrev BeginsWith : Setup → Outcome → List Piece → ℕ → Type 0
+BeginsWith setup o pieces k = (more : List Raw) × (o.handled ≡ more ++ accepted setup (stream (take k pieces)))
 
-over_cases : (setup : Setup) (pieces : List Piece) (m k : ℕ) (full many : Bool) → k ≤ m - 1 → ltb setup.pieces m ≡ full → too_many_handles pieces m ≡ many → BeginsWith (over_at setup pieces m) pieces k
-unfolding over_at read_first
-over_cases setup pieces m k true many le e f = let x = accepted_front pieces k (m - 1) le in (x.0, rw (e, over_at) x.1)
-over_cases setup pieces m k false true le e f = let x = accepted_front pieces k (m - 1) le in (x.0, rw (e, f, over_at) x.1)
-over_cases setup pieces m k false false le e f = let x = accepted_front pieces k m (omega arith) in (x.0, rw (e, f, over_at) x.1)
+over_cases : (setup : Setup) (pieces : List Piece) (m k : ℕ) (full many : Bool) → k ≤ m - 1 → ltb setup.pieces m ≡ full → too_many_handles pieces m ≡ many → BeginsWith setup (over_at setup pieces m) pieces k
+unfolding over_at_by read_first_by
+over_cases setup pieces m k true many le e f = let x = accepted_front setup pieces k (m - 1) le in (x.0, rw (e, over_at_by) x.1)
+over_cases setup pieces m k false true le e f = let x = accepted_front setup pieces k (m - 1) le in (x.0, rw (e, f, over_at_by) x.1)
+over_cases setup pieces m k false false le e f = let x = accepted_front setup pieces k m (omega arith) in (x.0, rw (e, f, over_at_by) x.1)
 
-over_after : (setup : Setup) (pieces : List Piece) (m k : ℕ) → k ≤ m - 1 → BeginsWith (over_at setup pieces m) pieces k
+over_after : (setup : Setup) (pieces : List Piece) (m k : ℕ) → k ≤ m - 1 → BeginsWith setup (over_at setup pieces m) pieces k
 over_after setup pieces m k le = over_cases setup pieces m k (ltb setup.pieces m) (too_many_handles pieces m) le refl refl
 
 -- it ends with that piece, and takes it
-over_here : (setup : Setup) (pieces : List Piece) (m k : ℕ) → m ≡ k → m ≤ setup.pieces → too_many_handles pieces m ≡ false → BeginsWith (over_at setup pieces m) pieces k
-unfolding read_first
-over_here setup pieces m k same room few = ([], ap (λ (o : Outcome). o.handled) (at_stop setup pieces m room few) ∙ ap (λ (n : ℕ). accepted (stream (take n pieces))) same)
+over_here : (setup : Setup) (pieces : List Piece) (m k : ℕ) → m ≡ k → m ≤ setup.pieces → too_many_handles pieces m ≡ false → BeginsWith setup (over_at setup pieces m) pieces k
+unfolding read_first_by
+over_here setup pieces m k same room few = ([], ap (λ (o : Outcome). o.handled) (at_stop setup pieces m room few) ∙ ap (λ (n : ℕ). accepted setup (stream (take n pieces))) same)
 
-end_after : (setup : Setup) (pieces : List Piece) (k : ℕ) → k ≤ length pieces → NonePass (is_over setup pieces) (length pieces) → BeginsWith (session setup pieces) pieces k
-unfolding read_first
+end_after : (setup : Setup) (pieces : List Piece) (k : ℕ) → k ≤ length pieces → NonePass (is_over setup pieces) (length pieces) → BeginsWith setup (session setup pieces) pieces k
+unfolding read_first_by
 end_after setup pieces k le none =
-    let x = accepted_front pieces k (length pieces) le in
-    (x.0, ap (λ (o : Outcome). o.handled) (session_end setup pieces none) ∙ x.1)
+    let x = accepted_front setup pieces k (length pieces) le in
+    (x.0, ap (λ (o : Outcome). o.handled) (session_end_by (judge setup) setup pieces none) ∙ x.1)
 
 -- what the session handles, from what it handles where it is over with a piece
-handled_from : (setup : Setup) (pieces : List Piece) (k : ℕ) → k ≤ length pieces → ((m : ℕ) → is_over setup pieces m ≡ true → 1 ≤ m → BeginsWith (over_at setup pieces m) pieces k) → BeginsWith (session setup pieces) pieces k
+handled_from : (setup : Setup) (pieces : List Piece) (k : ℕ) → k ≤ length pieces → ((m : ℕ) → is_over setup pieces m ≡ true → 1 ≤ m → BeginsWith setup (over_at setup pieces m) pieces k) → BeginsWith setup (session setup pieces) pieces k
 handled_from setup pieces k le over =
     elim (first_among (is_over setup pieces) (length pieces)) [
       | inl none ↦ end_after setup pieces k le none
       | inr f ↦
           let x = over f.at f.passes f.low in
-          (x.0, ap (λ (o : Outcome). o.handled) (session_over setup pieces f.at f.low f.high f.before f.passes) ∙ x.1)
+          (x.0, ap (λ (o : Outcome). o.handled) (session_over_by (judge setup) setup pieces f.at f.low f.high f.before f.passes) ∙ x.1)
     ]
 
 -- it is over with no piece up to the kth
@@ -305,7 +321,7 @@ later setup pieces k m le on over low =
           absurd (both_ways _ none over)
     ]
 
-pub handled_front : (setup : Setup) (pieces : List Piece) (k : ℕ) → k ≤ length pieces → GoesOn setup (take k pieces) → (more : List Raw) × ((session setup pieces).handled ≡ more ++ accepted (stream (take k pieces)))
+pub handled_front : (setup : Setup) (pieces : List Piece) (k : ℕ) → k ≤ length pieces → GoesOn setup (take k pieces) → (more : List Raw) × ((session setup pieces).handled ≡ more ++ accepted setup (stream (take k pieces)))
 handled_front setup pieces k le on =
     handled_from setup pieces k le (λ m over low. let lt = later setup pieces k m le on over low in over_after setup pieces m k (omega arith))
 
@@ -313,7 +329,7 @@ few_at : (pieces : List Piece) (m k : ℕ) → m ≡ k → handle_count (take k 
 unfolding too_many_handles
 few_at pieces m k same few = le-ltb 4096 _ (rw same few)
 
-pub handled_next : (setup : Setup) (pieces : List Piece) (k : ℕ) → k < length pieces → GoesOn setup (take k pieces) → k < setup.pieces → handle_count (take (k + 1) pieces) ≤ 4096 → (more : List Raw) × ((session setup pieces).handled ≡ more ++ accepted (stream (take (k + 1) pieces)))
+pub handled_next : (setup : Setup) (pieces : List Piece) (k : ℕ) → k < length pieces → GoesOn setup (take k pieces) → k < setup.pieces → handle_count (take (k + 1) pieces) ≤ 4096 → (more : List Raw) × ((session setup pieces).handled ≡ more ++ accepted setup (stream (take (k + 1) pieces)))
 handled_next setup pieces k lt on room few =
     handled_from setup pieces (k + 1) (omega arith) (λ m over low.
     let after = later setup pieces k m (omega arith) on over low in

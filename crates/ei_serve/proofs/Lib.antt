@@ -1,3 +1,4 @@
+pub mod Endpoints
 pub mod Ringing
 pub mod FewUnread
 pub mod Asked
@@ -10,8 +11,8 @@ pub mod Stepping
 pub mod Handling
 pub mod ShakingFront
 pub mod ShakingSteps
-pub mod ShakingVersions
 pub mod ConversingRequests
+pub mod ConversingSteps
 pub mod ConversingSeat
 pub mod Turns
 pub mod Histories

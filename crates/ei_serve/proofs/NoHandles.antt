@@ -1,5 +1,5 @@
--- Arguments without handles take none.
-use Rattle.std.proofs.Common.{◌≡◌, ℕ, List, [], ◌∷◌, Result, Ok, Err, refl, subst}
+-- Arguments without handles take none, and are read alike whatever handles came.
+use Rattle.std.proofs.Common.{◌≡◌, ℕ, List, [], ◌∷◌, Result, Ok, Err, refl, subst, ap, ◌∙◌}
 use Rattle.std.specs.Int.{w32, w64, cast_signed}
 use Rattle.ei_spec.specs.Value.{Kind, U32, I32, U64, I64, Float, Text, Nullable, Handle, New, Choice, OpenChoice, Value, Word, Long, Signed, SignedLong}
 use Rattle.ei_spec.specs.Value.{Letters}
@@ -46,3 +46,56 @@ step_keeps m n (Err f) ks e h = tt
 pub all_keeps : (ks : List Kind) (s : Unread) (n : ℕ) → AreNoHandles ks → s.taken ≡ n → KeepsTaken n (all_at ks s)
 all_keeps [] s n h e = e
 all_keeps (k ∷ ks) s n h e = step_keeps s.taken n (read k s) ks (subst (λ (m : ℕ). ReadKeeps m (read k s)) e (read_keeps k s h.0)) (λ x same. all_keeps ks x n h.1 same)
+
+-- ---- whatever handles came
+
+-- the same value is read, or the same fault
+abbrev SameRead : Read → Read → Type 0
+SameRead (Ok x) (Ok y) = (x.0 ≡ y.0) × (x.1.bytes ≡ y.1.bytes)
+SameRead (Ok x) (Err f) = ⊥
+SameRead (Err e) (Ok y) = ⊥
+SameRead (Err e) (Err f) = e ≡ f
+
+-- the same arguments are read, or the same fault
+abbrev pub SameArgs : Result (List Value × Unread) Stop → Result (List Value × Unread) Stop → Type 0
+SameArgs (Ok x) (Ok y) = (x.0 ≡ y.0) × (x.1.bytes ≡ y.1.bytes)
+SameArgs (Ok x) (Err f) = ⊥
+SameArgs (Err e) (Ok y) = ⊥
+SameArgs (Err e) (Err f) = e.0 ≡ f.0
+
+of_bytes_same : {A : Type 0} (f : A → Value) (s t : Unread) (r : Result (A × List ℕ) Fault) → SameRead (of_bytes f s r) (of_bytes f t r)
+of_bytes_same f s t (Ok x) = (refl, refl)
+of_bytes_same f s t (Err e) = refl
+
+bytes_same : {A : Type 0} (f : A → Value) (s t : Unread) (r : List ℕ → Result (A × List ℕ) Fault) → s.bytes ≡ t.bytes → SameRead (of_bytes f s (r s.bytes)) (of_bytes f t (r t.bytes))
+bytes_same f s t r e = subst (λ (b : List ℕ). SameRead (of_bytes f s (r s.bytes)) (of_bytes f t (r b))) e (of_bytes_same f s t (r s.bytes))
+
+read_same : (k : Kind) (s t : Unread) → IsNoHandle k → s.bytes ≡ t.bytes → SameRead (read k s) (read k t)
+read_same U32 s t n e = bytes_same Word s t (number_at w32) e
+read_same I32 s t n e = bytes_same (λ n. Signed (cast_signed w32 n)) s t (number_at w32) e
+read_same U64 s t n e = bytes_same Long s t (number_at w64) e
+read_same I64 s t n e = bytes_same (λ n. SignedLong (cast_signed w64 n)) s t (number_at w64) e
+read_same New s t n e = bytes_same Long s t (number_at w64) e
+read_same Float s t n e = bytes_same Word s t (number_at w32) e
+read_same Text s t n e = bytes_same Letters s t (λ b. text_at b >>= λ t. some_text t.0 t.1) e
+read_same Nullable s t n e = bytes_same or_null s t text_at e
+read_same Handle s t n e = absurd n
+read_same (Choice name values) s t n e = bytes_same Word s t (choice_at name values) e
+read_same OpenChoice s t n e = bytes_same Word s t (number_at w32) e
+
+consed : (v w : Value) (a b : Result (List Value × Unread) Stop) → v ≡ w → SameArgs a b → SameArgs (list_then v a) (list_then w b)
+consed v w (Ok x) (Ok y) e h = (ap (λ (u : Value). u ∷ x.0) e ∙ ap (λ (vs : List Value). w ∷ vs) h.0, h.1)
+consed v w (Ok x) (Err f) e h = absurd h
+consed v w (Err f) (Ok y) e h = absurd h
+consed v w (Err f) (Err g) e h = h
+
+stepped : (m n : ℕ) (r q : Read) (ks : List Kind) → SameRead r q → ((x y : Unread) → x.bytes ≡ y.bytes → SameArgs (all_at ks x) (all_at ks y)) →
+    SameArgs (stopping m r then λ x. list_then x.0 (all_at ks x.1)) (stopping n q then λ x. list_then x.0 (all_at ks x.1))
+stepped m n (Ok x) (Ok y) ks e h = consed x.0 y.0 (all_at ks x.1) (all_at ks y.1) e.0 (h x.1 y.1 e.1)
+stepped m n (Ok x) (Err f) ks e h = absurd e
+stepped m n (Err f) (Ok y) ks e h = absurd e
+stepped m n (Err f) (Err g) ks e h = e
+
+pub all_same : (ks : List Kind) (s t : Unread) → AreNoHandles ks → s.bytes ≡ t.bytes → SameArgs (all_at ks s) (all_at ks t)
+all_same [] s t n e = (refl, e)
+all_same (k ∷ ks) s t n e = stepped s.taken t.taken (read k s) (read k t) ks (read_same k s t n.0 e) (λ x y same. all_same ks x y n.1 same)

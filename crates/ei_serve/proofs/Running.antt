@@ -7,10 +7,11 @@ use Rattle.ei_spec.specs.Message.{Raw, front, bytes_of, all_bytes}
 use Rattle.ei_spec.specs.Piece.{Piece, stream, handle_count}
 use Rattle.ei_spec.specs.Stream.{Waiting, Reading, reading, read, read_within}
 use Rattle.ei_session.specs.Setup.{Setup}
-use Rattle.ei_session.specs.Framed.{framed}
-use Rattle.ei_session.specs.Replies.{replies}
-use Rattle.ei_session.specs.Built.{Refusal as Cause}
-use Rattle.ei_session.specs.Session.{accepted, reading_of}
+use Rattle.ei_session.specs.Requests.{framed}
+use Rattle.ei_session.specs.Events.{replies}
+use Rattle.ei_session.specs.Refusals.{Refusal as Cause}
+use Rattle.ei_session.specs.Served.{reading_by}
+use Rattle.ei_session.specs.Guard.{accepted, reading_of}
 use Rattle.ei_backend.specs.Outside.{with_more}
 use Rattle.ei_request.specs.declared.event.EisRequest.{EisRequest}
 use Rattle.ei_serve.specs.declared.session.Session.{Session}
@@ -33,8 +34,8 @@ pub record Running (setup : Setup) (n : ℕ) (s : Session) (left_old left_new : 
   pub count : length pieces ≡ n
   pub stands : Stands setup pieces s
   pub took : (told : List Piece) → left_old ≡ Some told → Took told left_new n pieces
-  pub gives : Gives setup [] (accepted (stream pieces)) out_old out_new
-  pub replied : Replied setup (accepted (stream pieces)) took_old took_new
+  pub gives : Gives setup [] (accepted setup (stream pieces)) out_old out_new
+  pub replied : Replied setup (accepted setup (stream pieces)) took_old took_new
 
 -- ---- the pieces told
 
@@ -77,17 +78,17 @@ goes_on setup n s t left left_now left_new x y z a b c r g = record {
   count = length-append r.pieces (g.piece ∷ []) ∙ ap (λ (k : ℕ). k + 1) r.count;
   stands = g.stands;
   took = λ told e. took_more told left_now left_new n r.pieces g.piece (r.took told e) g.hands;
-  gives = gives_then setup [] (accepted (stream r.pieces)) (accepted (stream (with_next r.pieces g.piece))) x y z r.gives g.goes.gives;
-  replied = replied_then setup (accepted (stream r.pieces)) (accepted (stream (with_next r.pieces g.piece))) a b c r.replied g.goes.replies;
+  gives = gives_then setup [] (accepted setup (stream r.pieces)) (accepted setup (stream (with_next r.pieces g.piece))) x y z r.gives g.goes.gives;
+  replied = replied_then setup (accepted setup (stream r.pieces)) (accepted setup (stream (with_next r.pieces g.piece))) a b c r.replied g.goes.replies;
 }
 
 -- nothing is read of no pieces
-pub nothing_read : reading_of (stream []) ≡ reading [] [] Waiting
-unfolding reading_of stream read read_within front
-nothing_read = refl
+pub nothing_read : (setup : Setup) → reading_of setup (stream []) ≡ reading [] [] Waiting
+unfolding reading_by stream read read_within front
+nothing_read setup = refl
 
-none_accepted : accepted (stream []) ≡ []
-none_accepted = ap (λ (r : Reading Cause). r.past) nothing_read
+none_accepted : (setup : Setup) → accepted setup (stream []) ≡ []
+none_accepted setup = ap (λ (r : Reading Cause). r.past) (nothing_read setup)
 
 -- a session that just started stands for no pieces
 pub stands_for_none : (setup : Setup) (s : Session) → setup_of s.setup ≡ setup → StandsAt setup [] [] [] s.phase → s.taken ≡ 0 → Stands setup [] s
@@ -95,9 +96,9 @@ unfolding handle_count
 stands_for_none setup s started phase taken = record {
   started = started;
   goes_on = λ k low high. absurd (omega (arith, low, high));
-  waits = ap (λ (r : Reading Cause). r.stop) nothing_read;
+  waits = ap (λ (r : Reading Cause). r.stop) (nothing_read setup);
   unread = [];
-  phase = subst (λ (r : Reading Cause). StandsAt setup r.past r.rest [] s.phase) (sym nothing_read) phase;
+  phase = subst (λ (r : Reading Cause). StandsAt setup r.past r.rest [] s.phase) (sym (nothing_read setup)) phase;
   handles = refl;
   taken = taken;
 }
@@ -108,6 +109,6 @@ starts setup s left out old new stands r = record {
   count = refl;
   stands = stands;
   took = λ told e. record { within = omega arith; left_is = e; are = refl };
-  gives = gives_none setup [] (accepted (stream [])) out (λ readings. ap (framed setup readings) none_accepted);
-  replied = subst (λ (m : List Raw). Replied setup m old new) (sym none_accepted) r;
+  gives = gives_none setup [] (accepted setup (stream [])) out (λ readings. ap (framed setup readings) (none_accepted setup));
+  replied = subst (λ (m : List Raw). Replied setup m old new) (sym (none_accepted setup)) r;
 }

@@ -1,7 +1,7 @@
 -- A whole session, turn by turn.
 use Rattle.std.proofs.Common.{◌≡◌, ℕ, ◌+◌, ◌-◌, ◌≤◌, ◌<◌, inl, inr, Bool, true, false, cond, List, [], ◌∷◌, ◌++◌, length, take, drop, Option, Some, None}
 use Rattle.std.proofs.Common.{Result, Ok, Err, refl, ap, sym, subst, ◌∙◌, append_assoc, arith}
-use Rattle.std.specs.Prelude.{map, OnOk, IfErr, IsErrOf}
+use Rattle.std.specs.Prelude.{map, OnOk, IfErr, IsErrOf, IsSome}
 use Rattle.std.proofs.lemmas.Bool.{cases_lt, lt-ltb}
 use Rattle.std.proofs.lemmas.List.{append-nil, take_all, take-append-drop}
 use Rattle.std.proofs.lemmas.Grind.{flat_map-append}
@@ -13,30 +13,30 @@ use Rattle.ei_spec.specs.History.{each, joined}
 use Rattle.ei_spec.specs.Groups.{grouped}
 use Rattle.ei_session.specs.Setup.{Setup}
 use Rattle.ei_session.specs.Handshake.{connected}
-use Rattle.ei_session.specs.Built.{NotBuilt}
-use Rattle.ei_session.specs.Built.{Refusal as Cause}
-use Rattle.ei_session.specs.Framed.{Request, framed}
-use Rattle.ei_session.specs.Replies.{replies, greeting}
-use Rattle.ei_session.specs.Session.{Answer, PieceLimit, HandleLimit, End, UnexpectedEof, Stopped, Outcome, session, is_over, is_waiting, reading_of, accepted}
-use Rattle.ei_session.specs.Session.{at_end, IsValid}
-use Rattle.ei_session.proofs.Parts.{replies_prefix}
+use Rattle.ei_session.specs.Refusals.{Refusal as Cause}
+use Rattle.ei_session.specs.Requests.{Request, framed}
+use Rattle.ei_session.specs.Replies.{greeting}
+use Rattle.ei_session.specs.Events.{replies}
+use Rattle.ei_session.specs.Served.{Answer, Disconnect, End, UnexpectedEof, PieceLimit, HandleLimit, Refused, Outcome, answer_at, at_end, is_waiting, is_over_by, IsGood}
+use Rattle.ei_session.specs.Guard.{session, is_over, reading_of, accepted, IsValid}
+use Rattle.ei_session.proofs.AllParts.{replies_prefix}
 use Rattle.ei_backend.specs.Outside.{with_more}
 use Rattle.ei_request.specs.Converter.{asked_of}
 use Rattle.ei_request.specs.declared.event.EisRequest.{EisRequest}
 use Rattle.ei_types.specs.declared.error.Error.{Error}
 use Rattle.ei_types.specs.declared.error.Error.TheVariants as error
-use Rattle.ei_wire.specs.declared.error.ParseError.TheVariants as parse_error
 use Rattle.ei_serve.specs.declared.session.Ended.{Ended as HowEnded}
 use Rattle.ei_serve.specs.declared.session.Ended.TheVariants as ended
 use Rattle.ei_serve.specs.declared.session.Session.{Session}
 use Rattle.ei_serve.specs.Causes.{Greeted, GreetedInPart, RefusesToStart}
 use Rattle.ei_serve.specs.Steps.{Gives, Replies, RepliesInPart, Goes}
 use Rattle.ei_serve.specs.Taking.{Hands, HasNone, with_next}
-use Rattle.ei_serve.specs.Turning.{Closes, Finds, Stays, BreaksOff, Turns, IsAtEnd}
+use Rattle.ei_serve.specs.Refusing.{refusal_of, IsRefused}
+use Rattle.ei_serve.specs.Turning.{Closes, ClosesRefused, Finds, Stays, BreaksOff, Turns, IsAtEnd}
 use Rattle.ei_serve.specs.Serving.{AnswersAs, IsDecided, IsCutShort, IsOfSession, IsSourceEnd, TookPieces, AreReadings, HandsOut, Replied, RepliedInPart}
 use Rattle.ei_serve.specs.Serving.{RepliedAtLeast, ReadValid, Handled, HandledInPart, OwesLast}
 use Rattle.ei_serve.proofs.Going.{none_more, more_more, gives_none, gives_then, goes_none}
-use Rattle.ei_serve.proofs.Histories.{GoesOn as GoingOn, IsEarly, goes_on_more, going, stopped, too_many_pieces, too_many_handles_come, session_front}
+use Rattle.ei_serve.proofs.Histories.{GoesOn as GoingOn, IsEarly, IsStopped, end_is_no_stop, goes_on_more, going, stopped, too_many_pieces, too_many_handles_come, session_front}
 use Rattle.ei_serve.proofs.Histories.{front_same, accepted_front, handled_front, handled_next}
 use Rattle.ei_serve.proofs.Running.{Running, Took, took_more, replied_then}
 
@@ -113,50 +113,37 @@ is_waiting_so Ended e = absurd cc
 is_waiting_so (HeaderLength n) e = absurd cc
 is_waiting_so (Refusal c) e = absurd cc
 
--- a session that goes on has come to no stop
-no_stop : (past : List Raw) (b : Bool) (stop : Stop Cause) → connected past ≡ b → (at_end past).answer ≡ Stopped stop → ⊥
-no_stop past true stop c e = let g : End ≡ Stopped stop = sym (ap (λ (x : Bool). cond x End UnexpectedEof) c) ∙ e in absurd cc
-no_stop past false stop c e = let g : UnexpectedEof ≡ Stopped stop = sym (ap (λ (x : Bool). cond x End UnexpectedEof) c) ∙ e in absurd cc
-
 -- where the end was answered the connection stood
 end_connected : (past : List Raw) (b : Bool) → connected past ≡ b → (at_end past).answer ≡ End → connected past ≡ true
 end_connected past true c e = c
 end_connected past false c e = let g : UnexpectedEof ≡ End = sym (ap (λ (x : Bool). cond x End UnexpectedEof) c) ∙ e in absurd cc
 
-stop_of : Answer → Stop Cause
-stop_of (Stopped stop) = stop
-stop_of other = Waiting
-
-same_stop : (a b : Stop Cause) → Stopped a ≡ Stopped b → a ≡ b
-unfolding stop_of
-same_stop a b e = ap stop_of e
-
-stops_at : (setup : Setup) (pieces : List Piece) (piece : Piece) (stop : Stop Cause) (b : Bool) → GoingOn setup pieces → length pieces < setup.pieces → handle_count (with_next pieces piece) ≤ 4096 → is_waiting (reading_of (stream (with_next pieces piece))).stop ≡ b → (session setup (with_next pieces piece)).answer ≡ Stopped stop →
-    ((reading_of (stream (with_next pieces piece))).stop ≡ stop) × ((session setup (with_next pieces piece)).handled ≡ accepted (stream (with_next pieces piece)))
-stops_at setup pieces piece stop true on room few w e =
+stops_at : (setup : Setup) (pieces : List Piece) (piece : Piece) (b : Bool) → GoingOn setup pieces → length pieces < setup.pieces → handle_count (with_next pieces piece) ≤ 4096 → is_waiting (reading_of setup (stream (with_next pieces piece))).stop ≡ b → (session setup (with_next pieces piece)).answer ≡ Disconnect →
+    (answer_at (reading_of setup (stream (with_next pieces piece))) ≡ Disconnect) × ((session setup (with_next pieces piece)).handled ≡ accepted setup (stream (with_next pieces piece)))
+stops_at setup pieces piece true on room few w e =
     let more = going setup (with_next pieces piece) (goes_on_more setup pieces piece on room few (is_waiting_so _ w)) in
-    absurd (no_stop (accepted (stream (with_next pieces piece))) (connected (accepted (stream (with_next pieces piece)))) stop refl (sym (ap (λ (o : Outcome). o.answer) more) ∙ e))
-stops_at setup pieces piece stop false on room few w e =
+    let late : (at_end (accepted setup (stream (with_next pieces piece)))).answer ≡ Disconnect = sym (ap (λ (o : Outcome). o.answer) more) ∙ e in
+    absurd (end_is_no_stop (connected (accepted setup (stream (with_next pieces piece)))) (subst IsStopped (sym late) tt))
+stops_at setup pieces piece false on room few w e =
     let is = stopped setup pieces piece on room few w in
-    let same : Stopped (reading_of (stream (with_next pieces piece))).stop ≡ Stopped stop = sym (ap (λ (o : Outcome). o.answer) is) ∙ e in
-    (same_stop _ stop same, ap (λ (o : Outcome). o.handled) is)
+    (sym (ap (λ (o : Outcome). o.answer) is) ∙ e, ap (λ (o : Outcome). o.handled) is)
 
--- where the answer is a stop, the stream of all pieces stopped so, and all its messages were handled
-stopped_at : (setup : Setup) (pieces : List Piece) (piece : Piece) (stop : Stop Cause) → GoingOn setup pieces → (session setup (with_next pieces piece)).answer ≡ Stopped stop →
-    ((reading_of (stream (with_next pieces piece))).stop ≡ stop) × ((session setup (with_next pieces piece)).handled ≡ accepted (stream (with_next pieces piece)))
-stopped_at setup pieces piece stop on e = elim (cases_lt (length pieces) setup.pieces) [
+-- where the answer is a disconnect, the stream of all pieces stopped at it, and all its messages were handled
+stopped_at : (setup : Setup) (pieces : List Piece) (piece : Piece) → GoingOn setup pieces → (session setup (with_next pieces piece)).answer ≡ Disconnect →
+    (answer_at (reading_of setup (stream (with_next pieces piece))) ≡ Disconnect) × ((session setup (with_next pieces piece)).handled ≡ accepted setup (stream (with_next pieces piece)))
+stopped_at setup pieces piece on e = elim (cases_lt (length pieces) setup.pieces) [
   | inl room ↦ elim (cases_lt 4096 (handle_count (with_next pieces piece))) [
-    | inl many ↦ let g : HandleLimit ≡ Stopped stop = sym (ap (λ (o : Outcome). o.answer) (too_many_handles_come setup pieces piece on room many)) ∙ e in absurd cc
-    | inr few ↦ stops_at setup pieces piece stop (is_waiting (reading_of (stream (with_next pieces piece))).stop) on room few refl e
+    | inl many ↦ let g : HandleLimit ≡ Disconnect = sym (ap (λ (o : Outcome). o.answer) (too_many_handles_come setup pieces piece on room many)) ∙ e in absurd cc
+    | inr few ↦ stops_at setup pieces piece (is_waiting (reading_of setup (stream (with_next pieces piece))).stop) on room few refl e
   ]
-  | inr full ↦ let g : PieceLimit ≡ Stopped stop = sym (ap (λ (o : Outcome). o.answer) (too_many_pieces setup pieces piece on full)) ∙ e in absurd cc
+  | inr full ↦ let g : PieceLimit ≡ Disconnect = sym (ap (λ (o : Outcome). o.answer) (too_many_pieces setup pieces piece on full)) ∙ e in absurd cc
 ]
 
-valid_ended : (bytes : List ℕ) → (reading_of bytes).stop ≡ Ended → IsValid bytes
-valid_ended bytes e = rw e tt
+valid_ended : (setup : Setup) (bytes : List ℕ) → answer_at (reading_of setup bytes) ≡ Disconnect → IsValid setup bytes
+valid_ended setup bytes e = subst (λ (a : Answer). IsGood a) (sym e) tt
 
-valid_waiting : (bytes : List ℕ) → (reading_of bytes).stop ≡ Waiting → connected (accepted bytes) ≡ true → IsValid bytes
-valid_waiting bytes e c = rw e c
+valid_waiting : (setup : Setup) (bytes : List ℕ) → (reading_of setup bytes).stop ≡ Waiting → connected (accepted setup bytes) ≡ true → IsValid setup bytes
+valid_waiting setup bytes e c = rw (e, c) tt
 
 -- ---- the replies, in part
 
@@ -196,7 +183,7 @@ pub record Serves (setup : Setup) (told : List Piece) (result : Result HowEnded 
   pub answer : AnswersAs (session setup told).answer result
   pub requests : IsDecided result → HandsOut setup (session setup told).handled readings out_old out_new
   pub replies : IsDecided result → Replied setup (session setup told).handled took_old took_new
-  pub valid : OnOk result (ReadValid told left (session setup told).handled)
+  pub valid : OnOk result (ReadValid setup told left (session setup told).handled)
   pub pieces : (k : ℕ) × (k ≤ setup.pieces + 1) × TookPieces told left k
   pub handled : IsErrOf result error.ReadFault → Handled setup told left readings out_old out_new took_old took_new
   pub handled_in_part : IsCutShort result → HandledInPart setup (session setup told).handled readings out_old out_new took_old took_new
@@ -222,7 +209,7 @@ module _ (setup : Setup) (n : ℕ) (s : Session) (left left_now left_new : Optio
   took_now = run.took told left_is
 
   abbrev past : List Raw
-  past = accepted (stream run.pieces)
+  past = accepted setup (stream run.pieces)
 
   -- what the session gave and replied, up to these messages
   gives_to : (messages : List Raw) → Gives setup past messages y z → HandsOut setup messages readings x z
@@ -232,7 +219,7 @@ module _ (setup : Setup) (n : ℕ) (s : Session) (left left_now left_new : Optio
   replies_to messages r = replied_then setup past messages a b c run.replied r
 
   decided : (r : Result HowEnded Error) (k : ℕ) → IsDecided r → k ≤ setup.pieces + 1 → AnswersAs (session setup told).answer r → TookPieces told left_new k →
-      Goes setup past (session setup told).handled y z b c → OnOk r (ReadValid told left_new (session setup told).handled) → Serves setup told r left_new readings x z a c
+      Goes setup past (session setup told).handled y z b c → OnOk r (ReadValid setup told left_new (session setup told).handled) → Serves setup told r left_new readings x z a c
   decided r k d most answers took g valid = record {
     answer = answers;
     requests = λ _. gives_to (session setup told).handled g.gives;
@@ -255,7 +242,7 @@ module _ (setup : Setup) (n : ℕ) (s : Session) (left left_now left_new : Optio
       session_front setup told (n + 1) (subst (λ (p : List Piece). IsEarly (session setup p).answer) (sym are) early) ∙ ap (session setup) are
 
   closed : (r : Result HowEnded Error) (answer : Answer) → IsDecided r → IsEarly answer → AnswersAs answer r → (h : Closes setup run.pieces answer left_now left_new y z b c) →
-      OnOk r (ReadValid told left_new (session setup (with_next run.pieces h.piece)).handled) → Serves setup told r left_new readings x z a c
+      OnOk r (ReadValid setup told left_new (session setup (with_next run.pieces h.piece)).handled) → Serves setup told r left_new readings x z a c
   closed r answer d early answers h valid =
       let is = session_is h.piece h.hands (subst (λ (t : Answer). IsEarly t) (sym h.answer_is) early) in
       let took = took_next h.piece h.hands in
@@ -263,17 +250,17 @@ module _ (setup : Setup) (n : ℕ) (s : Session) (left left_now left_new : Optio
       (subst (λ (t : Answer). AnswersAs t r) (sym (ap (λ (o : Outcome). o.answer) is ∙ h.answer_is)) answers)
       (took_of told left_new (n + 1) (with_next run.pieces h.piece) took)
       (subst (λ (o : Outcome). Goes setup past o.handled y z b c) (sym is) h.goes)
-      (subst (λ (o : Outcome). OnOk r (ReadValid told left_new o.handled)) (sym is) valid)
+      (subst (λ (o : Outcome). OnOk r (ReadValid setup told left_new o.handled)) (sym is) valid)
 
-  pub disconnects : Closes setup run.pieces (Stopped Ended) left_now left_new y z b c → Serves setup told (Ok ended.Disconnect) left_new readings x z a c
+  pub disconnects : Closes setup run.pieces Disconnect left_now left_new y z b c → Serves setup told (Ok ended.Disconnect) left_new readings x z a c
   disconnects h =
       let took = took_next h.piece h.hands in
-      let stop = stopped_at setup run.pieces h.piece Ended run.stands.goes_on h.answer_is in
-      closed (Ok ended.Disconnect) (Stopped Ended) tt tt refl h (record {
+      let stop = stopped_at setup run.pieces h.piece run.stands.goes_on h.answer_is in
+      closed (Ok ended.Disconnect) Disconnect tt tt refl h (record {
         k = n + 1;
         took = took_of told left_new (n + 1) (with_next run.pieces h.piece) took;
-        valid = subst (λ (p : List Piece). IsValid (stream p)) (sym took.are) (valid_ended (stream (with_next run.pieces h.piece)) stop.0);
-        messages_are = ap (λ (p : List Piece). accepted (stream p)) took.are ∙ sym stop.1;
+        valid = subst (λ (p : List Piece). IsValid setup (stream p)) (sym took.are) (valid_ended setup (stream (with_next run.pieces h.piece)) stop.0);
+        messages_are = ap (λ (p : List Piece). accepted setup (stream p)) took.are ∙ sym stop.1;
       })
 
   -- ---- the source ended
@@ -288,14 +275,14 @@ module _ (setup : Setup) (n : ℕ) (s : Session) (left left_now left_new : Optio
   took_end none = record { within = took_now.within; left_is = (all_taken none).1 ∙ ap (λ (p : List Piece). Some p) (sym (all_taken none).0) }
 
   found : (r : Result HowEnded Error) (answer : Answer) → IsDecided r → AnswersAs answer r → (h : Finds setup run.pieces answer left_now left_new y z b c) →
-      OnOk r (ReadValid told left_new (session setup run.pieces).handled) → Serves setup told r left_new readings x z a c
+      OnOk r (ReadValid setup told left_new (session setup run.pieces).handled) → Serves setup told r left_new readings x z a c
   found r answer d answers h valid =
       let is = pieces_are h.none in
       decided r n d (omega (arith, few))
       (subst (λ (p : List Piece). AnswersAs (session setup p).answer r) is (subst (λ (t : Answer). AnswersAs t r) (sym h.answer_is) answers))
       (took_end h.none)
       (subst (λ (p : List Piece). Goes setup past (session setup p).handled y z b c) is h.goes)
-      (subst (λ (p : List Piece). OnOk r (ReadValid told left_new (session setup p).handled)) is valid)
+      (subst (λ (p : List Piece). OnOk r (ReadValid setup told left_new (session setup p).handled)) is valid)
 
   pub ends : Finds setup run.pieces End left_now left_new y z b c → Serves setup told (Ok ended.End) left_new readings x z a c
   ends h =
@@ -303,8 +290,8 @@ module _ (setup : Setup) (n : ℕ) (s : Session) (left left_now left_new : Optio
       found (Ok ended.End) End tt refl h (record {
         k = n;
         took = took_end h.none;
-        valid = subst (λ (p : List Piece). IsValid (stream p)) (sym took_now.are) (valid_waiting (stream run.pieces) run.stands.waits (end_connected past _ refl (sym (ap (λ (o : Outcome). o.answer) at) ∙ h.answer_is)));
-        messages_are = ap (λ (p : List Piece). accepted (stream p)) took_now.are ∙ sym (ap (λ (o : Outcome). o.handled) at);
+        valid = subst (λ (p : List Piece). IsValid setup (stream p)) (sym took_now.are) (valid_waiting setup (stream run.pieces) run.stands.waits (end_connected past _ refl (sym (ap (λ (o : Outcome). o.answer) at) ∙ h.answer_is)));
+        messages_are = ap (λ (p : List Piece). accepted setup (stream p)) took_now.are ∙ sym (ap (λ (o : Outcome). o.handled) at);
       })
 
   -- ---- faults, and want of memory
@@ -321,8 +308,8 @@ module _ (setup : Setup) (n : ℕ) (s : Session) (left left_now left_new : Optio
   here : Stays setup run.pieces left_now left_new y z b c → Goes setup past past y z b c
   here h = subst (λ (t : Option Piece). Goes setup past past y z b t) (sym h.took) (subst (λ (o : List EisRequest). Goes setup past past y o b b) (sym h.out) (goes_none setup past y b))
 
-  accepted_is : accepted (stream (take n told)) ≡ past
-  accepted_is = ap (λ (p : List Piece). accepted (stream p)) took_now.are
+  accepted_is : accepted setup (stream (take n told)) ≡ past
+  accepted_is = ap (λ (p : List Piece). accepted setup (stream p)) took_now.are
 
   pub read_fault : Stays setup run.pieces left_now left_new y z b c → Serves setup told (Err error.ReadFault) left_new readings x z a c
   read_fault h =
@@ -353,7 +340,7 @@ module _ (setup : Setup) (n : ℕ) (s : Session) (left left_now left_new : Optio
   breaks_off e is h =
       let took = took_next h.piece h.hands in
       let next = handled_next setup told n (omega (arith, took.within)) goes_on_front (omega (arith, h.room, run.count)) (subst (λ (p : List Piece). handle_count p ≤ 4096) (sym took.are) h.few) in
-      let last : accepted (stream (take (n + 1) told)) ≡ accepted (stream (with_next run.pieces h.piece)) = ap (λ (p : List Piece). accepted (stream p)) took.are in
+      let last : accepted setup (stream (take (n + 1) told)) ≡ accepted setup (stream (with_next run.pieces h.piece)) = ap (λ (p : List Piece). accepted setup (stream p)) took.are in
       let less : n + 1 - 1 ≡ n = omega arith in
       cut_short e (n + 1) is (omega (arith, few)) (took_of told left_new (n + 1) (with_next run.pieces h.piece) took)
       (record {
@@ -365,14 +352,14 @@ module _ (setup : Setup) (n : ℕ) (s : Session) (left left_now left_new : Optio
       (record {
         k = n + 1;
         took = took_of told left_new (n + 1) (with_next run.pieces h.piece) took;
-        replies = λ _. subst (λ (m : List Raw). RepliedAtLeast setup m a c) (sym (ap (λ (k : ℕ). accepted (stream (take k told))) less ∙ accepted_is)) (at_least setup past h.goes.reached a b c run.replied h.goes.replies);
+        replies = λ _. subst (λ (m : List Raw). RepliedAtLeast setup m a c) (sym (ap (λ (k : ℕ). accepted setup (stream (take k told))) less ∙ accepted_is)) (at_least setup past h.goes.reached a b c run.replied h.goes.replies);
       })
 
   stays_short : (e : Error) → IsCutShort {T = HowEnded} (Err e) → Stays setup run.pieces left_now left_new y z b c → Serves setup told (Err e) left_new readings x z a c
   stays_short e is h =
       let g = here h in
       let front = handled_front setup told n took_now.within goes_on_front in
-      let owed = accepted_front told (n - 1) n (omega arith) in
+      let owed = accepted_front setup told (n - 1) n (omega arith) in
       cut_short e n is (omega (arith, few)) (stays_took h)
       (record {
         reached = past;
@@ -383,22 +370,24 @@ module _ (setup : Setup) (n : ℕ) (s : Session) (left left_now left_new : Optio
       (record {
         k = n;
         took = stays_took h;
-        replies = λ _. at_least_front setup (accepted (stream (take (n - 1) told))) past a c owed.0 (sym accepted_is ∙ owed.1) (replies_to past g.replies);
+        replies = λ _. at_least_front setup (accepted setup (stream (take (n - 1) told))) past a c owed.0 (sym accepted_is ∙ owed.1) (replies_to past g.replies);
       })
 
   -- ---- by the error
+
+  refused : (e : Error) (refusal : Option Cause) → IsDecided {T = HowEnded} (Err e) → ((a : Answer) → IsRefused refusal a → AnswersAs a (Err e)) → ClosesRefused setup run.pieces refusal left_now left_new y z b c → Serves setup told (Err e) left_new readings x z a c
+  refused e None d answers h = absurd h
+  refused e (Some r) d answers h = closed (Err e) (Refused r) d tt (answers (Refused r) refl) h tt
 
   pub fails : (e : Error) (t : Session) → Turns setup run.pieces (Err e) t left_now left_new y z b c → Serves setup told (Err e) left_new readings x z a c
   fails error.UnexpectedEof t h = found (Err error.UnexpectedEof) UnexpectedEof tt refl h tt
   fails error.PieceLimit t h = closed (Err error.PieceLimit) PieceLimit tt tt refl h tt
   fails error.HandleLimit t h = closed (Err error.HandleLimit) HandleLimit tt tt refl h tt
-  fails (error.Parse (parse_error.HeaderLength k)) t h = closed (Err (error.Parse (parse_error.HeaderLength k))) (Stopped (HeaderLength k)) tt tt refl h tt
-  fails error.NotBuilt t h = closed (Err error.NotBuilt) (Stopped (Refusal NotBuilt)) tt tt refl h tt
   fails error.ReadFault t h = read_fault h
   fails error.WriteFault t h = breaks_off error.WriteFault tt h
   fails error.NoMemory t (inl h) = stays_short error.NoMemory tt h
   fails error.NoMemory t (inr h) = breaks_off error.NoMemory tt h
-  fails e t h = absurd h
+  fails e t h = refused e (refusal_of e) tt (λ a r. r) h
 
   pub failed : (t : Session) (e : Error) (r : Result HowEnded Error) → r ≡ Err e → Turns setup run.pieces (Err e) t left_now left_new y z b c → Serves setup told r left_new readings x z a c
   failed t e r same h = subst (λ (q : Result HowEnded Error). Serves setup told q left_new readings x z a c) (sym same) (fails e t h)
@@ -412,7 +401,7 @@ pub no_end : (e : Error) (r : Result HowEnded Error) → r ≡ Err e → IsSourc
 no_end e r same h = no_end_by e (subst (λ (q : Result HowEnded Error). IsSourceEnd q) same h)
 
 over_limit : (setup : Setup) (pieces : List Piece) (k : ℕ) → setup.pieces < k → is_over setup pieces k ≡ true
-unfolding is_over
+unfolding is_over_by
 over_limit setup pieces k lt = rw (lt-ltb setup.pieces k lt) refl
 
 -- no session goes on after more turns than pieces may be taken
@@ -429,16 +418,18 @@ start_only e h = absurd h
 pub start_is_of_session : (e : Error) (r : Result HowEnded Error) → r ≡ Err e → RefusesToStart e → IfErr r IsOfSession
 start_is_of_session e r same h = rw same (start_only e h)
 
+closed_so : (setup : Setup) (pieces : List Piece) (refusal : Option Cause) (left left_new : Option (List Piece)) (x y : List EisRequest) (a b : Option Piece) → ClosesRefused setup pieces refusal left left_new x y a b → IsSome refusal
+closed_so setup pieces None left left_new x y a b h = absurd h
+closed_so setup pieces (Some r) left left_new x y a b h = refl
+
 turn_only : (setup : Setup) (pieces : List Piece) (e : Error) (t : Session) (left left_new : Option (List Piece)) (x y : List EisRequest) (a b : Option Piece) → Turns setup pieces (Err e) t left left_new x y a b → IsOfSession e
-turn_only setup pieces (error.Parse (parse_error.HeaderLength n)) t left left_new x y a b h = tt
-turn_only setup pieces error.NotBuilt t left left_new x y a b h = tt
 turn_only setup pieces error.UnexpectedEof t left left_new x y a b h = tt
 turn_only setup pieces error.PieceLimit t left left_new x y a b h = tt
 turn_only setup pieces error.HandleLimit t left left_new x y a b h = tt
 turn_only setup pieces error.ReadFault t left left_new x y a b h = tt
 turn_only setup pieces error.WriteFault t left left_new x y a b h = tt
 turn_only setup pieces error.NoMemory t left left_new x y a b h = tt
-turn_only setup pieces e t left left_new x y a b h = absurd h
+turn_only setup pieces e t left left_new x y a b h = closed_so setup pieces (refusal_of e) left left_new x y a b h
 
 pub turn_is_of_session : (setup : Setup) (pieces : List Piece) (e : Error) (r : Result HowEnded Error) (t : Session) (left left_new : Option (List Piece)) (x y : List EisRequest) (a b : Option Piece) → r ≡ Err e → Turns setup pieces (Err e) t left left_new x y a b → IfErr r IsOfSession
 turn_is_of_session setup pieces e r t left left_new x y a b same h = rw same (turn_only setup pieces e t left left_new x y a b h)

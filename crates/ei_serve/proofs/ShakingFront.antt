@@ -1,17 +1,21 @@
 -- The message at the front during the handshake.
-use Rattle.std.proofs.Common.{◌≡◌, ◌==◌, ℕ, Bool, true, false, cond, ◌&&◌, ◌||◌, List, [], ◌∷◌, Option, Some, None, refl, sym, ap, ◌∙◌, inl, inr}
-use Rattle.std.specs.Prelude.{is_some}
+use Rattle.std.proofs.Common.{◌≡◌, ◌==◌, ℕ, Bool, true, false, cond, ◌&&◌, ◌||◌, eqb, List, [], ◌∷◌, Option, Some, None, Ok, Err, refl, sym, ap, ◌∙◌}
+use Rattle.std.specs.Prelude.{codes}
 use Rattle.std.specs.Ordering.{nat_cmp, eq_by_cmp}
 use Rattle.std.specs.Cmp.{nat_cmp_total, Equal-is}
 use Rattle.std.specs.FinMap.{empty, get-empty, get-insert, nat_cmp-IsAntisymmetric}
-use Rattle.std.proofs.Math.Bool.{or-false}
 use Rattle.std.proofs.lemmas.Bool.{eqb-true}
 use Rattle.ei_spec.specs.declared.handle.Handle.{Handle}
 use Rattle.ei_spec.specs.declared.interface.KnownInterface.{KnownInterface}
 use Rattle.ei_spec.specs.declared.interface.KnownInterface.TheVariants as known
 use Rattle.ei_spec.specs.Value.{Value, Word, Letters}
+use Rattle.ei_spec.specs.Reading.{Fault}
+use Rattle.ei_spec.specs.Rows.{Row, row_at}
+use Rattle.ei_spec.specs.Table.{table}
 use Rattle.ei_spec.specs.Interface.{Known, ObjectView}
 use Rattle.ei_spec.specs.Message.{Raw, Whole, front}
+use Rattle.ei_types.specs.Enums.{context_type_number}
+use Rattle.ei_types.specs.declared.error.HandshakeError.TheVariants as handshake_error
 use Rattle.ei_backend.specs.Table.{found, first_object, first_server_id}
 use Rattle.ei_backend.specs.Backend.{BackendView}
 use Rattle.ei_server.specs.declared.handshake.Request.{Request as Asked}
@@ -20,15 +24,31 @@ use Rattle.ei_server.specs.Handshake as handshake
 use Rattle.ei_server.specs.declared.request.Request.{Request}
 use Rattle.ei_server.specs.declared.request.Request.TheVariants as request
 use Rattle.ei_server.specs.Request.{as_one_of, target_of, code_of, values_of}
+use Rattle.ei_session.specs.Setup.{Setup}
 use Rattle.ei_session.specs.Arguments.{request_args}
-use Rattle.ei_session.specs.Handshake.{Announced, announced, announced_by, is_finish}
-use Rattle.ei_session.specs.Built.{all_settled, is_built_before, names_required}
-use Rattle.ei_handshake.specs.Versions.{VersionMap}
-use Rattle.ei_handshake.specs.Handshaker.{has_required}
-use Rattle.ei_serve.specs.Asking.{AllKnown, is_sync, Takes, Unreadable}
-use Rattle.ei_serve.specs.Standing.{AreSettled, Ring, handshake_table, quiet}
-use Rattle.ei_serve.specs.Shaking.{is_required, is_taken}
+use Rattle.ei_session.specs.Asked.{first as first_there}
+use Rattle.ei_session.specs.Handshake.{Announced, announced, announced_by, connected, is_finish}
+use Rattle.ei_session.specs.Meaning.{Shake, Greets, Finishes, TellsContext, TellsName, TellsInterface, Shakes, meaning}
+use Rattle.ei_session.specs.Meaning as rows
+use Rattle.ei_session.specs.ByMeaning.{tells_name, tells_context, shake_refusal}
+use Rattle.ei_session.specs.Objects.{object}
+use Rattle.ei_session.specs.Touches.{input}
+use Rattle.ei_session.specs.Refusals.{Refusal, Parse, Handshake, Arguments, arguments, no_row, stuck, announced_id, bad_id, left_over, came, verdict, refusal}
+use Rattle.ei_session.specs.Refusals.{bad_handshake, bad_sync, bad_capabilities, bad_touch, bad_text}
+use Rattle.ei_session.specs.Guard.{judge}
+use Rattle.ei_session.proofs.AskedMeans.{name_asked, context_asked}
+use Rattle.ei_session.proofs.BeforeTheFinish.{came_more}
+use Rattle.ei_session.proofs.FirstObjects.{the_handshake, object_first}
+use Rattle.ei_session.proofs.GuardLaws.{by_refusal}
+use Rattle.ei_session.proofs.RefusalLaws.{refused_known, refused_early}
+use Rattle.ei_session.proofs.RefusedMeans.{refusal_asked}
+use Rattle.ei_session.proofs.RowsMean.{asks_means}
+use Rattle.ei_serve.specs.Asking.{AllKnown, is_sync, Takes, IsGone, Unreadable, bytes_refused}
+use Rattle.ei_serve.specs.Standing.{handshake_table}
+use Rattle.ei_serve.specs.Steps.{RefusesFront}
+use Rattle.ei_serve.proofs.Endpoints.{Memory, quiet_with}
 use Rattle.ei_serve.proofs.Standing.{found_first}
+use Rattle.ei_serve.proofs.Taking.{IsPlain, plain_rows}
 
 -- ---- object 0 alone is in the table
 
@@ -50,14 +70,14 @@ all_known id target h = (known.Handshake, ap (λ (o : ObjectView). o.interface) 
 -- ---- what was taken out
 
 -- a request of the handshake to object 0 stood at the front
-pub record Front (rest : List ℕ) (handles : List Handle) (ring : Ring) (asked : Asked) (new : BackendView) : Type 0 where
+pub record Front (rest : List ℕ) (handles : List Handle) (memory : Memory) (asked : Asked) (new : BackendView) : Type 0 where
   pub m : Raw
   pub after : List ℕ
   pub front_is : front rest ≡ Whole m after
   pub id_is : m.id ≡ 0
   pub opcode_is : m.opcode ≡ handshake.code_of asked
   pub args : request_args known.Handshake m ≡ Some (handshake.values_of asked)
-  pub new_is : new ≡ quiet handshake_table after handles ring
+  pub new_is : new ≡ quiet_with handshake_table after handles memory
 
 -- the object is object 0, and a request of the handshake is to it
 is_handshake : (id : ℕ) (target : ObjectView) (interface wanted : KnownInterface) → found handshake_table id ≡ Some target → target.interface ≡ Known interface → target.interface ≡ Known wanted → (known.Handshake ≡ wanted) × (known.Handshake ≡ interface)
@@ -71,10 +91,10 @@ is_handshake id target interface wanted f i w =
 no_sync : (m : Raw) {interface : KnownInterface} → known.Handshake ≡ interface → is_sync interface m.opcode ≡ false
 no_sync m e = ap (λ (k : KnownInterface). is_sync k m.opcode) (sym e)
 
-pub front_of : (rest : List ℕ) (handles : List Handle) (ring : Ring) (proxy : ObjectView) (asked : Asked) (new : BackendView) →
-    Takes (quiet handshake_table rest handles ring) (as_one_of known.Handshake proxy) (handshake.code_of asked) (handshake.values_of asked) new →
-    (proxy.id ≡ 0) × Front rest handles ring asked new
-front_of rest handles ring proxy asked new h =
+pub front_of : (rest : List ℕ) (handles : List Handle) (memory : Memory) (proxy : ObjectView) (asked : Asked) (new : BackendView) →
+    Takes (quiet_with handshake_table rest handles memory) (as_one_of known.Handshake proxy) (handshake.code_of asked) (handshake.values_of asked) new →
+    (proxy.id ≡ 0) × Front rest handles memory asked new
+front_of rest handles memory proxy asked new h =
     let is = only_first h.m.id (as_one_of known.Handshake proxy) h.target_is in
     let i = is_handshake h.m.id (as_one_of known.Handshake proxy) h.interface known.Handshake h.target_is h.interface_is refl in (
       sym (ap (λ (o : ObjectView). o.id) is.1),
@@ -90,158 +110,134 @@ front_of rest handles ring proxy asked new h =
     )
 
 -- no other object is there
-no_other : (rest : List ℕ) (handles : List Handle) (ring : Ring) (wanted : KnownInterface) (proxy : ObjectView) (opcode : ℕ) (values : List Value) (new : BackendView) →
-    Takes (quiet handshake_table rest handles ring) (as_one_of wanted proxy) opcode values new → known.Handshake ≡ wanted
-no_other rest handles ring wanted proxy opcode values new h = (is_handshake h.m.id (as_one_of wanted proxy) h.interface wanted h.target_is h.interface_is refl).0
+no_other : (rest : List ℕ) (handles : List Handle) (memory : Memory) (wanted : KnownInterface) (proxy : ObjectView) (opcode : ℕ) (values : List Value) (new : BackendView) →
+    Takes (quiet_with handshake_table rest handles memory) (as_one_of wanted proxy) opcode values new → known.Handshake ≡ wanted
+no_other rest handles memory wanted proxy opcode values new h = (is_handshake h.m.id (as_one_of wanted proxy) h.interface wanted h.target_is h.interface_is refl).0
 
 -- a request of the handshake
 abbrev pub IsShaking : Request → Type 0
 IsShaking (request.Handshake proxy m) = Unit {0}
 IsShaking other = ⊥
 
-pub only_shaking : (rest : List ℕ) (handles : List Handle) (ring : Ring) (r : Request) (new : BackendView) → Takes (quiet handshake_table rest handles ring) (target_of r) (code_of r) (values_of r) new → IsShaking r
-only_shaking rest handles ring (request.Handshake proxy m) new h = tt
-only_shaking rest handles ring (request.Connection proxy m) new h = let e : known.Handshake ≡ known.Connection = no_other rest handles ring known.Connection proxy _ _ new h in absurd cc
-only_shaking rest handles ring (request.Pingpong proxy m) new h = let e : known.Handshake ≡ known.Pingpong = no_other rest handles ring known.Pingpong proxy _ _ new h in absurd cc
-only_shaking rest handles ring (request.Seat proxy m) new h = let e : known.Handshake ≡ known.Seat = no_other rest handles ring known.Seat proxy _ _ new h in absurd cc
-only_shaking rest handles ring (request.Device proxy m) new h = let e : known.Handshake ≡ known.Device = no_other rest handles ring known.Device proxy _ _ new h in absurd cc
-only_shaking rest handles ring (request.Pointer proxy m) new h = let e : known.Handshake ≡ known.Pointer = no_other rest handles ring known.Pointer proxy _ _ new h in absurd cc
-only_shaking rest handles ring (request.PointerAbsolute proxy m) new h = let e : known.Handshake ≡ known.PointerAbsolute = no_other rest handles ring known.PointerAbsolute proxy _ _ new h in absurd cc
-only_shaking rest handles ring (request.Scroll proxy m) new h = let e : known.Handshake ≡ known.Scroll = no_other rest handles ring known.Scroll proxy _ _ new h in absurd cc
-only_shaking rest handles ring (request.Button proxy m) new h = let e : known.Handshake ≡ known.Button = no_other rest handles ring known.Button proxy _ _ new h in absurd cc
-only_shaking rest handles ring (request.Keyboard proxy m) new h = let e : known.Handshake ≡ known.Keyboard = no_other rest handles ring known.Keyboard proxy _ _ new h in absurd cc
-only_shaking rest handles ring (request.Touchscreen proxy m) new h = let e : known.Handshake ≡ known.Touchscreen = no_other rest handles ring known.Touchscreen proxy _ _ new h in absurd cc
-only_shaking rest handles ring (request.Text proxy m) new h = let e : known.Handshake ≡ known.Text = no_other rest handles ring known.Text proxy _ _ new h in absurd cc
+pub only_shaking : (rest : List ℕ) (handles : List Handle) (memory : Memory) (r : Request) (new : BackendView) → Takes (quiet_with handshake_table rest handles memory) (target_of r) (code_of r) (values_of r) new → IsShaking r
+only_shaking rest handles memory (request.Handshake proxy m) new h = tt
+only_shaking rest handles memory (request.Connection proxy m) new h = let e : known.Handshake ≡ known.Connection = no_other rest handles memory known.Connection proxy _ _ new h in absurd cc
+only_shaking rest handles memory (request.Pingpong proxy m) new h = let e : known.Handshake ≡ known.Pingpong = no_other rest handles memory known.Pingpong proxy _ _ new h in absurd cc
+only_shaking rest handles memory (request.Seat proxy m) new h = let e : known.Handshake ≡ known.Seat = no_other rest handles memory known.Seat proxy _ _ new h in absurd cc
+only_shaking rest handles memory (request.Device proxy m) new h = let e : known.Handshake ≡ known.Device = no_other rest handles memory known.Device proxy _ _ new h in absurd cc
+only_shaking rest handles memory (request.Pointer proxy m) new h = let e : known.Handshake ≡ known.Pointer = no_other rest handles memory known.Pointer proxy _ _ new h in absurd cc
+only_shaking rest handles memory (request.PointerAbsolute proxy m) new h = let e : known.Handshake ≡ known.PointerAbsolute = no_other rest handles memory known.PointerAbsolute proxy _ _ new h in absurd cc
+only_shaking rest handles memory (request.Scroll proxy m) new h = let e : known.Handshake ≡ known.Scroll = no_other rest handles memory known.Scroll proxy _ _ new h in absurd cc
+only_shaking rest handles memory (request.Button proxy m) new h = let e : known.Handshake ≡ known.Button = no_other rest handles memory known.Button proxy _ _ new h in absurd cc
+only_shaking rest handles memory (request.Keyboard proxy m) new h = let e : known.Handshake ≡ known.Keyboard = no_other rest handles memory known.Keyboard proxy _ _ new h in absurd cc
+only_shaking rest handles memory (request.Touchscreen proxy m) new h = let e : known.Handshake ≡ known.Touchscreen = no_other rest handles memory known.Touchscreen proxy _ _ new h in absurd cc
+only_shaking rest handles memory (request.Text proxy m) new h = let e : known.Handshake ≡ known.Text = no_other rest handles memory known.Text proxy _ _ new h in absurd cc
 
--- ---- whether it is taken
+-- ---- what it asks
 
-abbrev tests_of : Raw → ℕ → Bool → Option Announced
-tests_of m n b = cond (b && (n == 4)) (announced_by (request_args known.Handshake m)) None
+-- what a request of the handshake says
+abbrev pub shake_of : Asked → Shake
+shake_of (asked.HandshakeVersion version) = Greets version
+shake_of asked.Finish = Finishes
+shake_of (asked.ContextType kind) = TellsContext (context_type_number kind)
+shake_of (asked.Name name) = TellsName name
+shake_of (asked.InterfaceVersion name version) = TellsInterface name version
+
+by_row : (a : Asked) → rows.Asks known.Handshake (handshake.code_of a) (handshake.values_of a) (Shakes (shake_of a))
+by_row (asked.HandshakeVersion version) = rows.Greeting version
+by_row asked.Finish = rows.Finish
+by_row (asked.ContextType kind) = rows.ContextType (context_type_number kind)
+by_row (asked.Name name) = rows.Name name
+by_row (asked.InterfaceVersion name version) = rows.InterfaceVersion name version
+
+module _ (past : List Raw) (off : connected past ≡ false) where
+  handshake_at : (m : Raw) → m.id ≡ 0 → object past m.id ≡ Some the_handshake
+  handshake_at m i = ap (object past) i ∙ object_first past 0 off
+
+  module _ {rest : List ℕ} {handles : List Handle} {memory : Memory} {new : BackendView} (a : Asked) (f : Front rest handles memory a new) where
+    pub means : meaning known.Handshake f.m ≡ Some (Shakes (shake_of a))
+    means = asks_means f.m known.Handshake (handshake.code_of a) (handshake.values_of a) (Shakes (shake_of a)) (by_row a) f.opcode_is f.args
+
+    -- what becomes of it
+    pub judged : (setup : Setup) (o : Option Refusal) → shake_refusal past (shake_of a) ≡ o → judge setup past f.m ≡ verdict o false
+    judged setup o e = by_refusal setup past f.m o off (refusal_asked setup past f.m the_handshake (Shakes (shake_of a)) (handshake_at f.m f.id_is) means ∙ e)
+
+    at_zero : eqb f.m.id 0 ≡ true
+    at_zero = ap (λ (n : ℕ). eqb n 0) f.id_is
+
+    -- whether a name, or a context type, came by then
+    pub name_came : came (codes "name") (f.m ∷ past) ≡ (tells_name (Some (Shakes (shake_of a))) || came (codes "name") past)
+    name_came = came_more (codes "name") past f.m ∙ rw (at_zero, name_asked f.m, means) refl
+
+    pub context_came : came (codes "context_type") (f.m ∷ past) ≡ (tells_context (Some (Shakes (shake_of a))) || came (codes "context_type") past)
+    context_came = came_more (codes "context_type") past f.m ∙ rw (at_zero, context_asked f.m, means) refl
+
+-- ---- the finish, and announcements
+
+finish_by : (m : Raw) (n : ℕ) → m.id ≡ 0 → m.opcode ≡ n → is_finish m ≡ (n == 1)
+unfolding is_finish
+finish_by m n i o = ap (λ (x : ℕ). (x == 0) && (m.opcode == 1)) i ∙ ap (λ (x : ℕ). x == 1) o
+
+pub finishes : {rest : List ℕ} {handles : List Handle} {memory : Memory} {new : BackendView} (a : Asked) (f : Front rest handles memory a new) → is_finish f.m ≡ (handshake.code_of a == 1)
+finishes a f = finish_by f.m (handshake.code_of a) f.id_is f.opcode_is
+
+pub announced_this : (m : Raw) (name : List ℕ) (version : ℕ) → m.id ≡ 0 → m.opcode ≡ 4 → request_args known.Handshake m ≡ Some (Letters name ∷ Word version ∷ []) → announced m ≡ Some (record { name = name; version = version })
+unfolding announced
+announced_this m name version i e a = rw (a, i, e) refl
 
 none_of : (b : Bool) (x : Option Announced) → cond (b && false) x None ≡ None
 none_of true x = refl
 none_of false x = refl
 
-and_false : (b : Bool) → (b && false) ≡ false
-and_false true = refl
-and_false false = refl
-
-announces_nothing : (m : Raw) → m.opcode ≡ 1 → announced m ≡ None
+pub announced_none : (m : Raw) (n : ℕ) → m.opcode ≡ n → (n == 4) ≡ false → announced m ≡ None
 unfolding announced
-announces_nothing m e = ap (λ (n : ℕ). tests_of m n (m.id == 0)) e ∙ none_of (m.id == 0) (announced_by (request_args known.Handshake m))
+announced_none m n e plain =
+    ap (λ (k : ℕ). cond ((m.id == 0) && (k == 4)) (announced_by (request_args known.Handshake m)) None) e
+    ∙ ap (λ (b : Bool). cond ((m.id == 0) && b) (announced_by (request_args known.Handshake m)) None) plain
+    ∙ none_of (m.id == 0) (announced_by (request_args known.Handshake m))
 
-announces_this : (m : Raw) (name : List ℕ) (version : ℕ) → m.id ≡ 0 → m.opcode ≡ 4 → request_args known.Handshake m ≡ Some (Letters name ∷ Word version ∷ []) → announced m ≡ Some (record { name = name; version = version })
-unfolding announced
-announces_this m name version i e a = rw (a, i, e) refl
+-- ---- messages that aren't requests of the handshake
 
-finish_of : (m : Raw) → m.id ≡ 0 → m.opcode ≡ 1 → is_finish m ≡ true
-unfolding is_finish
-finish_of m i e = rw (i, e) refl
+-- the first of these is the first of all tests
+first_of_all : (a b c : Option Refusal) (rest : List (Option Refusal)) (r : Refusal) → first_there (a ∷ b ∷ c ∷ []) ≡ Some r → first_there (a ∷ b ∷ None ∷ c ∷ rest) ≡ Some r
+first_of_all (Some x) b c rest r e = e
+first_of_all None (Some x) c rest r e = e
+first_of_all None None (Some x) rest r e = e
+first_of_all None None None rest r e = absurd cc
 
-no_finish : (m : Raw) → m.opcode ≡ 4 → is_finish m ≡ false
-unfolding is_finish
-no_finish m e = ap (λ (n : ℕ). (m.id == 0) && (n == 1)) e ∙ and_false (m.id == 0)
+-- no id is announced by a plain row
+no_id : (o : Option Row) (args : Arguments) → IsPlain o → announced_id o args ≡ None
+no_id None args p = refl
+no_id (Some r) (Ok x) p = rw p.0 refl
+no_id (Some r) (Err e) p = refl
 
--- a message to another object neither announces nor finishes
-announces_elsewhere : (m : Raw) → (m.id == 0) ≡ false → announced m ≡ None
-unfolding announced
-announces_elsewhere m e = ap (tests_of m m.opcode) e
+-- a message to the handshake that can't be read is refused for its bytes
+bytes_refusal : (setup : Setup) (past : List Raw) (m : Raw) (r : Refusal) → connected past ≡ false → m.id ≡ 0 → bytes_refused known.Handshake m ≡ Some r → refusal setup past m ≡ Some r
+bytes_refusal setup past m r off i e =
+    let row = row_at m.opcode (table false known.Handshake) in
+    let args = arguments row m in
+    let rest = bad_handshake past m known.Handshake ∷ bad_sync m known.Handshake ∷ bad_capabilities setup.capabilities m known.Handshake ∷ bad_touch past 1 (input past m) ∷ bad_text m known.Handshake ∷ [] in
+    refused_known setup past m the_handshake (handshake_at past off m i)
+    ∙ ap (λ (o : Option ℕ). first_there (no_row known.Handshake m row ∷ stuck args ∷ bad_id past o ∷ left_over m args ∷ rest)) (no_id row args (plain_rows known.Handshake m.opcode refl))
+    ∙ first_of_all (no_row known.Handshake m row) (stuck args) (left_over m args) rest r e
 
-no_finish_elsewhere : (m : Raw) → (m.id == 0) ≡ false → is_finish m ≡ false
-unfolding is_finish
-no_finish_elsewhere m e = ap (λ (b : Bool). b && (m.opcode == 1)) e
+pub unread_refused : (setup : Setup) (past : List Raw) (rest : List ℕ) (handles : List Handle) (memory : Memory) (fault : Fault) → connected past ≡ false → Unreadable (quiet_with handshake_table rest handles memory) fault → RefusesFront setup past rest (Some (Parse fault))
+unread_refused setup past rest handles memory fault off u =
+    let here = only_first u.m.id u.target u.target_is in
+    let same : Known known.Handshake ≡ Known u.interface = ap (λ (o : ObjectView). o.interface) here.1 ∙ u.interface_is in
+    let one : known.Handshake ≡ u.interface = cc in
+    let why : bytes_refused known.Handshake u.m ≡ Some (Parse fault) = ap (λ (k : KnownInterface). bytes_refused k u.m) one ∙ u.why (no_sync u.m one) in
+    (u.m, u.rest, u.front_is, by_refusal setup past u.m (Some (Parse fault)) off (bytes_refusal setup past u.m (Parse fault) off here.0 why))
 
--- nor does a message that can't be read
-no_args : (b : Bool) → cond b (announced_by None) None ≡ None
-no_args true = refl
-no_args false = refl
+-- a message to another object is refused
+no_first : (id : ℕ) (b : Bool) → eqb id 0 ≡ b → found handshake_table id ≡ None → eqb id 0 ≡ false
+no_first id true e n = let there : found handshake_table id ≡ Some first = ap (found handshake_table) (eqb-true id 0 e) ∙ found_first false first_server_id in let g : None ≡ Some first = sym n ∙ there in absurd cc
+no_first id false e n = e
 
-announces_unread : (m : Raw) → request_args known.Handshake m ≡ None → announced m ≡ None
-unfolding announced
-announces_unread m e = ap (λ (values : Option (List Value)). cond ((m.id == 0) && (m.opcode == 4)) (announced_by values) None) e ∙ no_args ((m.id == 0) && (m.opcode == 4))
+nothing_at : (past : List Raw) (m : Raw) → connected past ≡ false → found handshake_table m.id ≡ None → object past m.id ≡ None
+nothing_at past m off n = object_first past m.id off ∙ rw (no_first m.id (eqb m.id 0) refl n) refl
 
--- ---- whether it is taken
-
-all_alike : (past : List Raw) (versions : VersionMap) → AreSettled versions past → all_settled past ≡ has_required versions
-unfolding all_settled
-all_alike past versions h = rw (h known.Connection, h known.Callback, h known.Pingpong) refl
-
-abbrev built_by : Option Announced → Bool → Bool → Bool → Bool
-built_by o finish has_args all = names_required o || (finish && (has_args && all))
-
-built_is : (past : List Raw) (m : Raw) → is_built_before past m ≡ built_by (announced m) (is_finish m) (is_some (request_args known.Handshake m)) (all_settled past)
-unfolding is_built_before
-built_is past m = refl
-
-built_finish : (past : List Raw) (m : Raw) (versions : VersionMap) → AreSettled versions past → m.id ≡ 0 → m.opcode ≡ 1 → request_args known.Handshake m ≡ Some [] → is_built_before past m ≡ has_required versions
-built_finish past m versions h i e a =
-    built_is past m
-    ∙ ap (λ (o : Option Announced). built_by o (is_finish m) (is_some (request_args known.Handshake m)) (all_settled past)) (announces_nothing m e)
-    ∙ ap (λ (b : Bool). built_by None b (is_some (request_args known.Handshake m)) (all_settled past)) (finish_of m i e)
-    ∙ ap (λ (values : Option (List Value)). built_by None true (is_some values) (all_settled past)) a
-    ∙ all_alike past versions h
-
-built_announcement : (past : List Raw) (m : Raw) (name : List ℕ) (version : ℕ) → m.id ≡ 0 → m.opcode ≡ 4 → request_args known.Handshake m ≡ Some (Letters name ∷ Word version ∷ []) → is_built_before past m ≡ is_required name
-built_announcement past m name version i e a =
-    built_is past m
-    ∙ ap (λ (o : Option Announced). built_by o (is_finish m) (is_some (request_args known.Handshake m)) (all_settled past)) (announces_this m name version i e a)
-    ∙ ap (λ (b : Bool). is_required name || (b && (is_some (request_args known.Handshake m) && all_settled past))) (no_finish m e)
-    ∙ or-false (is_required name)
-
-unbuilt_elsewhere : (past : List Raw) (m : Raw) → (m.id == 0) ≡ false → is_built_before past m ≡ false
-unbuilt_elsewhere past m e =
-    built_is past m
-    ∙ ap (λ (o : Option Announced). built_by o (is_finish m) (is_some (request_args known.Handshake m)) (all_settled past)) (announces_elsewhere m e)
-    ∙ ap (λ (b : Bool). built_by None b (is_some (request_args known.Handshake m)) (all_settled past)) (no_finish_elsewhere m e)
-
-unbuilt_unread : (past : List Raw) (m : Raw) → request_args known.Handshake m ≡ None → is_built_before past m ≡ false
-unbuilt_unread past m e =
-    built_is past m
-    ∙ ap (λ (o : Option Announced). built_by o (is_finish m) (is_some (request_args known.Handshake m)) (all_settled past)) (announces_unread m e)
-    ∙ ap (λ (values : Option (List Value)). built_by None (is_finish m) (is_some values) (all_settled past)) e
-    ∙ and_false (is_finish m)
-
-unbuilt_by : (past : List Raw) (m : Raw) → announced m ≡ None → is_finish m ≡ false → is_built_before past m ≡ false
-unbuilt_by past m a f =
-    built_is past m
-    ∙ ap (λ (o : Option Announced). built_by o (is_finish m) (is_some (request_args known.Handshake m)) (all_settled past)) a
-    ∙ ap (λ (b : Bool). built_by None b (is_some (request_args known.Handshake m)) (all_settled past)) f
-
--- nor for the messages of the handshake of other opcodes
-announces_none : (m : Raw) (n : ℕ) → m.opcode ≡ n → (n == 4) ≡ false → announced m ≡ None
-unfolding announced
-announces_none m n e plain = ap (λ (k : ℕ). tests_of m k (m.id == 0)) e ∙ ap (λ (b : Bool). cond ((m.id == 0) && b) (announced_by (request_args known.Handshake m)) None) plain ∙ none_of (m.id == 0) (announced_by (request_args known.Handshake m))
-
-finishes_not : (m : Raw) (n : ℕ) → m.opcode ≡ n → (n == 1) ≡ false → is_finish m ≡ false
-unfolding is_finish
-finishes_not m n e plain = ap (λ (k : ℕ). (m.id == 0) && (k == 1)) e ∙ ap (λ (b : Bool). (m.id == 0) && b) plain ∙ and_false (m.id == 0)
-
-other_unbuilt : (past : List Raw) (m : Raw) (n : ℕ) → m.opcode ≡ n → (n == 4) ≡ false → (n == 1) ≡ false → is_built_before past m ≡ false
-other_unbuilt past m n e four one = unbuilt_by past m (announces_none m n e four) (finishes_not m n e one)
-
--- a server has been built for just those that are taken
-pub built_front : (asked : Asked) (past : List Raw) (rest : List ℕ) (handles : List Handle) (ring : Ring) (versions : VersionMap) (new : BackendView) → AreSettled versions past → (f : Front rest handles ring asked new) → is_built_before past f.m ≡ is_taken asked versions
-built_front asked.Finish past rest handles ring versions new h f = built_finish past f.m versions h f.id_is f.opcode_is f.args
-built_front (asked.InterfaceVersion name version) past rest handles ring versions new h f = built_announcement past f.m name version f.id_is f.opcode_is f.args
-built_front (asked.HandshakeVersion version) past rest handles ring versions new h f = other_unbuilt past f.m 0 f.opcode_is refl refl
-built_front (asked.ContextType kind) past rest handles ring versions new h f = other_unbuilt past f.m 2 f.opcode_is refl refl
-built_front (asked.Name name) past rest handles ring versions new h f = other_unbuilt past f.m 3 f.opcode_is refl refl
-
-pub is_finish_front : (rest : List ℕ) (handles : List Handle) (ring : Ring) (new : BackendView) (f : Front rest handles ring asked.Finish new) → is_finish f.m ≡ true
-is_finish_front rest handles ring new f = finish_of f.m f.id_is f.opcode_is
-
-pub no_finish_front : (name : List ℕ) (version : ℕ) (rest : List ℕ) (handles : List Handle) (ring : Ring) (new : BackendView) (f : Front rest handles ring (asked.InterfaceVersion name version) new) → is_finish f.m ≡ false
-no_finish_front name version rest handles ring new f = no_finish f.m f.opcode_is
-
-pub announced_front : (name : List ℕ) (version : ℕ) (rest : List ℕ) (handles : List Handle) (ring : Ring) (new : BackendView) (f : Front rest handles ring (asked.InterfaceVersion name version) new) → announced f.m ≡ Some (record { name = name; version = version })
-announced_front name version rest handles ring new f = announces_this f.m name version f.id_is f.opcode_is f.args
-
--- and not for a message that can't be read
-unbuilt_at : (past : List Raw) (rest : List ℕ) (handles : List Handle) (ring : Ring) (u : Unreadable (quiet handshake_table rest handles ring)) (b : Bool) → (u.m.id == 0) ≡ b → is_built_before past u.m ≡ false
-unbuilt_at past rest handles ring u true e =
-    let there : found handshake_table u.m.id ≡ Some first = ap (found handshake_table) (eqb-true u.m.id 0 e) ∙ found_first false first_server_id in
-    elim (u.why first known.Handshake there refl) [ inl none ↦ unbuilt_unread past u.m none | inr sync ↦ absurd cc ]
-unbuilt_at past rest handles ring u false e = unbuilt_elsewhere past u.m e
-
-pub unbuilt : (past : List Raw) (rest : List ℕ) (handles : List Handle) (ring : Ring) (u : Unreadable (quiet handshake_table rest handles ring)) → is_built_before past u.m ≡ false
-unbuilt past rest handles ring u = unbuilt_at past rest handles ring u (u.m.id == 0) refl
+pub gone_refused : (setup : Setup) (past : List Raw) (rest : List ℕ) (handles : List Handle) (memory : Memory) (id : ℕ) (new : BackendView) → connected past ≡ false → IsGone (quiet_with handshake_table rest handles memory) id new → RefusesFront setup past rest (Some (Handshake (handshake_error.InvalidObject id)))
+gone_refused setup past rest handles memory id new off g =
+    let why = refused_early setup past g.m off (nothing_at past g.m off g.none) ∙ ap (λ (n : ℕ). Some (Handshake (handshake_error.InvalidObject n))) (sym g.id_is) in
+    (g.m, g.rest, g.front_is, by_refusal setup past g.m (Some (Handshake (handshake_error.InvalidObject id))) off why)

@@ -1,223 +1,289 @@
 -- What becomes of the message at the front during the handshake.
-use Rattle.std.proofs.Common.{◌≡◌, ◌≤◌, ℕ, Bool, true, false, cond, ◌||◌, List, [], ◌∷◌, ◌++◌, Option, Some, None, Result, Ok, Err, refl, sym, ap, ◌∙◌, subst}
+use Rattle.std.proofs.Common.{◌≡◌, ◌==◌, ◌≤◌, ℕ, Bool, true, false, cond, ◌||◌, List, [], ◌∷◌, ◌++◌, Option, Some, None, Result, Ok, Err, refl, sym, ap, ◌∙◌, subst}
 use Rattle.std.proofs.Common.{arith}
-use Rattle.std.specs.Option.{option_map}
-use Rattle.std.specs.List.{filter_map}
+use Rattle.std.specs.Prelude.{is_some, codes}
 use Rattle.ei_spec.specs.declared.handle.Handle.{Handle}
-use Rattle.ei_spec.specs.declared.interface.KnownInterface.{KnownInterface}
 use Rattle.ei_spec.specs.declared.interface.KnownInterface.TheVariants as known
-use Rattle.ei_spec.specs.Interface.{Known, the_twelve}
+use Rattle.ei_spec.specs.Interface.{Known}
 use Rattle.ei_spec.specs.Message.{Raw, Short, Whole, front}
+use Rattle.ei_spec.specs.Reading.{EndOfMessage, Utf8, InvalidId, NoFd, InvalidOpcode, InvalidVariant, InvalidInterface, MessageLength, InvalidNull}
 use Rattle.ei_spec.specs.Stream.{Accepted}
+use Rattle.ei_types.specs.Errors.{error_of_parse}
 use Rattle.ei_types.specs.declared.error.Error.{Error}
 use Rattle.ei_types.specs.declared.error.Error.TheVariants as error
 use Rattle.ei_types.specs.declared.error.HandshakeError.TheVariants as handshake_error
+use Rattle.ei_wire.specs.Gives.{fault_of}
+use Rattle.ei_wire.specs.declared.error.ParseError.{ParseError}
 use Rattle.ei_wire.specs.declared.error.ParseError.TheVariants as parse_error
 use Rattle.ei_backend.specs.Table.{own, own_end}
-use Rattle.ei_backend.specs.Backend.{BackendView}
-use Rattle.ei_backend.specs.Endpoint.{Endpoint, endpoint_of}
+use Rattle.ei_backend.specs.Endpoint.{endpoint_of}
+use Rattle.ei_backend.specs.Backend.{BackendView, Answers, next}
+use Rattle.ei_backend.specs.declared.message.PendingRequestResult.{PendingRequestResult}
+use Rattle.ei_backend.specs.declared.message.PendingRequestResult.TheVariants as pending
 use Rattle.ei_server.specs.declared.request.Request.{Request}
 use Rattle.ei_server.specs.declared.request.Request.TheVariants as request
+use Rattle.ei_server.specs.declared.handshake.Request.{Request as Asked}
 use Rattle.ei_server.specs.declared.handshake.Request.TheVariants as asked
+use Rattle.ei_server.specs.Handshake as handshake
+use Rattle.ei_server.specs.Request.{target_of, code_of, values_of}
 use Rattle.ei_session.specs.Setup.{Setup, connection_id}
-use Rattle.ei_session.specs.Handshake.{connected, is_finish, settled}
-use Rattle.ei_session.specs.Built.{judge}
-use Rattle.ei_session.specs.Replies.{connection_event, settled_event, settled_events}
-use Rattle.ei_session.proofs.OneMore.{accepts, connected_more, refuses}
+use Rattle.ei_session.specs.Handshake.{Announced, announced, connected, is_finish, settled, all_settled}
+use Rattle.ei_session.specs.SettledMap.{settled_map}
+use Rattle.ei_session.specs.Refusals.{Refusal, Handshake, came}
+use Rattle.ei_session.specs.ByMeaning.{shake_refusal}
+use Rattle.ei_session.specs.Replies.{connection_event, settled_events}
+use Rattle.ei_session.specs.Guard.{judge}
+use Rattle.ei_session.proofs.OneMore.{connected_more}
+use Rattle.ei_session.proofs.SettledMapLaws.{other_map}
+use Rattle.ei_handshake.specs.Handshaker.{Handles, HandshakerView, IsSecond, RefusesFinish, RefusesTold, Completes, told, is_repeated, with_version, has_required, hands_over, kept_events, sends}
 use Rattle.ei_handshake.specs.Versions.{VersionMap}
-use Rattle.ei_handshake.specs.Handshaker.{Handles, HandshakerView, RefusesTold, RefusesFinish, has_required, hands_over, kept_events, sends, settled_in}
+use Rattle.ei_handshake.specs.Pending.{ResultOf}
 use Rattle.ei_handshake.specs.declared.server.EisHandshakeResp.{EisHandshakeResp}
 use Rattle.ei_handshake.proofs.Sending.{sends-append}
+use Rattle.ei_handshake.proofs.SettledLaws.{announced_kept, required_kept, events_kept}
 use Rattle.ei_serve.specs.declared.shaking.Shaken.{Shaken}
-use Rattle.ei_serve.specs.Asking.{AllKnown, Asks, RefusesToAsk}
-use Rattle.ei_serve.specs.Standing.{AreSettled, Ring, ShakesHands, connection_table, handshake_table, quiet}
-use Rattle.ei_serve.specs.Steps.{HandsOver, Refuses, Shakes}
-use Rattle.ei_serve.specs.Shaking.{is_taken, taken_of}
-use Rattle.ei_serve.proofs.ShakingFront.{Front, all_known, announced_front, built_front, front_of, is_finish_front, only_shaking, no_finish_front, unbuilt}
-use Rattle.ei_serve.proofs.ShakingVersions.{settled_then}
+use Rattle.ei_serve.specs.Asking.{AllKnown, SaysOfFront, SaysWhy}
+use Rattle.ei_serve.specs.Standing.{ShakesHands, connection_table, handshake_table, most_capacity, quiet}
+use Rattle.ei_serve.specs.Steps.{HandsOver, Refuses, RefusesFront, Shakes, with_unsent}
+use Rattle.ei_serve.proofs.Asked.{says_of_front}
+use Rattle.ei_serve.proofs.Endpoints.{Memory, memory_of, quiet_with, backend_is}
+use Rattle.ei_serve.proofs.ShakingFront.{Front, all_known, announced_none, announced_this, context_came, finishes, front_of, gone_refused, judged, name_came, only_shaking, shake_of}
+use Rattle.ei_serve.proofs.ShakingFront.{unread_refused}
 
 -- ---- asking
 
 -- what asking answers where it shakes hands
-pub asks_here : (setup : Setup) (past : List Raw) (rest : List ℕ) (handles : List Handle) (b new : BackendView) (h : HandshakerView) (answer : Result (Option Request) Error) → (s : ShakesHands setup past rest handles b h) → (AllKnown b.table → Asks b answer new) → Asks (quiet handshake_table rest handles s.ring) answer new
-asks_here setup past rest handles b new h answer s asks =
-    let here : AllKnown (quiet handshake_table rest handles s.ring).table → Asks (quiet handshake_table rest handles s.ring) answer new = subst (λ (x : BackendView). AllKnown x.table → Asks x answer new) s.endpoint asks in
-    here all_known
+pub said_here : (setup : Setup) (past : List Raw) (rest : List ℕ) (handles : List Handle) (b new : BackendView) (h : HandshakerView) (answer : Option (PendingRequestResult Request)) → ShakesHands setup past rest handles b h → Answers target_of code_of values_of answer new (next false b) → SaysOfFront (quiet_with handshake_table rest handles (memory_of b)) answer new
+said_here setup past rest handles b new h answer s a =
+    says_of_front (quiet_with handshake_table rest handles (memory_of b)) new answer all_known
+    (subst (λ (x : BackendView). Answers target_of code_of values_of answer new (next false x)) (backend_is b (quiet handshake_table rest handles) s.endpoint) a)
 
-pub answers_here : (setup : Setup) (past : List Raw) (rest : List ℕ) (handles : List Handle) (b new : BackendView) (h : HandshakerView) (answer r : Option Request) → (s : ShakesHands setup past rest handles b h) → answer ≡ r → (AllKnown b.table → Asks b (Ok answer) new) → Asks (quiet handshake_table rest handles s.ring) (Ok r) new
-answers_here setup past rest handles b new h answer r s e asks =
-    subst (λ (x : Option Request). Asks (quiet handshake_table rest handles s.ring) (Ok x) new) e (asks_here setup past rest handles b new h (Ok answer) s asks)
+pub waits : (setup : Setup) (past : List Raw) (rest : List ℕ) (handles : List Handle) (b new : BackendView) (h : HandshakerView) (answer : Option (PendingRequestResult Request)) → ShakesHands setup past rest handles b h → answer ≡ None → Answers target_of code_of values_of answer new (next false b) → (front rest ≡ Short) × ShakesHands setup past rest handles new h
+waits setup past rest handles b new h answer s none a =
+    let w : SaysOfFront (quiet_with handshake_table rest handles (memory_of b)) None new = subst (λ (x : Option (PendingRequestResult Request)). SaysOfFront (quiet_with handshake_table rest handles (memory_of b)) x new) none (said_here setup past rest handles b new h answer s a) in
+    let same : new ≡ b = w.1 ∙ sym (backend_is b (quiet handshake_table rest handles) s.endpoint) in
+    (w.0, subst (λ (x : BackendView). ShakesHands setup past rest handles x h) (sym same) s)
 
-pub waits : (setup : Setup) (past : List Raw) (rest : List ℕ) (handles : List Handle) (b new : BackendView) (h : HandshakerView) → (s : ShakesHands setup past rest handles b h) → Asks (quiet handshake_table rest handles s.ring) (Ok None) new → (front rest ≡ Short) × ShakesHands setup past rest handles new h
-waits setup past rest handles b new h s a = (a.0, record { unfinished = s.unfinished; ring = s.ring; endpoint = a.1; serial = s.serial; versions = s.versions })
+-- ---- why there is no request
 
-pub refuses_asked : (e : Error) (past : List Raw) (rest : List ℕ) (handles : List Handle) (ring : Ring) → connected past ≡ false → RefusesToAsk (quiet handshake_table rest handles ring) e → Refuses past rest e
-refuses_asked (error.Parse (parse_error.HeaderLength n)) past rest handles ring u h = h
-refuses_asked error.NotBuilt past rest handles ring u h = (h.m, h.rest, h.front_is, refuses past h.m u (unbuilt past rest handles ring h))
-refuses_asked error.NoMemory past rest handles ring u h = h
-refuses_asked e past rest handles ring u h = absurd h
+parse_refused : (setup : Setup) (past : List Raw) (rest : List ℕ) (handles : List Handle) (memory : Memory) (e : ParseError) → connected past ≡ false → SaysWhy (quiet_with handshake_table rest handles memory) (fault_of e) → Refuses setup past rest (error_of_parse e)
+parse_refused setup past rest handles memory parse_error.NoMemory off u = tt
+parse_refused setup past rest handles memory (parse_error.HeaderLength n) off u = u
+parse_refused setup past rest handles memory parse_error.EndOfMessage off u = unread_refused setup past rest handles memory EndOfMessage off u
+parse_refused setup past rest handles memory (parse_error.Utf8 n) off u = unread_refused setup past rest handles memory (Utf8 n) off u
+parse_refused setup past rest handles memory (parse_error.InvalidId n) off u = unread_refused setup past rest handles memory (InvalidId n) off u
+parse_refused setup past rest handles memory parse_error.NoFd off u = unread_refused setup past rest handles memory NoFd off u
+parse_refused setup past rest handles memory (parse_error.InvalidOpcode name n) off u = unread_refused setup past rest handles memory (InvalidOpcode name.now n) off u
+parse_refused setup past rest handles memory (parse_error.InvalidVariant name n) off u = unread_refused setup past rest handles memory (InvalidVariant name.now n) off u
+parse_refused setup past rest handles memory (parse_error.InvalidInterface name) off u = unread_refused setup past rest handles memory (InvalidInterface name) off u
+parse_refused setup past rest handles memory (parse_error.MessageLength n k) off u = unread_refused setup past rest handles memory (MessageLength n k) off u
+parse_refused setup past rest handles memory parse_error.InvalidNull off u = unread_refused setup past rest handles memory InvalidNull off u
 
--- ---- what is taken
+abbrev refused_as : Error → Result Request Error
+refused_as e = Err e
 
-abbrev if_taken : Bool → Request → Result Request Error
-if_taken b r = cond b (Ok r) (Err error.NotBuilt)
+err_is : (a b : Error) → refused_as a ≡ refused_as b → a ≡ b
+err_is a b e = cc
 
-not_taken : (b : Bool) (r : Request) (e : Error) → if_taken b r ≡ Err e → (b ≡ false) × (error.NotBuilt ≡ e)
-not_taken true r e h = absurd cc
-not_taken false r e h = (refl, cc)
+no_ok : (e : Error) (x : Request) → refused_as e ≡ Ok x → ⊥
+no_ok e x h = absurd cc
 
-is_ok : (b : Bool) (r s : Request) → if_taken b r ≡ Ok s → (b ≡ true) × (r ≡ s)
-is_ok true r s h = (refl, cc)
-is_ok false r s h = absurd cc
+refused_by : (setup : Setup) (past : List Raw) (rest : List ℕ) (handles : List Handle) (memory : Memory) (p : PendingRequestResult Request) (e : Error) (new : BackendView) → connected past ≡ false → ResultOf p (Err e) → SaysOfFront (quiet_with handshake_table rest handles memory) (Some p) new → Refuses setup past rest e
+refused_by setup past rest handles memory (pending.Request r) e new off is a = absurd (no_ok e r is)
+refused_by setup past rest handles memory (pending.ParseError f) e new off is a = subst (Refuses setup past rest) (sym (err_is e (error_of_parse f) is)) (parse_refused setup past rest handles memory f off a)
+refused_by setup past rest handles memory (pending.InvalidObject id) e new off is a =
+    subst (Refuses setup past rest) (sym (err_is e (error.Handshake (handshake_error.InvalidObject id)) is)) (gone_refused setup past rest handles memory id new off a)
 
--- one that isn't taken is refused
-pub refuses_taken : (r : Request) (e : Error) (past : List Raw) (rest : List ℕ) (handles : List Handle) (ring : Ring) (versions : VersionMap) (b : BackendView) → connected past ≡ false → AreSettled versions past → taken_of r versions ≡ Err e →
-    Asks (quiet handshake_table rest handles ring) (Ok (Some r)) b → Refuses past rest e
-refuses_taken (request.Handshake proxy m) e past rest handles ring versions b u h t a =
-    let f = (front_of rest handles ring proxy m b a).1 in
-    let n = not_taken (is_taken m versions) (request.Handshake proxy m) e t in
-    subst (Refuses past rest) n.1 (f.m, f.after, f.front_is, refuses past f.m u (built_front m past rest handles ring versions b h f ∙ n.0))
-refuses_taken other e past rest handles ring versions b u h t a = absurd (only_shaking rest handles ring other b a)
+pub refuses_asked : (setup : Setup) (past : List Raw) (rest : List ℕ) (handles : List Handle) (b new : BackendView) (h : HandshakerView) (answer : Option (PendingRequestResult Request)) (p : PendingRequestResult Request) (e : Error) → ShakesHands setup past rest handles b h → answer ≡ Some p → Answers target_of code_of values_of answer new (next false b) → ResultOf p (Err e) → Refuses setup past rest e
+refuses_asked setup past rest handles b new h answer p e s some a is =
+    refused_by setup past rest handles (memory_of b) p e new s.unfinished is
+    (subst (λ (x : Option (PendingRequestResult Request)). SaysOfFront (quiet_with handshake_table rest handles (memory_of b)) x new) some (said_here setup past rest handles b new h answer s a))
 
--- one that is taken was a request of the handshake at the front
-abbrev pub IsFront : List ℕ → List Handle → Ring → VersionMap → BackendView → Request → Type 0
-IsFront rest handles ring versions b (request.Handshake proxy m) = (proxy.id ≡ 0) × Front rest handles ring m b × (is_taken m versions ≡ true)
-IsFront rest handles ring versions b other = ⊥
+-- ---- the request
 
-pub is_front : (r s : Request) (rest : List ℕ) (handles : List Handle) (ring : Ring) (versions : VersionMap) (b : BackendView) → taken_of r versions ≡ Ok s → Asks (quiet handshake_table rest handles ring) (Ok (Some r)) b → IsFront rest handles ring versions b s
-is_front (request.Handshake proxy m) s rest handles ring versions b t a =
-    let f = front_of rest handles ring proxy m b a in
-    let n = is_ok (is_taken m versions) (request.Handshake proxy m) s t in
-    subst (IsFront rest handles ring versions b) n.1 (f.0, f.1, n.0)
-is_front other s rest handles ring versions b t a = absurd (only_shaking rest handles ring other b a)
+-- it was a request of the handshake at the front
+abbrev pub IsFront : List ℕ → List Handle → Memory → BackendView → Request → Type 0
+IsFront rest handles memory b (request.Handshake proxy m) = (proxy.id ≡ 0) × Front rest handles memory m b
+IsFront rest handles memory b other = ⊥
 
--- ---- an announcement
+is_front : (r : Request) (rest : List ℕ) (handles : List Handle) (memory : Memory) (new : BackendView) → SaysOfFront (quiet_with handshake_table rest handles memory) (Some (pending.Request r)) new → IsFront rest handles memory new r
+is_front (request.Handshake proxy m) rest handles memory new a = front_of rest handles memory proxy m new a
+is_front other rest handles memory new a = absurd (only_shaking rest handles memory other new a)
 
-abbrev pub Handled : Setup → List Raw → List ℕ → List Handle → BackendView → HandshakerView → Type 0
-Handled setup past rest handles b h = (m : Raw) × (after : List ℕ) × (front rest ≡ Whole m after) × (judge past m ≡ Accepted) × (is_finish m ≡ false) × ShakesHands setup (m ∷ past) after handles b h
+given_by : (p : PendingRequestResult Request) (r : Request) (rest : List ℕ) (handles : List Handle) (memory : Memory) (new : BackendView) → ResultOf p (Ok r) → SaysOfFront (quiet_with handshake_table rest handles memory) (Some p) new → IsFront rest handles memory new r
+given_by (pending.Request q) r rest handles memory new is a = let same : q ≡ r = cc in subst (IsFront rest handles memory new) same (is_front q rest handles memory new a)
+given_by (pending.ParseError f) r rest handles memory new is a = absurd (no_ok (error_of_parse f) r (sym is))
+given_by (pending.InvalidObject id) r rest handles memory new is a = absurd (no_ok (error.Handshake (handshake_error.InvalidObject id)) r (sym is))
 
-handled : (s : Request) (setup : Setup) (past : List Raw) (rest : List ℕ) (handles : List Handle) (first b sent : BackendView) (h new : HandshakerView) → (shakes : ShakesHands setup past rest handles first h) → IsFront rest handles shakes.ring h.versions b s → Handles h b s (Ok None) new sent → Handled setup past rest handles sent new
-handled (request.Handshake proxy (asked.InterfaceVersion name version)) setup past rest handles first b sent h new s f d =
-    let m = f.1.m in
-    let no = no_finish_front name version rest handles s.ring b f.1 in (
-      m,
-      f.1.after,
-      f.1.front_is,
-      accepts past m s.unfinished (built_front (asked.InterfaceVersion name version) past rest handles s.ring h.versions b s.versions f.1 ∙ f.2),
-      no,
-      record {
-        unfinished = connected_more past m ∙ ap (λ (x : Bool). x || connected past) no ∙ s.unfinished;
-        ring = s.ring;
-        endpoint = d.2 ∙ f.1.new_is;
-        serial = ap (λ (x : HandshakerView). x.serial) d.1 ∙ s.serial;
-        versions = λ i. ap (λ (x : HandshakerView). settled_in x.versions i) d.1 ∙ settled_then h.versions past m name version s.unfinished (announced_front name version rest handles s.ring b f.1) f.2 s.versions i;
-      },
-    )
-handled (request.Handshake proxy asked.Finish) setup past rest handles first b sent h new s f d = absurd d
-handled (request.Handshake proxy other) setup past rest handles first b sent h new s f d = let g : false ≡ true = f.2 in absurd cc
-handled other setup past rest handles first b sent h new s f d = absurd d
+pub given : (setup : Setup) (past : List Raw) (rest : List ℕ) (handles : List Handle) (b new : BackendView) (h : HandshakerView) (answer : Option (PendingRequestResult Request)) (p : PendingRequestResult Request) (r : Request) → ShakesHands setup past rest handles b h → answer ≡ Some p → Answers target_of code_of values_of answer new (next false b) → ResultOf p (Ok r) → IsFront rest handles (memory_of b) new r
+given setup past rest handles b new h answer p r s some a is =
+    given_by p r rest handles (memory_of b) new is
+    (subst (λ (x : Option (PendingRequestResult Request)). SaysOfFront (quiet_with handshake_table rest handles (memory_of b)) x new) some (said_here setup past rest handles b new h answer s a))
 
-pub handled_at : (s : Request) (answer : Option EisHandshakeResp) (setup : Setup) (past : List Raw) (rest : List ℕ) (handles : List Handle) (first b sent : BackendView) (h new : HandshakerView) → (shakes : ShakesHands setup past rest handles first h) → IsFront rest handles shakes.ring h.versions b s → answer ≡ None → Handles h b s (Ok answer) new sent → Handled setup past rest handles sent new
-handled_at s answer setup past rest handles first b sent h new shakes f e d = handled s setup past rest handles first b sent h new shakes f (subst (λ (x : Option EisHandshakeResp). Handles h b s (Ok x) new sent) e d)
+-- ---- what is told
 
--- ---- a finish
+module _ (setup : Setup) (past : List Raw) (rest : List ℕ) (handles : List Handle) (first : BackendView) (h : HandshakerView) (s : ShakesHands setup past rest handles first h) (b : BackendView) where
+  named : (a : Asked) (f : Front rest handles (memory_of first) a b) → is_some (told h a).name ≡ came (codes "name") (f.m ∷ past)
+  named (asked.HandshakeVersion version) f = s.name ∙ sym (name_came past s.unfinished _ f)
+  named asked.Finish f = s.name ∙ sym (name_came past s.unfinished _ f)
+  named (asked.ContextType kind) f = s.name ∙ sym (name_came past s.unfinished _ f)
+  named (asked.Name name) f = sym (name_came past s.unfinished _ f)
+  named (asked.InterfaceVersion name version) f = s.name ∙ sym (name_came past s.unfinished _ f)
 
-events_at : (handshake : ℕ) (x y : KnownInterface → Option ℕ) (interfaces : List KnownInterface) → ((interface : KnownInterface) → x interface ≡ y interface) →
-    filter_map (λ interface. option_map (settled_event handshake interface) (x interface)) interfaces ≡ filter_map (λ interface. option_map (settled_event handshake interface) (y interface)) interfaces
-events_at handshake x y [] e = refl
-events_at handshake x y (interface ∷ interfaces) e = rw (e interface, events_at handshake x y interfaces e) refl
+  placed : (a : Asked) (f : Front rest handles (memory_of first) a b) → is_some (told h a).context_type ≡ came (codes "context_type") (f.m ∷ past)
+  placed (asked.HandshakeVersion version) f = s.context_type ∙ sym (context_came past s.unfinished _ f)
+  placed asked.Finish f = s.context_type ∙ sym (context_came past s.unfinished _ f)
+  placed (asked.ContextType kind) f = sym (context_came past s.unfinished _ f)
+  placed (asked.Name name) f = s.context_type ∙ sym (context_came past s.unfinished _ f)
+  placed (asked.InterfaceVersion name version) f = s.context_type ∙ sym (context_came past s.unfinished _ f)
 
-same_events : (handshake : ℕ) (x y : KnownInterface → Option ℕ) → ((interface : KnownInterface) → x interface ≡ y interface) → settled_events handshake x ≡ settled_events handshake y
-unfolding settled_events
-same_events handshake x y e = events_at handshake x y the_twelve e
+  kept : (a : Asked) (f : Front rest handles (memory_of first) a b) → (told h a).versions ≡ settled_map (f.m ∷ past)
+  kept (asked.HandshakeVersion version) f = s.versions ∙ sym (other_map past f.m (announced_none f.m 0 f.opcode_is refl))
+  kept asked.Finish f = s.versions ∙ sym (other_map past f.m (announced_none f.m 1 f.opcode_is refl))
+  kept (asked.ContextType kind) f = s.versions ∙ sym (other_map past f.m (announced_none f.m 2 f.opcode_is refl))
+  kept (asked.Name name) f = s.versions ∙ sym (other_map past f.m (announced_none f.m 3 f.opcode_is refl))
+  kept (asked.InterfaceVersion name version) f =
+      ap (λ (v : VersionMap). with_version v name version) s.versions
+      ∙ announced_kept past f.m (record { name = name; version = version }) s.unfinished (announced_this f.m name version f.id_is f.opcode_is f.args)
 
-handed_over : (after : List ℕ) (handles : List Handle) (ring : Ring) (serial : ℕ) (events : List Raw) →
-    hands_over (sends (quiet handshake_table after handles ring) events) 0 serial ≡ sends (quiet connection_table after handles ring) (events ++ connection_event 0 serial connection_id ∷ [])
-handed_over after handles ring serial events = sends-append (quiet connection_table after handles ring) events (connection_event 0 serial connection_id ∷ [])
+  same_serial : (a : Asked) → (told h a).serial ≡ h.serial
+  same_serial (asked.HandshakeVersion version) = refl
+  same_serial asked.Finish = refl
+  same_serial (asked.ContextType kind) = refl
+  same_serial (asked.Name name) = refl
+  same_serial (asked.InterfaceVersion name version) = refl
 
--- an endpoint, with the memory that it has made ready
-abbrev with_memory : Endpoint → Ring → BackendView
-with_memory e ring = record {
-  table = record { objects = e.objects; next_own = e.next_own; next_peer = e.next_peer; client = e.client; room = ring.places };
-  unread = e.unread;
-  handles = e.handles;
-  unsent = e.unsent;
-  unsent_handles = e.unsent_handles;
-  closed = e.closed;
-  capacity = ring.capacity;
-  room = ring.room;
-}
+  -- it shakes hands on
+  shakes_on : (a : Asked) (f : Front rest handles (memory_of first) a b) → (handshake.code_of a == 1) ≡ false → ShakesHands setup (f.m ∷ past) f.after handles b (told h a)
+  shakes_on a f other = record {
+    unfinished = connected_more past f.m ∙ ap (λ (x : Bool). x || connected past) (finishes a f ∙ other) ∙ s.unfinished;
+    in_range = s.in_range;
+    ring = subst (λ (x : BackendView). x.capacity ≤ most_capacity) (sym f.new_is) s.ring;
+    endpoint = ap endpoint_of f.new_is;
+    serial = same_serial a ∙ s.serial;
+    versions = kept a f;
+    name = named a f;
+    context_type = placed a f;
+  }
 
--- the ring of an endpoint in which room was made to send
-abbrev ring_of : Ring → BackendView → Ring
-ring_of ring b = record { capacity = ring.capacity; most = ring.most; room = b.room; places = b.table.room }
+  -- what is told for the first time isn't refused
+  unrefused : (a : Asked) → (handshake.code_of a == 1) ≡ false → is_repeated h a ≡ false → shake_refusal past (shake_of a) ≡ None
+  unrefused (asked.HandshakeVersion version) other r = refl
+  unrefused asked.Finish other r = let g : true ≡ false = other in absurd cc
+  unrefused (asked.ContextType kind) other r = rw (sym s.context_type ∙ r) refl
+  unrefused (asked.Name name) other r = rw (sym s.name ∙ r) refl
+  unrefused (asked.InterfaceVersion name version) other r = refl
 
-memory_is : (ring : Ring) (b : BackendView) → b.capacity ≡ ring.capacity → b ≡ with_memory (endpoint_of b) (ring_of ring b)
-memory_is ring b e = ap (λ (n : ℕ). record b { capacity = n }) e
+  repeats : (a : Asked) → is_repeated h a ≡ true → shake_refusal past (shake_of a) ≡ Some (Handshake handshake_error.DuplicateEvent)
+  repeats (asked.HandshakeVersion version) r = absurd cc
+  repeats asked.Finish r = absurd cc
+  repeats (asked.ContextType kind) r = rw (sym s.context_type ∙ r) refl
+  repeats (asked.Name name) r = rw (sym s.name ∙ r) refl
+  repeats (asked.InterfaceVersion name version) r = absurd cc
 
-sent_is : (after : List ℕ) (handles : List Handle) (ring : Ring) (b sent : BackendView) (id serial told : ℕ) (versions : VersionMap) (y : KnownInterface → Option ℕ) → b ≡ quiet handshake_table after handles ring → id ≡ 0 → serial ≡ told → ((interface : KnownInterface) → settled_in versions interface ≡ y interface) →
-    endpoint_of sent ≡ endpoint_of (hands_over (sends b (kept_events id versions)) id serial) → sent.capacity ≡ b.capacity →
-    sent ≡ sends (quiet connection_table after handles (ring_of ring sent)) (settled_events 0 y ++ connection_event 0 told connection_id ∷ [])
-sent_is after handles ring b sent id serial told versions y e i s same is c =
-    let x = settled_in versions in
-    memory_is ring sent (c ∙ ap (λ (v : BackendView). v.capacity) e)
-    ∙ ap (λ (v : Endpoint). with_memory v (ring_of ring sent)) (
-      is
-      ∙ ap (λ (v : BackendView). endpoint_of (hands_over (sends v (settled_events id x)) id serial)) e
-      ∙ ap (λ (n : ℕ). endpoint_of (hands_over (sends (quiet handshake_table after handles ring) (settled_events n x)) n serial)) i
-      ∙ ap (λ (n : ℕ). endpoint_of (hands_over (sends (quiet handshake_table after handles ring) (settled_events 0 x)) 0 n)) s
-      ∙ ap (λ (events : List Raw). endpoint_of (hands_over (sends (quiet handshake_table after handles ring) events) 0 told)) (same_events 0 x y same)
-      ∙ ap endpoint_of (handed_over after handles ring told (settled_events 0 y)))
+  abbrev Handled : BackendView → HandshakerView → Type 0
+  Handled sent new = (m : Raw) × (after : List ℕ) × (front rest ≡ Whole m after) × (judge setup past m ≡ Accepted) × (is_finish m ≡ false) × ShakesHands setup (m ∷ past) after handles sent new
 
-abbrev pub Completed : Setup → List Raw → List ℕ → List Handle → EisHandshakeResp → BackendView → Type 0
-Completed setup past rest handles resp b = (m : Raw) × (after : List ℕ) × (front rest ≡ Whole m after) × (judge past m ≡ Accepted) × (is_finish m ≡ true) × HandsOver setup past after handles resp b
+  told_so : (a : Asked) (f : Front rest handles (memory_of first) a b) (sent : BackendView) (new : HandshakerView) → (handshake.code_of a == 1) ≡ false → (is_repeated h a ≡ false) × (new ≡ told h a) × (sent ≡ b) → Handled sent new
+  told_so a f sent new other d = (
+    f.m,
+    f.after,
+    f.front_is,
+    judged past s.unfinished a f setup None (unrefused a other d.0),
+    finishes a f ∙ other,
+    subst (λ (x : BackendView). ShakesHands setup (f.m ∷ past) f.after handles x new) (sym d.2) (subst (λ (x : HandshakerView). ShakesHands setup (f.m ∷ past) f.after handles b x) (sym d.1) (shakes_on a f other)),
+  )
 
-completed : (s : Request) (setup : Setup) (past : List Raw) (rest : List ℕ) (handles : List Handle) (first b sent : BackendView) (h new : HandshakerView) (resp : EisHandshakeResp) → (shakes : ShakesHands setup past rest handles first h) → IsFront rest handles shakes.ring h.versions b s → Handles h b s (Ok (Some resp)) new sent → sent.capacity ≡ b.capacity → Completed setup past rest handles resp sent
-completed (request.Handshake proxy asked.Finish) setup past rest handles first b sent h new resp s f d c =
-    let m = f.1.m in (
-      m,
-      f.1.after,
-      f.1.front_is,
-      accepts past m s.unfinished (built_front asked.Finish past rest handles s.ring h.versions b s.versions f.1 ∙ f.2),
-      is_finish_front rest handles s.ring b f.1,
-      record {
-        connection = d.connection ∙ ap (λ (x : BackendView). own x.table (Known known.Connection) 1) f.1.new_is;
-        versions = λ i. ap (λ (x : VersionMap). settled_in x i) d.versions ∙ s.versions i;
-        ring = ring_of s.ring sent;
-        endpoint = sent_is f.1.after handles s.ring b sent proxy.id h.serial setup.serial h.versions (settled past) f.1.new_is f.0 s.serial s.versions d.events c;
-      },
-    )
-completed (request.Handshake proxy other) setup past rest handles first b sent h new resp s f d c = absurd d
-completed other setup past rest handles first b sent h new resp s f d c = absurd d
+  handled : (r : Request) (sent : BackendView) (new : HandshakerView) → IsFront rest handles (memory_of first) b r → Handles h b r (Ok None) new sent → Handled sent new
+  handled (request.Handshake proxy asked.Finish) sent new f d = absurd d
+  handled (request.Handshake proxy (asked.HandshakeVersion version)) sent new f d = told_so (asked.HandshakeVersion version) f.1 sent new refl d
+  handled (request.Handshake proxy (asked.ContextType kind)) sent new f d = told_so (asked.ContextType kind) f.1 sent new refl d
+  handled (request.Handshake proxy (asked.Name name)) sent new f d = told_so (asked.Name name) f.1 sent new refl d
+  handled (request.Handshake proxy (asked.InterfaceVersion name version)) sent new f d = told_so (asked.InterfaceVersion name version) f.1 sent new refl d
+  handled other sent new f d = absurd f
 
-pub completed_at : (s : Request) (answer : Option EisHandshakeResp) (setup : Setup) (past : List Raw) (rest : List ℕ) (handles : List Handle) (first b sent : BackendView) (h new : HandshakerView) (resp : EisHandshakeResp) → (shakes : ShakesHands setup past rest handles first h) → IsFront rest handles shakes.ring h.versions b s → answer ≡ Some resp → Handles h b s (Ok answer) new sent → sent.capacity ≡ b.capacity → Completed setup past rest handles resp sent
-completed_at s answer setup past rest handles first b sent h new resp shakes f e d c = completed s setup past rest handles first b sent h new resp shakes f (subst (λ (x : Option EisHandshakeResp). Handles h b s (Ok x) new sent) e d) c
+  pub handled_at : (r : Request) (answer : Option EisHandshakeResp) (sent : BackendView) (new : HandshakerView) → IsFront rest handles (memory_of first) b r → answer ≡ None → Handles h b r (Ok answer) new sent → Handled sent new
+  handled_at r answer sent new f e d = handled r sent new f (subst (λ (x : Option EisHandshakeResp). Handles h b r (Ok x) new sent) e d)
 
--- ---- how handling is refused
+  -- ---- a finish
 
-refuses_announcement : (e : Error) (name : List ℕ) (version : ℕ) (past : List Raw) (rest : List ℕ) (h new : HandshakerView) (b sent : BackendView) → RefusesTold e h b (asked.InterfaceVersion name version) new sent → Refuses past rest e
-refuses_announcement error.NoMemory name version past rest h new b sent d = tt
-refuses_announcement (error.Handshake handshake_error.DuplicateEvent) name version past rest h new b sent d = let g : false ≡ true = d.0 in absurd cc
-refuses_announcement e name version past rest h new b sent d = absurd d.0
+  handed_over : (after : List ℕ) (memory : Memory) (serial : ℕ) (events : List Raw) →
+      hands_over (sends (quiet_with handshake_table after handles memory) events) 0 serial ≡ sends (quiet_with connection_table after handles memory) (events ++ connection_event 0 serial connection_id ∷ [])
+  handed_over after memory serial events = sends-append (quiet_with connection_table after handles memory) events (connection_event 0 serial connection_id ∷ [])
 
--- an id is left for the connection
-id_left : (b : BackendView) (after : List ℕ) (handles : List Handle) (ring : Ring) → b ≡ quiet handshake_table after handles ring → own_end b.table ≤ b.table.next_own → ⊥
-id_left b after handles ring e le =
-    let full : 18446744073709551615 ≤ 18374686479671623680 = subst (λ (x : BackendView). own_end x.table ≤ x.table.next_own) e le in
-    absurd (omega (arith, full))
+  sent_is : (after : List ℕ) (memory : Memory) (id : ℕ) → b ≡ quiet_with handshake_table after handles memory → id ≡ 0 →
+      hands_over (sends b (kept_events id h.versions)) id h.serial ≡ sends (quiet_with connection_table after handles memory) (settled_events 0 (settled past) ++ connection_event 0 setup.serial connection_id ∷ [])
+  sent_is after memory id e i =
+      ap (λ (c : BackendView). hands_over (sends c (kept_events id h.versions)) id h.serial) e
+      ∙ ap (λ (n : ℕ). hands_over (sends (quiet_with handshake_table after handles memory) (kept_events n h.versions)) n h.serial) i
+      ∙ ap (λ (n : ℕ). hands_over (sends (quiet_with handshake_table after handles memory) (kept_events 0 h.versions)) 0 n) s.serial
+      ∙ ap (λ (events : List Raw). hands_over (sends (quiet_with handshake_table after handles memory) events) 0 setup.serial) (ap (kept_events 0) s.versions ∙ events_kept past 0)
+      ∙ handed_over after memory setup.serial (settled_events 0 (settled past))
 
-refuses_finish : (e : Error) (past : List Raw) (rest after : List ℕ) (handles : List Handle) (ring : Ring) (id : ℕ) (h new : HandshakerView) (b sent : BackendView) → b ≡ quiet handshake_table after handles ring → has_required h.versions ≡ true → RefusesFinish e id h b new sent → Refuses past rest e
-refuses_finish error.NoMemory past rest after handles ring id h new b sent q t d = tt
-refuses_finish (error.Handshake handshake_error.MissingInterface) past rest after handles ring id h new b sent q t d = let g : true ≡ false = sym t ∙ d.0 in absurd cc
-refuses_finish error.IdsExhausted past rest after handles ring id h new b sent q t d = absurd (id_left b after handles ring q d.1)
-refuses_finish e past rest after handles ring id h new b sent q t d = absurd d
+  all_there : all_settled past ≡ has_required h.versions
+  all_there = sym (required_kept past) ∙ ap has_required (sym s.versions)
 
-pub refuses_handled : (s : Request) (e : Error) (past : List Raw) (rest : List ℕ) (handles : List Handle) (ring : Ring) (b sent : BackendView) (h new : HandshakerView) → IsFront rest handles ring h.versions b s → Handles h b s (Err e) new sent → Refuses past rest e
-refuses_handled (request.Handshake proxy (asked.InterfaceVersion name version)) e past rest handles ring b sent h new f d = refuses_announcement e name version past rest h new b sent d
-refuses_handled (request.Handshake proxy asked.Finish) e past rest handles ring b sent h new f d = refuses_finish e past rest f.1.after handles ring proxy.id h new b sent f.1.new_is f.2 d
-refuses_handled (request.Handshake proxy other) e past rest handles ring b sent h new f d = let g : false ≡ true = f.2 in absurd cc
-refuses_handled other e past rest handles ring b sent h new f d = absurd f
+  abbrev Completed : EisHandshakeResp → BackendView → Type 0
+  Completed resp sent = (m : Raw) × (after : List ℕ) × (front rest ≡ Whole m after) × (judge setup past m ≡ Accepted) × (is_finish m ≡ true) × HandsOver setup past after handles resp sent
+
+  completed : (r : Request) (sent : BackendView) (new : HandshakerView) (resp : EisHandshakeResp) → IsFront rest handles (memory_of first) b r → sent.capacity ≡ b.capacity → Handles h b r (Ok (Some resp)) new sent → Completed resp sent
+  completed (request.Handshake proxy asked.Finish) sent new resp f same d =
+      let front_here = f.1 in (
+        front_here.m,
+        front_here.after,
+        front_here.front_is,
+        judged past s.unfinished asked.Finish front_here setup None (rw (all_there ∙ d.complete) refl),
+        finishes asked.Finish front_here,
+        record {
+          connection = d.connection ∙ ap (λ (x : BackendView). own x.table (Known known.Connection) 1) front_here.new_is;
+          versions = d.versions ∙ s.versions;
+          in_range = s.in_range;
+          ring = subst (λ (n : ℕ). n ≤ most_capacity) (sym (same ∙ ap (λ (x : BackendView). x.capacity) front_here.new_is)) s.ring;
+          endpoint = d.events ∙ ap endpoint_of (sent_is front_here.after (memory_of first) proxy.id front_here.new_is f.0);
+        },
+      )
+  completed (request.Handshake proxy (asked.HandshakeVersion version)) sent new resp f same d = absurd d
+  completed (request.Handshake proxy (asked.ContextType kind)) sent new resp f same d = absurd d
+  completed (request.Handshake proxy (asked.Name name)) sent new resp f same d = absurd d
+  completed (request.Handshake proxy (asked.InterfaceVersion name version)) sent new resp f same d = absurd d
+  completed other sent new resp f same d = absurd f
+
+  pub completed_at : (r : Request) (answer : Option EisHandshakeResp) (sent : BackendView) (new : HandshakerView) (resp : EisHandshakeResp) → IsFront rest handles (memory_of first) b r → answer ≡ Some resp → sent.capacity ≡ b.capacity → Handles h b r (Ok answer) new sent → Completed resp sent
+  completed_at r answer sent new resp f e same d = completed r sent new resp f same (subst (λ (x : Option EisHandshakeResp). Handles h b r (Ok x) new sent) e d)
+
+  -- ---- how handling is refused
+
+  refused_so : (a : Asked) (f : Front rest handles (memory_of first) a b) (refusal : Refusal) → shake_refusal past (shake_of a) ≡ Some refusal → RefusesFront setup past rest (Some refusal)
+  refused_so a f refusal e = (f.m, f.after, f.front_is, judged past s.unfinished a f setup (Some refusal) e)
+
+  refused_second : (e : Error) (a : Asked) (f : Front rest handles (memory_of first) a b) → IsSecond (is_repeated h a) e → Refuses setup past rest e
+  refused_second (error.Handshake handshake_error.DuplicateEvent) a f d = refused_so a f (Handshake handshake_error.DuplicateEvent) (repeats a d)
+  refused_second e a f d = absurd d
+
+  refused_told : (e : Error) (a : Asked) (f : Front rest handles (memory_of first) a b) (sent : BackendView) (new : HandshakerView) → RefusesTold e h b a new sent → Refuses setup past rest e
+  refused_told error.NoMemory a f sent new d = tt
+  refused_told e a f sent new d = refused_second e a f d.0
+
+  -- an id is left for the connection
+  id_left : (after : List ℕ) (memory : Memory) → b ≡ quiet_with handshake_table after handles memory → own_end b.table ≤ b.table.next_own → ⊥
+  id_left after memory e le =
+      let full : 18446744073709551615 ≤ 18374686479671623680 = subst (λ (x : BackendView). own_end x.table ≤ x.table.next_own) e le in
+      absurd (omega (arith, full))
+
+  refused_finish : (e : Error) (id : ℕ) (f : Front rest handles (memory_of first) asked.Finish b) (sent : BackendView) (new : HandshakerView) → RefusesFinish e id h b new sent → Refuses setup past rest e
+  refused_finish error.NoMemory id f sent new d = tt
+  refused_finish (error.Handshake handshake_error.MissingInterface) id f sent new d = refused_so asked.Finish f (Handshake handshake_error.MissingInterface) (rw (all_there ∙ d.0) refl)
+  refused_finish error.IdsExhausted id f sent new d = absurd (id_left f.after (memory_of first) f.new_is d.1)
+  refused_finish e id f sent new d = absurd d
+
+  pub refused_handling : (r : Request) (e : Error) (sent : BackendView) (new : HandshakerView) → IsFront rest handles (memory_of first) b r → Handles h b r (Err e) new sent → Refuses setup past rest e
+  refused_handling (request.Handshake proxy asked.Finish) e sent new f d = refused_finish e proxy.id f.1 sent new d
+  refused_handling (request.Handshake proxy (asked.HandshakeVersion version)) e sent new f d = refused_told e (asked.HandshakeVersion version) f.1 sent new d
+  refused_handling (request.Handshake proxy (asked.ContextType kind)) e sent new f d = refused_told e (asked.ContextType kind) f.1 sent new d
+  refused_handling (request.Handshake proxy (asked.Name name)) e sent new f d = refused_told e (asked.Name name) f.1 sent new d
+  refused_handling (request.Handshake proxy (asked.InterfaceVersion name version)) e sent new f d = refused_told e (asked.InterfaceVersion name version) f.1 sent new d
+  refused_handling other e sent new f d = absurd f
 
 -- the error that comes out is the one that came in
-pub at_err : (r : Result Shaken Error) (given e : Error) (setup : Setup) (past : List Raw) (rest : List ℕ) (handles : List Handle) (b : BackendView) (h : HandshakerView) → r ≡ Err given → given ≡ e → Refuses past rest e → Shakes setup past rest handles r b h
+pub at_err : (r : Result Shaken Error) (given e : Error) (setup : Setup) (past : List Raw) (rest : List ℕ) (handles : List Handle) (b : BackendView) (h : HandshakerView) → r ≡ Err given → given ≡ e → Refuses setup past rest e → Shakes setup past rest handles r b h
 at_err r given e setup past rest handles b h is same d = subst (λ (x : Result Shaken Error). Shakes setup past rest handles x b h) (sym (is ∙ ap (λ (x : Error). Err x) same)) d

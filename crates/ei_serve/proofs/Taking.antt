@@ -1,6 +1,6 @@
 -- The message at the front, as a server's endpoint takes it, and the arguments that the definitions read of it.
 use Rattle.std.proofs.Common.{◌≡◌, ℕ, ◌+◌, Bool, true, false, ◌||◌, cond, eqb, ltb, leb, List, [], ◌∷◌, length, drop, Option, Some, None, Result, Ok, Err, refl}
-use Rattle.std.proofs.Common.{ap, ◌∙◌}
+use Rattle.std.proofs.Common.{ap, sym, subst, ◌∙◌}
 use Rattle.std.specs.Prelude.{MatchOption, MatchResult, codes}
 use Rattle.ei_spec.specs.declared.handle.Handle.{Handle}
 use Rattle.ei_spec.specs.declared.interface.KnownInterface.{KnownInterface}
@@ -16,9 +16,11 @@ use Rattle.ei_spec.proofs.Handleless.{AreNoHandles, Got, got_of, all_alike}
 use Rattle.ei_backend.specs.Table.{TableView, found, peer_end}
 use Rattle.ei_backend.specs.Message.{Parsed, announce, with_new, some_row}
 use Rattle.ei_backend.specs.Backend.{BackendView, Outcome, outcome, body_read, Answer, Waits, Refused, Gone, Message, next, said_of}
-use Rattle.ei_serve.specs.Asking.{is_sync}
+use Rattle.ei_serve.specs.Asking.{is_sync, bytes_refused_by, bytes_refused}
 use Rattle.ei_session.specs.Arguments.{whole, body_of, row_args, request_args}
-use Rattle.ei_serve.proofs.NoHandles.{KeepsTaken, all_keeps}
+use Rattle.ei_session.specs.Asked.{first}
+use Rattle.ei_session.specs.Refusals.{Refusal, Parse, arguments, left_over}
+use Rattle.ei_serve.proofs.NoHandles.{KeepsTaken, all_keeps, SameArgs, all_same}
 
 -- a row that announces nothing and takes no handle
 abbrev pub IsPlain : Option Row → Type 0
@@ -56,13 +58,13 @@ OutcomeIs None t o = (f : Fault) × (o.said ≡ Err f) × IsNoHeader f
 abbrev said_if : Bool → List Value → ℕ → ℕ → Result (List Value) Fault
 said_if b values a n = cond b (Ok values) (Err (MessageLength a n))
 
-left_over : (b : Bool) (values : List Value) (a n taken : ℕ) (t : TableView) → taken ≡ 0 → OutcomeIs (cond b (Some values) None) t (record { said = said_if b values a n; table = t; taken = taken })
-left_over true values a n taken t e = rw e refl
-left_over false values a n taken t e = (MessageLength a n, refl, tt)
+with_rest : (b : Bool) (values : List Value) (a n taken : ℕ) (t : TableView) → taken ≡ 0 → OutcomeIs (cond b (Some values) None) t (record { said = said_if b values a n; table = t; taken = taken })
+with_rest true values a n taken t e = rw e refl
+with_rest false values a n taken t e = (MessageLength a n, refl, tt)
 
 parsed_is : (len : ℕ) (t : TableView) (values : List Value) (s : Unread) (vs : List Value) (rest : List ℕ) → values ≡ vs → s.bytes ≡ rest → s.taken ≡ 0 →
     OutcomeIs (cond (eqb (length rest) 0) (Some vs) None) t (outcome len t (Ok (record { values = values; table = t; unread = s })))
-parsed_is len t values s vs rest e r k = rw (← e, ← r) (left_over (eqb (length s.bytes) 0) values (len + length s.bytes) len s.taken t k)
+parsed_is len t values s vs rest e r k = rw (← e, ← r) (with_rest (eqb (length s.bytes) 0) values (len + length s.bytes) len s.taken t k)
 
 abbrev announced : Row → TableView → Result (List Value × Unread) Stop → Result Parsed Stop
 announced r t a = a then λ x. stopping x.1.taken (announce r.announces r.kinds x.0 t) then λ u. Ok (record { values = x.0; table = u; unread = x.1 })
@@ -93,6 +95,47 @@ pub body_is : (interface : KnownInterface) (target : ObjectView) (m : Raw) (hand
     OutcomeIs (request_args interface m) t (body_read false target m.opcode m.body handles t)
 unfolding request_args
 body_is interface target m handles t e h = rw e (some_case (row_at m.opcode (table false interface)) (short_of interface) m handles t (plain_rows interface m.opcode h))
+
+-- ---- why it can't be read
+
+-- where an outcome is a fault, it is this refusal
+abbrev pub IsExact : Option Refusal → Outcome → Type 0
+IsExact refusal o = MatchResult o.said (λ values. Unit {0}) (λ f. refusal ≡ Some (Parse f))
+
+exact_left : (b : Bool) (values : List Value) (a n taken : ℕ) (t : TableView) → IsExact (cond b None (Some (Parse (MessageLength a n)))) (record { said = said_if b values a n; table = t; taken = taken })
+exact_left true values a n taken t = tt
+exact_left false values a n taken t = refl
+
+exact_ok : (m : Raw) (t : TableView) (values : List Value) (s : Unread) (rest : List ℕ) → s.bytes ≡ rest →
+    IsExact (cond (eqb (length rest) 0) None (Some (Parse (MessageLength (size m + length rest) (size m))))) (outcome (size m) t (Ok (record { values = values; table = t; unread = s })))
+exact_ok m t values s rest e = rw (← e) (exact_left (eqb (length s.bytes) 0) values (size m + length s.bytes) (size m) s.taken t)
+
+alone : (o : Option Refusal) → first (None ∷ None ∷ o ∷ []) ≡ o
+alone None = refl
+alone (Some r) = refl
+
+exact_row : (interface : KnownInterface) (r : Row) (m : Raw) (t : TableView) (a b : Result (List Value × Unread) Stop) → r.announces ≡ Nothing → SameArgs a b →
+    IsExact (bytes_refused_by interface m (Some r) b) (outcome (size m) t (announced r t a))
+exact_row interface r m t (Ok x) (Ok y) n e = rw n (by (exact_ok m t x.0 x.1 y.1.bytes e.1))
+  where
+    by : IsExact (cond (eqb (length y.1.bytes) 0) None (Some (Parse (MessageLength (size m + length y.1.bytes) (size m))))) (outcome (size m) t (Ok (record { values = x.0; table = t; unread = x.1 }))) →
+        IsExact (bytes_refused_by interface m (Some r) (Ok y)) (outcome (size m) t (Ok (record { values = x.0; table = t; unread = x.1 })))
+    by h = subst (λ (o : Option Refusal). IsExact o (outcome (size m) t (Ok (record { values = x.0; table = t; unread = x.1 })))) (sym (alone (left_over m (Ok y)))) h
+exact_row interface r m t (Ok x) (Err f) n e = absurd e
+exact_row interface r m t (Err f) (Ok y) n e = absurd e
+exact_row interface r m t (Err f) (Err g) n e = ap (λ (x : Fault). Some (Parse x)) (sym e)
+
+exact_some : (interface : KnownInterface) (o : Option Row) (m : Raw) (handles : List Handle) (t : TableView) → IsPlain o →
+    IsExact (bytes_refused_by interface m o (arguments o m)) (outcome (size m) t (some_row o (short_of interface) m.opcode (record { bytes = m.body; handles = handles; taken = 0 }) t))
+exact_some interface None m handles t p = refl
+exact_some interface (Some r) m handles t p =
+    let s : Unread = record { bytes = m.body; handles = handles; taken = 0 } in
+    exact_row interface r m t (all_at r.kinds s) (all_at r.kinds (body_of m)) p.0 (all_same r.kinds s (body_of m) p.1 refl)
+
+-- a fault that a whole message meets is why its bytes are refused
+pub exact_is : (interface : KnownInterface) (target : ObjectView) (m : Raw) (handles : List Handle) (t : TableView) → target.interface ≡ Known interface → is_sync interface m.opcode ≡ false →
+    IsExact (bytes_refused interface m) (body_read false target m.opcode m.body handles t)
+exact_is interface target m handles t e h = rw e (exact_some interface (row_at m.opcode (table false interface)) m handles t (plain_rows interface m.opcode h))
 
 -- ---- what a `sync` says
 
@@ -149,7 +192,7 @@ next_gone b m rest e n = rw (e, n) refl
 -- what is said of a body, and the endpoint after it
 pub record SaysOf (b : BackendView) (target : ObjectView) (m : Raw) (rest : List ℕ) (args : Option (List Value)) (o : Outcome) : Type 0 where
   pub values : (vs : List Value) → args ≡ Some vs → (answer_of (said (said_of target m.opcode o.said) b) ≡ Message target m.opcode vs) × (o.table ≡ b.table) × (o.taken ≡ 0)
-  pub none : args ≡ None → (f : Fault) × (said_of target m.opcode o.said ≡ Refused f) × IsNoHeader f
+  pub none : args ≡ None → (f : Fault) × (said_of target m.opcode o.said ≡ Refused f) × IsNoHeader f × (o.said ≡ Err f)
 
 says : (b : BackendView) (target : ObjectView) (m : Raw) (rest : List ℕ) (args : Option (List Value)) (o : Outcome) → OutcomeIs args b.table o → SaysOf b target m rest args o
 says b target m rest (Some vs) o h = record {
@@ -158,7 +201,7 @@ says b target m rest (Some vs) o h = record {
 }
 says b target m rest None o h = record {
   values = λ ws e. absurd cc;
-  none = λ e. (h.0, ap (said_of target m.opcode) h.1, h.2);
+  none = λ e. (h.0, ap (said_of target m.opcode) h.1, h.2, h.1);
 }
 
 after_is : (b : BackendView) (t : TableView) (rest : List ℕ) (n : ℕ) → t ≡ b.table → n ≡ 0 → ◌≡◌ {A = BackendView} (record b { table = t; unread = rest; handles = drop n b.handles }) (record b { unread = rest })
@@ -172,11 +215,12 @@ next_taken b m rest target interface vs e f k plain a =
     rw (e, f) (h.0, after_is b o.table rest o.taken h.1 h.2)
 
 pub next_refused : (b : BackendView) (m : Raw) (rest : List ℕ) (target : ObjectView) (interface : KnownInterface) → front b.unread ≡ Whole m rest → found b.table m.id ≡ Some target → target.interface ≡ Known interface → is_sync interface m.opcode ≡ false → request_args interface m ≡ None →
-    (f : Fault) × (answer_of (next false b) ≡ Refused f) × IsNoHeader f
+    (f : Fault) × (answer_of (next false b) ≡ Refused f) × IsNoHeader f × (bytes_refused interface m ≡ Some (Parse f))
 next_refused b m rest target interface e f k plain a =
     let o = body_read false target m.opcode m.body b.handles b.table in
     let h = (says b target m rest (request_args interface m) o (body_is interface target m b.handles b.table k plain)).none a in
-    rw (e, f) h
+    let why = subst (λ (r : Result (List Value) Fault). MatchResult r (λ values. Unit {0}) (λ f. bytes_refused interface m ≡ Some (Parse f))) h.3 (exact_is interface target m b.handles b.table k plain) in
+    rw (e, f) (h.0, h.1, h.2, why)
 
 -- what a `sync` is answered by
 abbrev pub AnswersSync : ObjectView → ℕ → Answer → Type 0

@@ -1,5 +1,5 @@
 -- A turn: a piece, and the messages that it makes whole.
-use Rattle.std.proofs.Common.{◌≡◌, ℕ, ◌+◌, ◌-◌, ◌≤◌, ◌<◌, inl, inr, Bool, true, false, cond, List, [], ◌∷◌, ◌++◌, length, Option, Result, Ok, Err, refl, ap}
+use Rattle.std.proofs.Common.{◌≡◌, ℕ, ◌+◌, ◌-◌, ◌≤◌, ◌<◌, inl, inr, Bool, true, false, cond, List, [], ◌∷◌, ◌++◌, length, Option, Some, None, Result, Ok, Err, refl, ap}
 use Rattle.std.proofs.Common.{sym, subst, ◌∙◌, arith}
 use Rattle.std.specs.Prelude.{min, nat_le, ◌^◌, IsErrOf}
 use Rattle.std.proofs.lemmas.Bool.{leb-true, leb-false}
@@ -8,16 +8,15 @@ use Rattle.std.proofs.lemmas.List.{length-append}
 use Rattle.ei_spec.specs.declared.handle.Handle.{Handle}
 use Rattle.ei_spec.specs.Message.{Raw}
 use Rattle.ei_spec.specs.Piece.{Piece, stream, handle_count}
-use Rattle.ei_spec.specs.Stream.{Stop, Waiting, Ended, HeaderLength, Refusal, Reading, read}
+use Rattle.ei_spec.specs.Stream.{Waiting, Reading, read}
 use Rattle.ei_session.specs.Setup.{Setup}
 use Rattle.ei_session.specs.Handshake.{connected}
-use Rattle.ei_session.specs.Built.{NotBuilt, judge}
-use Rattle.ei_session.specs.Built.{Refusal as Cause}
-use Rattle.ei_session.specs.Session.{End, UnexpectedEof, Stopped, session, accepted, reading_of, is_waiting, Outcome}
+use Rattle.ei_session.specs.Refusals.{Refusal as Cause}
+use Rattle.ei_session.specs.Served.{Answer, Disconnect, End, UnexpectedEof, Refused, Outcome, answer_at, is_waiting}
+use Rattle.ei_session.specs.Guard.{judge, session, accepted, reading_of}
 use Rattle.ei_request.specs.declared.event.EisRequest.{EisRequest}
 use Rattle.ei_types.specs.declared.error.Error.{Error}
 use Rattle.ei_types.specs.declared.error.Error.TheVariants as error
-use Rattle.ei_wire.specs.declared.error.ParseError.TheVariants as parse_error
 use Rattle.ei_wire.specs.declared.error.ReadError.{ReadError}
 use Rattle.ei_wire.specs.declared.error.ReadError.TheVariants as read_error
 use Rattle.ei_serve.specs.declared.phase.Phase.{Phase}
@@ -28,10 +27,11 @@ use Rattle.ei_serve.specs.declared.session.Turn.TheVariants as turn
 use Rattle.ei_serve.specs.Standing.{Stands, StandsAt, setup_of}
 use Rattle.ei_serve.specs.Steps.{Goes, GoesInPart, Breaks}
 use Rattle.ei_serve.specs.Taking.{Hands, HasNone, with_next, ReadsPhase, Holds, TakesPiece, piece_came}
-use Rattle.ei_serve.specs.Turning.{StandsAfter, HandlesAll, Closes, GoesOn, BreaksOff, Turns, IsAtEnd}
+use Rattle.ei_serve.specs.Refusing.{refusal_of, IsRefused}
+use Rattle.ei_serve.specs.Turning.{StandsAfter, HandlesAll, Closes, ClosesRefused, GoesOn, BreaksOff, Turns, IsAtEnd}
 use Rattle.ei_serve.specs.Turning.{at_end as ended_by, goes_on as going_on}
 use Rattle.ei_serve.proofs.Going.{goes_none}
-use Rattle.ei_serve.proofs.Histories.{count_more, reading_more, goes_on_more, going, stopped, too_many_pieces, too_many_handles_come}
+use Rattle.ei_serve.proofs.Histories.{count_more, reading_more, goes_on_more, going, stopped, too_many_pieces, too_many_handles_come, IsStopped, not_waiting}
 
 -- ---- taking a piece
 
@@ -40,7 +40,7 @@ module _ (setup : Setup) (pieces : List Piece) (s : Session) (stands : Stands se
   unread_more : (piece : Piece) → length (stands.unread ++ piece.handles) ≡ handle_count (with_next pieces piece)
   unread_more piece = length-append stands.unread piece.handles ∙ ap (λ (n : ℕ). n + length piece.handles) stands.handles ∙ sym (count_more pieces piece)
 
-  pub holds : (n taken : ℕ) (t : Session) → ReadsPhase setup (accepted (stream pieces)) (reading_of (stream pieces)).rest stands.unread (Ok n) p left_old left_new → s.taken < s.setup.pieces → t.setup ≡ s.setup → t.phase ≡ p → t.taken ≡ s.taken + 1 →
+  pub holds : (n taken : ℕ) (t : Session) → ReadsPhase setup (accepted setup (stream pieces)) (reading_of setup (stream pieces)).rest stands.unread (Ok n) p left_old left_new → s.taken < s.setup.pieces → t.setup ≡ s.setup → t.phase ≡ p → t.taken ≡ s.taken + 1 →
       (piece : Piece) × Hands left_old piece left_new × Holds setup pieces piece t
   holds n taken t r less same_setup same_phase same_taken =
       let piece = r.0 in
@@ -61,19 +61,19 @@ module _ (setup : Setup) (pieces : List Piece) (s : Session) (stands : Stands se
   full : s.setup.pieces ≤ s.taken → setup.pieces ≤ length pieces
   full h = omega (arith, h, stands.taken, ap (λ (x : Setup). x.pieces) stands.started)
 
-  pub at_limit : (n : ℕ) → ReadsPhase setup (accepted (stream pieces)) (reading_of (stream pieces)).rest stands.unread (Ok n) p left_old left_new → s.setup.pieces ≤ s.taken →
+  pub at_limit : (n : ℕ) → ReadsPhase setup (accepted setup (stream pieces)) (reading_of setup (stream pieces)).rest stands.unread (Ok n) p left_old left_new → s.setup.pieces ≤ s.taken →
       (piece : Piece) × Hands left_old piece left_new × (setup.pieces ≤ length pieces)
   at_limit n r h = (r.0, r.1, full h)
 
-  pub at_limit_too : ReadsPhase setup (accepted (stream pieces)) (reading_of (stream pieces)).rest stands.unread (Err read_error.HandleLimit) p left_old left_new → s.setup.pieces ≤ s.taken →
+  pub at_limit_too : ReadsPhase setup (accepted setup (stream pieces)) (reading_of setup (stream pieces)).rest stands.unread (Err read_error.HandleLimit) p left_old left_new → s.setup.pieces ≤ s.taken →
       (piece : Piece) × Hands left_old piece left_new × (setup.pieces ≤ length pieces)
   at_limit_too r h = (r.0, r.1, full h)
 
-  pub overflows : ReadsPhase setup (accepted (stream pieces)) (reading_of (stream pieces)).rest stands.unread (Err read_error.HandleLimit) p left_old left_new → s.taken < s.setup.pieces →
+  pub overflows : ReadsPhase setup (accepted setup (stream pieces)) (reading_of setup (stream pieces)).rest stands.unread (Err read_error.HandleLimit) p left_old left_new → s.taken < s.setup.pieces →
       (piece : Piece) × Hands left_old piece left_new × (length pieces < setup.pieces) × (4096 < handle_count (with_next pieces piece))
   overflows r less = (r.0, r.1, omega (arith, less, stands.taken, ap (λ (x : Setup). x.pieces) stands.started), omega (arith, unread_more r.0, r.2.limit, length-append stands.unread r.0.handles))
 
-  pub ends : (t : Session) → ReadsPhase setup (accepted (stream pieces)) (reading_of (stream pieces)).rest stands.unread (Err read_error.UnexpectedEof) p left_old left_new → t.setup ≡ s.setup → t.phase ≡ p → t.taken ≡ s.taken →
+  pub ends : (t : Session) → ReadsPhase setup (accepted setup (stream pieces)) (reading_of setup (stream pieces)).rest stands.unread (Err read_error.UnexpectedEof) p left_old left_new → t.setup ≡ s.setup → t.phase ≡ p → t.taken ≡ s.taken →
       HasNone left_old left_new × Stands setup pieces t
   ends t r same_setup same_phase same_taken = (
     r.0,
@@ -91,7 +91,7 @@ module _ (setup : Setup) (pieces : List Piece) (s : Session) (stands : Stands se
   -- ---- by what was read
 
   abbrev Reads : Result ℕ ReadError → Type 0
-  Reads read = ReadsPhase setup (accepted (stream pieces)) (reading_of (stream pieces)).rest stands.unread read p left_old left_new
+  Reads read = ReadsPhase setup (accepted setup (stream pieces)) (reading_of setup (stream pieces)).rest stands.unread read p left_old left_new
 
   err_takes_by : (full : Bool) (read : Result ℕ ReadError) (e : Error) (t : Session) → nat_le s.setup.pieces s.taken ≡ full → Reads read → piece_came full read ≡ Err e → TakesPiece setup pieces s (Err e) t left_old left_new
   err_takes_by true (Ok n) e t f r c = let same : error.PieceLimit ≡ e = cc in rw (← same) (at_limit n r (leb-true _ _ f))
@@ -155,10 +155,10 @@ module _ (setup : Setup) (pieces : List Piece) (s : Session) (stands : Stands se
 pub refused : (setup : Setup) (pieces : List Piece) (s t u : Session) (left_old left_new : Option (List Piece)) (out : List EisRequest) (took : Option Piece) (e : Error) → Stands setup pieces s → TakesPiece setup pieces s (Err e) t left_old left_new → Turns setup pieces (Err e) u left_old left_new out out took took
 refused setup pieces s t u left_old left_new out took error.PieceLimit stands h =
     let is = too_many_pieces setup pieces h.0 stands.goes_on h.2 in
-    record { piece = h.0; hands = h.1; answer_is = ap (λ (o : Outcome). o.answer) is; goes = rw is (goes_none setup (accepted (stream pieces)) out took) }
+    record { piece = h.0; hands = h.1; answer_is = ap (λ (o : Outcome). o.answer) is; goes = rw is (goes_none setup (accepted setup (stream pieces)) out took) }
 refused setup pieces s t u left_old left_new out took error.HandleLimit stands h =
     let is = too_many_handles_come setup pieces h.0 stands.goes_on h.2 h.3 in
-    record { piece = h.0; hands = h.1; answer_is = ap (λ (o : Outcome). o.answer) is; goes = rw is (goes_none setup (accepted (stream pieces)) out took) }
+    record { piece = h.0; hands = h.1; answer_is = ap (λ (o : Outcome). o.answer) is; goes = rw is (goes_none setup (accepted setup (stream pieces)) out took) }
 refused setup pieces s t u left_old left_new out took error.ReadFault stands h = record { keeps = h; out = refl; took = refl }
 refused setup pieces s t u left_old left_new out took error.NoMemory stands h = inl (record { keeps = h; out = refl; took = refl })
 refused setup pieces s t u left_old left_new out took e stands h = absurd h
@@ -166,39 +166,44 @@ refused setup pieces s t u left_old left_new out took e stands h = absurd h
 pub refused_as : (setup : Setup) (pieces : List Piece) (s t u : Session) (left_old left_new : Option (List Piece)) (out : List EisRequest) (took : Option Piece) (e : Error) (r : Result Turn Error) → r ≡ Err e → Stands setup pieces s → TakesPiece setup pieces s (Err e) t left_old left_new → Turns setup pieces r u left_old left_new out out took took
 refused_as setup pieces s t u left_old left_new out took e r same stands h = rw same (refused setup pieces s t u left_old left_new out took e stands h)
 
-end_of : (setup : Setup) (pieces : List Piece) (t : Session) (b : Bool) (left_old left_new : Option (List Piece)) (out : List EisRequest) (took : Option Piece) → Stands setup pieces t → connected (accepted (stream pieces)) ≡ b → HasNone left_old left_new → Turns setup pieces (ended_by b) t left_old left_new out out took took
+end_of : (setup : Setup) (pieces : List Piece) (t : Session) (b : Bool) (left_old left_new : Option (List Piece)) (out : List EisRequest) (took : Option Piece) → Stands setup pieces t → connected (accepted setup (stream pieces)) ≡ b → HasNone left_old left_new → Turns setup pieces (ended_by b) t left_old left_new out out took took
 end_of setup pieces t true left_old left_new out took stands c none =
     let is = going setup pieces stands.goes_on in
-    record { none = none; answer_is = ap (λ (o : Outcome). o.answer) is ∙ ap (λ (x : Bool). cond x End UnexpectedEof) c; goes = rw is (goes_none setup (accepted (stream pieces)) out took) }
+    record { none = none; answer_is = ap (λ (o : Outcome). o.answer) is ∙ ap (λ (x : Bool). cond x End UnexpectedEof) c; goes = rw is (goes_none setup (accepted setup (stream pieces)) out took) }
 end_of setup pieces t false left_old left_new out took stands c none =
     let is = going setup pieces stands.goes_on in
-    record { none = none; answer_is = ap (λ (o : Outcome). o.answer) is ∙ ap (λ (x : Bool). cond x End UnexpectedEof) c; goes = rw is (goes_none setup (accepted (stream pieces)) out took) }
+    record { none = none; answer_is = ap (λ (o : Outcome). o.answer) is ∙ ap (λ (x : Bool). cond x End UnexpectedEof) c; goes = rw is (goes_none setup (accepted setup (stream pieces)) out took) }
 
-pub found_end : (setup : Setup) (pieces : List Piece) (t : Session) (b : Bool) (r : Result Turn Error) (left_old left_new : Option (List Piece)) (out : List EisRequest) (took : Option Piece) → r ≡ ended_by b → b ≡ connected (accepted (stream pieces)) → HasNone left_old left_new × Stands setup pieces t → Turns setup pieces r t left_old left_new out out took took
+pub found_end : (setup : Setup) (pieces : List Piece) (t : Session) (b : Bool) (r : Result Turn Error) (left_old left_new : Option (List Piece)) (out : List EisRequest) (took : Option Piece) → r ≡ ended_by b → b ≡ connected (accepted setup (stream pieces)) → HasNone left_old left_new × Stands setup pieces t → Turns setup pieces r t left_old left_new out out took took
 found_end setup pieces t b r left_old left_new out took same c h = rw same (end_of setup pieces t b left_old left_new out took h.1 (sym c) h.0)
 
 -- ---- the piece is looked at
 
 module _ (setup : Setup) (pieces : List Piece) (s t u : Session) (piece : Piece) (stands : Stands setup pieces s) (holds_it : Holds setup pieces piece t) (left_old left_new : Option (List Piece)) (hands : Hands left_old piece left_new) (x y : List EisRequest) (a b : Option Piece) where
   abbrev before : List Raw
-  before = accepted (stream pieces)
+  before = accepted setup (stream pieces)
 
   abbrev unread : List ℕ
-  unread = (reading_of (stream pieces)).rest ++ piece.bytes
+  unread = (reading_of setup (stream pieces)).rest ++ piece.bytes
 
-  same : reading_of (stream (with_next pieces piece)) ≡ read judge before unread
-  same = reading_more pieces piece stands.waits
+  same : reading_of setup (stream (with_next pieces piece)) ≡ read (judge setup) before unread
+  same = reading_more setup pieces piece stands.waits
 
-  closes : (stop : Stop Cause) → is_waiting stop ≡ false → (read judge before unread).stop ≡ stop → Goes setup before (read judge before unread).past x y a b → Closes setup pieces (Stopped stop) left_old left_new x y a b
-  closes stop no_more e g =
-      let at : (reading_of (stream (with_next pieces piece))).stop ≡ stop = ap (λ (r : Reading Cause). r.stop) same ∙ e in
-      let is = stopped setup pieces piece stands.goes_on holds_it.room holds_it.few (ap is_waiting at ∙ no_more) in
-      let handled : (session setup (with_next pieces piece)).handled ≡ (read judge before unread).past = ap (λ (o : Outcome). o.handled) is ∙ ap (λ (r : Reading Cause). r.past) same in
-      record { piece = piece; hands = hands; answer_is = ap (λ (o : Outcome). o.answer) is ∙ ap Stopped at; goes = rw handled g }
+  closes : (answer : Answer) → IsStopped answer → answer_at (read (judge setup) before unread) ≡ answer → Goes setup before (read (judge setup) before unread).past x y a b → Closes setup pieces answer left_old left_new x y a b
+  closes answer s e g =
+      let now = reading_of setup (stream (with_next pieces piece)) in
+      let at : answer_at now ≡ answer = ap (λ (r : Reading Cause). answer_at r) same ∙ e in
+      let is = stopped setup pieces piece stands.goes_on holds_it.room holds_it.few (not_waiting now.stop now.past answer at s) in
+      let handled : (session setup (with_next pieces piece)).handled ≡ (read (judge setup) before unread).past = ap (λ (o : Outcome). o.handled) is ∙ ap (λ (r : Reading Cause). r.past) same in
+      record { piece = piece; hands = hands; answer_is = ap (λ (o : Outcome). o.answer) is ∙ at; goes = rw handled g }
 
-  goes_on_with : u.setup ≡ t.setup → u.taken ≡ t.taken → StandsAfter setup (read judge before unread) holds_it.unread u.phase → Goes setup before (read judge before unread).past x y a b → GoesOn setup pieces u left_old left_new x y a b
+  closes_refused : (refusal : Option Cause) → IsRefused refusal (answer_at (read (judge setup) before unread)) → Goes setup before (read (judge setup) before unread).past x y a b → ClosesRefused setup pieces refusal left_old left_new x y a b
+  closes_refused None e g = absurd e
+  closes_refused (Some refusal) e g = closes (Refused refusal) tt e g
+
+  goes_on_with : u.setup ≡ t.setup → u.taken ≡ t.taken → StandsAfter setup (read (judge setup) before unread) holds_it.unread u.phase → Goes setup before (read (judge setup) before unread).past x y a b → GoesOn setup pieces u left_old left_new x y a b
   goes_on_with same_setup same_taken after g =
-      let waits : (reading_of (stream (with_next pieces piece))).stop ≡ Waiting = ap (λ (r : Reading Cause). r.stop) same ∙ after.waits in
+      let waits : (reading_of setup (stream (with_next pieces piece))).stop ≡ Waiting = ap (λ (r : Reading Cause). r.stop) same ∙ after.waits in
       let made : Stands setup (with_next pieces piece) u = record {
         started = ap setup_of same_setup ∙ holds_it.started;
         goes_on = goes_on_more setup pieces piece stands.goes_on holds_it.room holds_it.few waits;
@@ -215,13 +220,15 @@ module _ (setup : Setup) (pieces : List Piece) (s t u : Session) (piece : Piece)
 
   pub handled : (r : Result Turn Error) → u.setup ≡ t.setup → u.taken ≡ t.taken → HandlesAll setup before unread holds_it.unread r u.phase x y a b → Turns setup pieces r u left_old left_new x y a b
   handled (Ok turn.GoOn) same_setup same_taken h = goes_on_with same_setup same_taken h.0 h.1
-  handled (Ok turn.Disconnect) same_setup same_taken h = closes Ended refl h.0 h.1
+  handled (Ok turn.Disconnect) same_setup same_taken h = closes Disconnect tt h.0 h.1
   handled (Ok turn.End) same_setup same_taken h = absurd h
   handled (Err error.WriteFault) same_setup same_taken h = breaks h
   handled (Err error.NoMemory) same_setup same_taken h = inr (breaks h)
-  handled (Err (error.Parse (parse_error.HeaderLength n))) same_setup same_taken h = closes (HeaderLength n) refl h.0 h.1
-  handled (Err error.NotBuilt) same_setup same_taken h = closes (Refusal NotBuilt) refl h.0 h.1
-  handled (Err e) same_setup same_taken h = absurd h.0
+  handled (Err error.ReadFault) same_setup same_taken h = absurd h.0
+  handled (Err error.UnexpectedEof) same_setup same_taken h = absurd h.0
+  handled (Err error.PieceLimit) same_setup same_taken h = absurd h.0
+  handled (Err error.HandleLimit) same_setup same_taken h = absurd h.0
+  handled (Err e) same_setup same_taken h = closes_refused (refusal_of e) h.0 h.1
 
 -- ---- the source's end
 
@@ -268,9 +275,7 @@ over_now setup pieces (Ok turn.End) t u left_old left_new x y a b e h = h
 over_now setup pieces (Err error.UnexpectedEof) t u left_old left_new x y a b e h = h
 over_now setup pieces (Err error.PieceLimit) t u left_old left_new x y a b e h = h
 over_now setup pieces (Err error.HandleLimit) t u left_old left_new x y a b e h = h
-over_now setup pieces (Err (error.Parse (parse_error.HeaderLength n))) t u left_old left_new x y a b e h = h
-over_now setup pieces (Err error.NotBuilt) t u left_old left_new x y a b e h = h
 over_now setup pieces (Err error.ReadFault) t u left_old left_new x y a b e h = record { keeps = h.keeps; out = h.out; took = h.took }
 over_now setup pieces (Err error.WriteFault) t u left_old left_new x y a b e h = h
 over_now setup pieces (Err error.NoMemory) t u left_old left_new x y a b e h = h
-over_now setup pieces (Err e) t u left_old left_new x y a b f h = absurd h
+over_now setup pieces (Err e) t u left_old left_new x y a b f h = h

@@ -1,8 +1,8 @@
 pub mod Asking
 pub mod Causes
+pub mod Refusing
 pub mod Standing
 pub mod Steps
 pub mod Taking
 pub mod Turning
-pub mod Shaking
 pub mod Serving

@@ -1,47 +1,43 @@
 -- What a whole session answers, gives and replies.
-use Rattle.std.specs.Prelude.{◌≡◌, ◌≤◌, ◌<◌, ℕ, ◌-◌, false, List, [], ◌++◌, take, drop, length, map, Option, Some, None, Result, Ok, Err}
+use Rattle.std.specs.Prelude.{◌≡◌, ◌≤◌, ◌<◌, ℕ, ◌-◌, false, List, [], ◌++◌, take, drop, length, map, Option, Some, None, IsSome, Result, Ok, Err}
 use Rattle.ei_spec.specs.Message.{Raw, all_bytes}
 use Rattle.ei_spec.specs.Piece.{Piece, stream}
-use Rattle.ei_spec.specs.Stream.{Ended, HeaderLength, Refusal}
 use Rattle.ei_session.specs.Setup.{Setup}
-use Rattle.ei_session.specs.Built.{NotBuilt}
-use Rattle.ei_session.specs.Framed.{framed}
-use Rattle.ei_session.specs.Replies.{replies}
-use Rattle.ei_session.specs.Session.{Answer, PieceLimit, HandleLimit, End, UnexpectedEof, Stopped, is_over, accepted, IsValid}
+use Rattle.ei_session.specs.Requests.{framed}
+use Rattle.ei_session.specs.Events.{replies}
+use Rattle.ei_session.specs.Served.{Answer, Disconnect, End, UnexpectedEof, PieceLimit, HandleLimit}
+use Rattle.ei_session.specs.Guard.{is_over, accepted, IsValid}
 use Rattle.ei_backend.specs.Outside.{with_more}
 use Rattle.ei_request.specs.Converter.{asked_of}
 use Rattle.ei_request.specs.declared.event.EisRequest.{EisRequest}
 use Rattle.ei_types.specs.declared.error.Error.{Error}
 use Rattle.ei_types.specs.declared.error.Error.TheVariants as error
-use Rattle.ei_wire.specs.declared.error.ParseError.TheVariants as parse_error
+use Rattle.ei_serve.specs.Refusing.{refusal_of, IsRefused}
 use Rattle.ei_serve.specs.declared.session.Ended.{Ended as HowEnded}
 use Rattle.ei_serve.specs.declared.session.Ended.TheVariants as ended
 
--- The result is the session's answer; a fault and want of memory may come in its place. No other error is answered.
+-- The result is the session's answer; a fault and want of memory may come in its place. Any other error is the
+-- refusal that the session answers.
 abbrev pub AnswersAs : Answer → Result HowEnded Error → Type 0
-AnswersAs a (Ok ended.Disconnect) = a ≡ Stopped Ended
+AnswersAs a (Ok ended.Disconnect) = a ≡ Disconnect
 AnswersAs a (Ok ended.End) = a ≡ End
-AnswersAs a (Err (error.Parse (parse_error.HeaderLength n))) = a ≡ Stopped (HeaderLength n)
-AnswersAs a (Err error.NotBuilt) = a ≡ Stopped (Refusal NotBuilt)
 AnswersAs a (Err error.UnexpectedEof) = a ≡ UnexpectedEof
 AnswersAs a (Err error.PieceLimit) = a ≡ PieceLimit
 AnswersAs a (Err error.HandleLimit) = a ≡ HandleLimit
 AnswersAs a (Err error.ReadFault) = Unit {0}
 AnswersAs a (Err error.WriteFault) = Unit {0}
 AnswersAs a (Err error.NoMemory) = Unit {0}
-AnswersAs a (Err e) = ⊥
+AnswersAs a (Err e) = IsRefused (refusal_of e) a
 
 -- an error that a session may answer
 abbrev pub IsOfSession : Error → Type 0
-IsOfSession (error.Parse (parse_error.HeaderLength n)) = Unit {0}
-IsOfSession error.NotBuilt = Unit {0}
 IsOfSession error.UnexpectedEof = Unit {0}
 IsOfSession error.PieceLimit = Unit {0}
 IsOfSession error.HandleLimit = Unit {0}
 IsOfSession error.ReadFault = Unit {0}
 IsOfSession error.WriteFault = Unit {0}
 IsOfSession error.NoMemory = Unit {0}
-IsOfSession e = ⊥
+IsOfSession e = IsSome (refusal_of e)
 
 -- a result that the pieces decide: no fault, and no want of memory
 abbrev pub IsDecided : {T : Type 0} → Result T Error → Type 0
@@ -93,19 +89,19 @@ abbrev pub RepliedAtLeast : Setup → List Raw → Option Piece → Option Piece
 RepliedAtLeast setup messages old new = (held : Piece) → old ≡ Some held → (more : List ℕ) × (new ≡ Some (with_more (all_bytes (replies setup messages) ++ more) [] held))
 
 -- so many of the pieces told were taken, and they are a valid stream
-pub record ReadValid (told : List Piece) (left : Option (List Piece)) (messages : List Raw) : Type 0 where
+pub record ReadValid (setup : Setup) (told : List Piece) (left : Option (List Piece)) (messages : List Raw) : Type 0 where
   pub k : ℕ
   pub took : TookPieces told left k
-  pub valid : IsValid (stream (take k told))
-  pub messages_are : accepted (stream (take k told)) ≡ messages
+  pub valid : IsValid setup (stream (take k told))
+  pub messages_are : accepted setup (stream (take k told)) ≡ messages
 
 -- at a fault of the source the session was not over, and the messages of the pieces taken were handled
 pub record Handled (setup : Setup) (told : List Piece) (left : Option (List Piece)) (readings : Option (List ℕ)) (out_old out_new : List EisRequest) (took_old took_new : Option Piece) : Type 0 where
   pub k : ℕ
   pub took : TookPieces told left k
   pub goes_on : (j : ℕ) → 1 ≤ j → j ≤ k → is_over setup told j ≡ false
-  pub requests : HandsOut setup (accepted (stream (take k told))) readings out_old out_new
-  pub replies : Replied setup (accepted (stream (take k told))) took_old took_new
+  pub requests : HandsOut setup (accepted setup (stream (take k told))) readings out_old out_new
+  pub replies : Replied setup (accepted setup (stream (take k told))) took_old took_new
 
 -- cut short, the first messages of the session were handled, and a front of the replies to them went out
 pub record HandledInPart (setup : Setup) (messages : List Raw) (readings : Option (List ℕ)) (out_old out_new : List EisRequest) (took_old took_new : Option Piece) : Type 0 where
@@ -118,4 +114,4 @@ pub record HandledInPart (setup : Setup) (messages : List Raw) (readings : Optio
 pub record OwesLast (setup : Setup) (told : List Piece) (left : Option (List Piece)) (took_old took_new : Option Piece) : Type 0 where
   pub k : ℕ
   pub took : TookPieces told left k
-  pub replies : 0 < k → RepliedAtLeast setup (accepted (stream (take (k - 1) told))) took_old took_new
+  pub replies : 0 < k → RepliedAtLeast setup (accepted setup (stream (take (k - 1) told))) took_old took_new

@@ -1,7 +1,6 @@
 -- What a session stands for: the pieces that it took.
-use Rattle.std.specs.Prelude.{◌≡◌, ℕ, ◌≤◌, true, false, List, [], length}
+use Rattle.std.specs.Prelude.{◌≡◌, ℕ, ◌≤◌, ◌<◌, ◌^◌, true, false, List, [], length, is_some, codes}
 use Rattle.ei_spec.specs.declared.handle.Handle.{Handle}
-use Rattle.ei_spec.specs.declared.interface.KnownInterface.{KnownInterface}
 use Rattle.ei_spec.specs.declared.interface.KnownInterface.TheVariants as known
 use Rattle.ei_spec.specs.Interface.{Known, ObjectView}
 use Rattle.ei_spec.specs.Message.{Raw}
@@ -9,13 +8,16 @@ use Rattle.ei_spec.specs.Piece.{Piece, stream, handle_count}
 use Rattle.ei_spec.specs.Stream.{Waiting}
 use Rattle.ei_types.specs.Capability.{bits_of}
 use Rattle.ei_session.specs.Setup.{Setup}
-use Rattle.ei_session.specs.Handshake.{connected, settled, version}
-use Rattle.ei_session.specs.Session.{reading_of, accepted, is_over}
+use Rattle.ei_session.specs.Handshake.{connected, version}
+use Rattle.ei_session.specs.SettledMap.{settled_map}
+use Rattle.ei_session.specs.Objects.{object, handed_over}
+use Rattle.ei_session.specs.Serial.{serial}
+use Rattle.ei_session.specs.Refusals.{came}
+use Rattle.ei_session.specs.Guard.{reading_of, accepted, is_over}
 use Rattle.ei_backend.specs.Table.{TableView, new_table, first_server_id, own, with_own, without}
-use Rattle.ei_backend.specs.Outgoing.{Room}
-use Rattle.ei_backend.specs.Backend.{BackendView}
-use Rattle.ei_handshake.specs.Versions.{VersionMap}
-use Rattle.ei_handshake.specs.Handshaker.{HandshakerView, settled_in}
+use Rattle.ei_backend.specs.Endpoint.{Endpoint, endpoint_of}
+use Rattle.ei_backend.specs.Backend.{BackendView, new_backend}
+use Rattle.ei_handshake.specs.Handshaker.{HandshakerView}
 use Rattle.ei_request.specs.Converter.{ConverterView}
 use Rattle.ei_serve.specs.declared.phase.Phase.{Phase}
 use Rattle.ei_serve.specs.declared.phase.Phase.TheVariants as phase
@@ -49,37 +51,30 @@ seat_table v = with_own connection_table (Known known.Seat) v
 abbrev pub most_capacity : ℕ
 most_capacity = 2097152
 
--- how many bytes a ring holds, and how much may wait and how many own objects may be made without want of memory
-pub record Ring : Type 0 where
-  pub capacity : ℕ
-  pub most : capacity ≤ most_capacity
-  pub room : Room
-  pub places : ℕ
-
 -- an open endpoint over these objects that has nothing to send
-abbrev pub quiet : TableView → List ℕ → List Handle → Ring → BackendView
-quiet table unread handles ring = record { table = record table { room = ring.places }; unread = unread; handles = handles; unsent = []; unsent_handles = []; closed = false; capacity = ring.capacity; room = ring.room }
-
--- the versions are those that the messages settled
-abbrev pub AreSettled : VersionMap → List Raw → Type 0
-AreSettled versions past = (interface : KnownInterface) → settled_in versions interface ≡ settled past interface
+abbrev pub quiet : TableView → List ℕ → List Handle → Endpoint
+quiet table unread handles = record (endpoint_of (new_backend table)) { unread = unread; handles = handles }
 
 -- after these messages, with these bytes and handles unread, it shakes hands
 pub record ShakesHands (setup : Setup) (past : List Raw) (rest : List ℕ) (handles : List Handle) (b : BackendView) (h : HandshakerView) : Type 0 where
   pub unfinished : connected past ≡ false
-  pub ring : Ring
-  pub endpoint : b ≡ quiet handshake_table rest handles ring
+  pub in_range : setup.serial < 2 ^ 32
+  pub ring : b.capacity ≤ most_capacity
+  pub endpoint : endpoint_of b ≡ quiet handshake_table rest handles
   pub serial : h.serial ≡ setup.serial
-  pub versions : AreSettled h.versions past
+  pub versions : h.versions ≡ settled_map past
+  pub name : is_some h.name ≡ came (codes "name") past
+  pub context_type : is_some h.context_type ≡ came (codes "context_type") past
 
 -- or the connection stands
 pub record IsConnected (setup : Setup) (past : List Raw) (rest : List ℕ) (handles : List Handle) (c : ConverterView) : Type 0 where
   pub finished : connected past ≡ true
-  pub ring : Ring
-  pub endpoint : c.handle.ctx ≡ quiet (seat_table (version past known.Seat)) rest handles ring
+  pub objects : (id : ℕ) → object past id ≡ handed_over past id
+  pub ring : c.handle.ctx.capacity ≤ most_capacity
+  pub endpoint : endpoint_of c.handle.ctx ≡ quiet (seat_table (version past known.Seat)) rest handles
   pub proxy : c.handle.proxy ≡ connection_object
-  pub versions : AreSettled c.handle.negotiated past
-  pub serial : c.handle.last_serial ≡ setup.serial
+  pub versions : c.handle.negotiated ≡ settled_map past
+  pub serial : c.handle.last_serial ≡ serial setup past
   pub queue : c.queue ≡ []
 
 abbrev pub StandsAt : Setup → List Raw → List ℕ → List Handle → Phase → Type 0
@@ -100,9 +95,9 @@ capacity_in phase.Over = 0
 pub record Stands (setup : Setup) (pieces : List Piece) (s : Session) : Type 0 where
   pub started : setup_of s.setup ≡ setup
   pub goes_on : (k : ℕ) → 1 ≤ k → k ≤ length pieces → is_over setup pieces k ≡ false
-  pub waits : (reading_of (stream pieces)).stop ≡ Waiting
+  pub waits : (reading_of setup (stream pieces)).stop ≡ Waiting
   pub unread : List Handle
-  pub phase : StandsAt setup (accepted (stream pieces)) (reading_of (stream pieces)).rest unread s.phase
+  pub phase : StandsAt setup (accepted setup (stream pieces)) (reading_of setup (stream pieces)).rest unread s.phase
   pub handles : length unread ≡ handle_count pieces
   pub taken : s.taken ≡ length pieces
 

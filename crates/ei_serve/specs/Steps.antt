@@ -1,21 +1,28 @@
 -- What becomes of the message at the front.
-use Rattle.std.specs.Prelude.{◌≡◌, ℕ, true, false, List, [], ◌∷◌, ◌++◌, take, map, Option, Some, Result, Ok, Err}
+use Rattle.std.specs.Prelude.{◌≡◌, ℕ, true, false, ◌<◌, ◌≤◌, ◌^◌, List, [], ◌∷◌, ◌++◌, take, map, Option, Some, None, Result, Ok, Err}
 use Rattle.ei_spec.specs.declared.handle.Handle.{Handle}
 use Rattle.ei_spec.specs.Message.{Raw, Short, Unlawful, Whole, front, all_bytes}
 use Rattle.ei_spec.specs.Piece.{Piece}
 use Rattle.ei_spec.specs.Stream.{Accepted, Final, Refused, read}
 use Rattle.ei_session.specs.Setup.{Setup, connection_id}
 use Rattle.ei_session.specs.Handshake.{is_finish, settled}
-use Rattle.ei_session.specs.Built.{NotBuilt, judge}
-use Rattle.ei_session.specs.Framed.{framed}
-use Rattle.ei_session.specs.Replies.{replies, finish_events, settled_events, connection_event}
+use Rattle.ei_session.specs.SettledMap.{settled_map}
+use Rattle.ei_session.specs.Refusals.{Refusal}
+use Rattle.ei_session.specs.Requests.{framed}
+use Rattle.ei_session.specs.Replies.{finish_events, settled_events, connection_event}
+use Rattle.ei_session.specs.Events.{replies}
+use Rattle.ei_session.specs.Guard.{judge}
 use Rattle.ei_backend.specs.Outside.{with_more}
+use Rattle.ei_backend.specs.Endpoint.{Endpoint, endpoint_of}
 use Rattle.ei_backend.specs.Backend.{BackendView}
-use Rattle.ei_handshake.specs.Handshaker.{HandshakerView, sends}
+use Rattle.ei_handshake.specs.Handshaker.{HandshakerView}
 use Rattle.ei_handshake.specs.declared.server.EisHandshakeResp.{EisHandshakeResp}
-use Rattle.ei_request.specs.Converter.{ConverterView, asked_of}
-use Rattle.ei_request.specs.declared.event.EisRequest.{EisRequest}
+use Rattle.ei_request.specs.Connection.{ConnectionView, no_object_event}
+use Rattle.ei_request.specs.Converter.{ConverterView, asked_of, is_last}
+use Rattle.ei_request.specs.Converter as converter
 use Rattle.ei_request.specs.declared.event.EisRequest.TheVariants as asked
+use Rattle.ei_server.specs.declared.request.Request.{Request}
+use Rattle.ei_request.specs.declared.event.EisRequest.{EisRequest}
 use Rattle.ei_types.specs.declared.error.Error.{Error}
 use Rattle.ei_types.specs.declared.error.Error.TheVariants as error
 use Rattle.ei_wire.specs.declared.error.ParseError.TheVariants as parse_error
@@ -25,13 +32,22 @@ use Rattle.ei_serve.specs.declared.phase.Phase.{Phase}
 use Rattle.ei_serve.specs.declared.phase.Phase.TheVariants as phase
 use Rattle.ei_serve.specs.declared.phase.Step.{Step}
 use Rattle.ei_serve.specs.declared.phase.Step.TheVariants as step
-use Rattle.ei_serve.specs.Standing.{StandsAt, ShakesHands, IsConnected, AreSettled, Ring, quiet, connection_object, connection_table}
+use Rattle.ei_serve.specs.Refusing.{refusal_of}
+use Rattle.ei_serve.specs.Standing.{StandsAt, ShakesHands, IsConnected, most_capacity, quiet, connection_object, connection_table}
 
 -- ---- what a session gives and answers
 
 -- the requests grew by those that the messages reached give beyond those before
 abbrev pub Gives : Setup → List Raw → List Raw → List EisRequest → List EisRequest → Type 0
 Gives setup before reached old new = (more : List EisRequest) × (new ≡ old ++ more) × ((readings : List ℕ) → framed setup readings reached ≡ framed setup readings before ++ map asked_of more)
+
+-- a sink that told what it held has these messages behind that
+abbrev pub IsTold : List Raw → Option Piece → Option Piece → Type 0
+IsTold messages old new = (held : Piece) → old ≡ Some held → new ≡ Some (with_more (all_bytes messages) [] held)
+
+-- or only a front of their bytes
+abbrev pub IsToldInPart : List Raw → Option Piece → Option Piece → Type 0
+IsToldInPart messages old new = (held : Piece) → old ≡ Some held → (n : ℕ) × (new ≡ Some (with_more (take n (all_bytes messages)) [] held))
 
 -- a sink that told what it held has the further replies behind that
 abbrev pub Replies : Setup → List Raw → List Raw → Option Piece → Option Piece → Type 0
@@ -57,39 +73,48 @@ pub record GoesInPart (setup : Setup) (before last : List Raw) (out_old out_new 
 
 -- broken off on the way to the last message of these bytes that can be handled
 abbrev pub Breaks : Setup → List Raw → List ℕ → List EisRequest → List EisRequest → Option Piece → Option Piece → Type 0
-Breaks setup before rest out_old out_new took_old took_new = GoesInPart setup before (read judge before rest).past out_old out_new took_old took_new
+Breaks setup before rest out_old out_new took_old took_new = GoesInPart setup before (read (judge setup) before rest).past out_old out_new took_old took_new
 
 -- ---- one message
 
+-- the message at the front is whole, and refused so
+abbrev pub RefusesFront : Setup → List Raw → List ℕ → Option Refusal → Type 0
+RefusesFront setup past rest None = ⊥
+RefusesFront setup past rest (Some refusal) = (m : Raw) × (after : List ℕ) × (front rest ≡ Whole m after) × (judge setup past m ≡ Refused refusal)
+
 -- how the message at the front is refused
-abbrev pub Refuses : List Raw → List ℕ → Error → Type 0
-Refuses past rest (error.Parse (parse_error.HeaderLength n)) = front rest ≡ Unlawful n
-Refuses past rest error.NotBuilt = (m : Raw) × (after : List ℕ) × (front rest ≡ Whole m after) × (judge past m ≡ Refused NotBuilt)
-Refuses past rest error.NoMemory = Unit {0}
-Refuses past rest e = ⊥
+abbrev pub Refuses : Setup → List Raw → List ℕ → Error → Type 0
+Refuses setup past rest (error.Parse (parse_error.HeaderLength n)) = front rest ≡ Unlawful n
+Refuses setup past rest error.NoMemory = Unit {0}
+Refuses setup past rest e = RefusesFront setup past rest (refusal_of e)
+
+-- an endpoint that has nothing but these messages to send
+abbrev pub with_unsent : List Raw → Endpoint → Endpoint
+with_unsent messages e = record e { unsent = all_bytes messages }
 
 -- what the handshake answers at a finish that is taken: the connection, and the events that hand it over
 pub record HandsOver (setup : Setup) (before : List Raw) (after : List ℕ) (handles : List Handle) (resp : EisHandshakeResp) (b : BackendView) : Type 0 where
   pub connection : resp.connection ≡ connection_object
-  pub versions : AreSettled resp.negotiated_interfaces before
-  pub ring : Ring
-  pub endpoint : b ≡ sends (quiet connection_table after handles ring) (settled_events 0 (settled before) ++ connection_event 0 setup.serial connection_id ∷ [])
+  pub versions : resp.negotiated_interfaces ≡ settled_map before
+  pub in_range : setup.serial < 2 ^ 32
+  pub ring : b.capacity ≤ most_capacity
+  pub endpoint : endpoint_of b ≡ with_unsent (settled_events 0 (settled before) ++ connection_event 0 setup.serial connection_id ∷ []) (quiet connection_table after handles)
 
 -- what becomes of the message at the front during the handshake
 abbrev pub Shakes : Setup → List Raw → List ℕ → List Handle → Result Shaken Error → BackendView → HandshakerView → Type 0
 Shakes setup past rest handles (Ok shaken.Waiting) b h = (front rest ≡ Short) × ShakesHands setup past rest handles b h
-Shakes setup past rest handles (Ok shaken.Handled) b h = (m : Raw) × (after : List ℕ) × (front rest ≡ Whole m after) × (judge past m ≡ Accepted) × (is_finish m ≡ false) × ShakesHands setup (m ∷ past) after handles b h
-Shakes setup past rest handles (Ok (shaken.Complete resp)) b h = (m : Raw) × (after : List ℕ) × (front rest ≡ Whole m after) × (judge past m ≡ Accepted) × (is_finish m ≡ true) × HandsOver setup past after handles resp b
-Shakes setup past rest handles (Err e) b h = Refuses past rest e
+Shakes setup past rest handles (Ok shaken.Handled) b h = (m : Raw) × (after : List ℕ) × (front rest ≡ Whole m after) × (judge setup past m ≡ Accepted) × (is_finish m ≡ false) × ShakesHands setup (m ∷ past) after handles b h
+Shakes setup past rest handles (Ok (shaken.Complete resp)) b h = (m : Raw) × (after : List ℕ) × (front rest ≡ Whole m after) × (judge setup past m ≡ Accepted) × (is_finish m ≡ true) × HandsOver setup past after handles resp b
+Shakes setup past rest handles (Err e) b h = Refuses setup past rest e
 
 -- the sink took all the events that answer the finish, or a front of them
 abbrev pub TellsFinish : Setup → List Raw → Option Piece → Option Piece → Type 0
-TellsFinish setup before old new = (held : Piece) → old ≡ Some held → new ≡ Some (with_more (all_bytes (finish_events setup before)) [] held)
+TellsFinish setup before old new = IsTold (finish_events setup before) old new
 
 abbrev pub TellsFinishInPart : Setup → List Raw → Option Piece → Option Piece → Type 0
-TellsFinishInPart setup before old new = (held : Piece) → old ≡ Some held → (n : ℕ) × (new ≡ Some (with_more (take n (all_bytes (finish_events setup before))) [] held))
+TellsFinishInPart setup before old new = IsToldInPart (finish_events setup before) old new
 
--- how the connection can't be told
+-- how a sink can't be told
 abbrev pub IsCutOff : Error → Type 0
 IsCutOff error.WriteFault = Unit {0}
 IsCutOff error.NoMemory = Unit {0}
@@ -100,12 +125,17 @@ abbrev pub Connects : Setup → List Raw → Raw → List ℕ → List Handle �
 Connects setup before finish after handles (Ok c) old new = IsConnected setup (finish ∷ before) after handles c × TellsFinish setup before old new
 Connects setup before finish after handles (Err e) old new = IsCutOff e × TellsFinishInPart setup before old new
 
--- what becomes of the message at the front of the connection: nothing but a disconnect is taken, and it is handed out
-abbrev pub Converses : Setup → List Raw → List ℕ → List Handle → Result Step Error → ConverterView → List EisRequest → List EisRequest → Type 0
-Converses setup past rest handles (Ok step.Waiting) c old new = (front rest ≡ Short) × IsConnected setup past rest handles c × (new ≡ old)
-Converses setup past rest handles (Ok step.Handled) c old new = ⊥
-Converses setup past rest handles (Ok step.Disconnect) c old new = (m : Raw) × (after : List ℕ) × (front rest ≡ Whole m after) × (judge past m ≡ Final) × (new ≡ old ++ asked.Disconnect ∷ [])
-Converses setup past rest handles (Err e) c old new = Refuses past rest e × (new ≡ old)
+-- a connection that had nothing to send told the sink that no object has the id, or was cut off
+abbrev pub TellsNoObject : ConnectionView → ℕ → Result Unit Error → ConnectionView → Option Piece → Option Piece → Type 0
+TellsNoObject c id (Ok x) new old_took new_took = (new ≡ c) × IsTold (no_object_event c id ∷ []) old_took new_took
+TellsNoObject c id (Err e) new old_took new_took = IsCutOff e × IsToldInPart (no_object_event c id ∷ []) old_took new_took
+
+-- a disconnect was taken and handed out; any other request is refused
+abbrev pub TakesRequest : Request → Result Step Error → List EisRequest → List EisRequest → Type 0
+TakesRequest r (Ok step.Waiting) old new = ⊥
+TakesRequest r (Ok step.Handled) old new = ⊥
+TakesRequest r (Ok step.Disconnect) old new = (is_last r ≡ true) × (new ≡ old ++ asked.Disconnect ∷ [])
+TakesRequest r (Err e) old new = converter.Refuses r e × (new ≡ old)
 
 -- the same of a phase that shakes hands still
 abbrev pub HandsOverIn : Setup → List Raw → List ℕ → List Handle → EisHandshakeResp → Phase → Type 0
@@ -121,11 +151,11 @@ ConnectsPhase setup before finish after handles (Err e) p old new = IsCutOff e �
 abbrev pub RefusesStep : Setup → List Raw → List ℕ → Error → List EisRequest → List EisRequest → Option Piece → Option Piece → Type 0
 RefusesStep setup past rest error.WriteFault out_old out_new took_old took_new = Breaks setup past rest out_old out_new took_old took_new
 RefusesStep setup past rest error.NoMemory out_old out_new took_old took_new = Breaks setup past rest out_old out_new took_old took_new
-RefusesStep setup past rest e out_old out_new took_old took_new = Refuses past rest e × Goes setup past past out_old out_new took_old took_new
+RefusesStep setup past rest e out_old out_new took_old took_new = Refuses setup past rest e × Goes setup past past out_old out_new took_old took_new
 
 -- what becomes of the message at the front, in either phase
 abbrev pub Steps : Setup → List Raw → List ℕ → List Handle → Result Step Error → Phase → List EisRequest → List EisRequest → Option Piece → Option Piece → Type 0
 Steps setup past rest handles (Ok step.Waiting) p out_old out_new took_old took_new = (front rest ≡ Short) × StandsAt setup past rest handles p × Goes setup past past out_old out_new took_old took_new
-Steps setup past rest handles (Ok step.Handled) p out_old out_new took_old took_new = (m : Raw) × (after : List ℕ) × (front rest ≡ Whole m after) × (judge past m ≡ Accepted) × StandsAt setup (m ∷ past) after handles p × Goes setup past (m ∷ past) out_old out_new took_old took_new
-Steps setup past rest handles (Ok step.Disconnect) p out_old out_new took_old took_new = (m : Raw) × (after : List ℕ) × (front rest ≡ Whole m after) × (judge past m ≡ Final) × Goes setup past (m ∷ past) out_old out_new took_old took_new
+Steps setup past rest handles (Ok step.Handled) p out_old out_new took_old took_new = (m : Raw) × (after : List ℕ) × (front rest ≡ Whole m after) × (judge setup past m ≡ Accepted) × StandsAt setup (m ∷ past) after handles p × Goes setup past (m ∷ past) out_old out_new took_old took_new
+Steps setup past rest handles (Ok step.Disconnect) p out_old out_new took_old took_new = (m : Raw) × (after : List ℕ) × (front rest ≡ Whole m after) × (judge setup past m ≡ Final) × Goes setup past (m ∷ past) out_old out_new took_old took_new
 Steps setup past rest handles (Err e) p out_old out_new took_old took_new = RefusesStep setup past rest e out_old out_new took_old took_new

@@ -4,7 +4,7 @@ use Rattle.ei_spec.specs.declared.handle.Handle.{Handle}
 use Rattle.ei_spec.specs.Message.{Raw}
 use Rattle.ei_spec.specs.Piece.{Piece, stream, handle_count}
 use Rattle.ei_session.specs.Setup.{Setup}
-use Rattle.ei_session.specs.Session.{reading_of, accepted}
+use Rattle.ei_session.specs.Guard.{reading_of, accepted}
 use Rattle.ei_backend.specs.Incoming.{IsFirst, Fits, Overflows}
 use Rattle.ei_types.specs.Errors.{error_of_read}
 use Rattle.ei_types.specs.declared.error.Error.{Error}
@@ -45,7 +45,7 @@ pub record Holds (setup : Setup) (pieces : List Piece) (piece : Piece) (s : Sess
   pub started : setup_of s.setup ≡ setup
   pub room : length pieces < setup.pieces
   pub unread : List Handle
-  pub phase : StandsAt setup (accepted (stream pieces)) ((reading_of (stream pieces)).rest ++ piece.bytes) unread s.phase
+  pub phase : StandsAt setup (accepted setup (stream pieces)) ((reading_of setup (stream pieces)).rest ++ piece.bytes) unread s.phase
   pub handles : length unread ≡ handle_count (with_next pieces piece)
   pub few : handle_count (with_next pieces piece) ≤ MOST_UNREAD_HANDLES
   pub taken : s.taken ≡ length pieces + 1

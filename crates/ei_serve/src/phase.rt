@@ -155,7 +155,7 @@ impl Phase {
                     Ok(Step::Handled)
                 }
             },
-            Phase::Connected(converter) => converse(converter, clock, out),
+            Phase::Connected(converter) => converse(converter, sink, clock, out),
             Phase::Over => Ok(Step::Waiting),
         }
     }

@@ -1,7 +1,7 @@
 //! A whole session.
 
 ghost use Rattle.std.specs.Prelude.{◌≡◌, ◌≤◌, ◌+◌, ℕ, List, Some, IsErrOf, IfErr, OnOk};
-ghost use Rattle.ei_session.specs.Session.{session};
+ghost use Rattle.ei_session.specs.Guard.{session};
 ghost use Rattle.ei_types.specs.declared.error.Error.TheVariants as error;
 ghost use Rattle.ei_backend.specs.Outside.{Piece, Rose};
 ghost use Rattle.ei_backend.specs.declared.outside.LastAnswer.TheVariants as answers;
@@ -34,7 +34,7 @@ pub fn serve<S: Source, K: Sink, C: Clock>(
     ensures replies { (told : List Piece) → S.left source.old ≡ Some told → IsDecided result →
         Replied (setup_of setup) (session (setup_of setup) told).handled (K.taken sink.old) (K.taken sink.new) }
     ensures valid { (told : List Piece) → S.left source.old ≡ Some told →
-        OnOk result (ReadValid told (S.left source.new) (session (setup_of setup) told).handled) }
+        OnOk result (ReadValid (setup_of setup) told (S.left source.new) (session (setup_of setup) told).handled) }
     ensures pieces { (told : List Piece) → S.left source.old ≡ Some told →
         (k : ℕ) × (k ≤ setup.pieces + 1) × TookPieces told (S.left source.new) k }
     // where the source failed, or the session was cut short

@@ -1,9 +1,7 @@
 -- The least number, as a loop finds it.
-use Rattle.std.proofs.Common.{◌≡◌, ℕ, zero, suc, ◌+◌, ◌<◌, ◌≤◌, Bool, true, false, List, length, Some, None, refl, ap, ◌∙◌, arith, inl, inr}
+use Rattle.std.proofs.Common.{◌≡◌, ℕ, zero, suc, ◌+◌, ◌<◌, ◌≤◌, Bool, true, false, Some, None, refl, ap, ◌∙◌, arith, inl, inr}
 use Rattle.std.proofs.lemmas.Bool.{cases_lt}
-use Rattle.ei_spec.specs.Piece.{Piece}
-use Rattle.ei_session.specs.Session.{least, session, over_at, is_over, read_first, at_end}
-use Rattle.ei_session.specs.Setup.{Setup}
+use Rattle.ei_session.specs.Served.{least}
 
 pub least_none : (test : ℕ → Bool) (k n : ℕ) → ((j : ℕ) → k ≤ j → j < k + n → test j ≡ false) → least test k n ≡ None
 unfolding least
@@ -22,12 +20,3 @@ least_from test m passes (suc n) k low high h =
 
 pub least_some : (test : ℕ → Bool) (k n m : ℕ) → k ≤ m → m < k + n → ((j : ℕ) → k ≤ j → j < m → test j ≡ false) → test m ≡ true → least test k n ≡ Some m
 least_some test k n m low high h passes = least_from test m passes n k low high h
-
--- how a loop over pieces ends
-pub session_over : (setup : Setup) (pieces : List Piece) (m : ℕ) → 1 ≤ m → m ≤ length pieces → ((j : ℕ) → 1 ≤ j → j < m → is_over setup pieces j ≡ false) → is_over setup pieces m ≡ true → session setup pieces ≡ over_at setup pieces m
-unfolding session
-session_over setup pieces m low high h passes = rw (least_some (is_over setup pieces) 1 (length pieces) m low (omega arith) h passes, session) refl
-
-pub session_end : (setup : Setup) (pieces : List Piece) → ((j : ℕ) → 1 ≤ j → j ≤ length pieces → is_over setup pieces j ≡ false) → session setup pieces ≡ at_end (read_first pieces (length pieces)).past
-unfolding session
-session_end setup pieces h = rw (least_none (is_over setup pieces) 1 (length pieces) (λ j a b. h j a (omega arith)), session) refl

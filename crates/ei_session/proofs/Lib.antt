@@ -1,7 +1,5 @@
 pub mod Least
 pub mod OneMore
-pub mod Parts
-pub mod WorkedRows
 pub mod AllOpen
 pub mod AllParts
 pub mod Choices
@@ -24,7 +22,7 @@ pub mod NewCallbacks
 pub mod WaitingLaws
 pub mod MadeLaws
 pub mod RefusalLaws
-pub mod BuiltLaws
+pub mod GuardLaws
 pub mod AskedRows
 pub mod RowsMean
 pub mod ReadsMean

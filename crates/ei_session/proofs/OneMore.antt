@@ -1,20 +1,11 @@
 -- What one more message changes.
-use Rattle.std.proofs.Common.{◌≡◌, ℕ, min, Bool, true, false, not, cond, ◌&&◌, ◌||◌, List, [], ◌∷◌, ◌++◌, Option, Some, None, refl, ap, sym, ◌∙◌}
+use Rattle.std.proofs.Common.{◌≡◌, ℕ, min, Bool, true, false, cond, ◌||◌, List, [], ◌∷◌, Option, Some, None, refl, ap}
 use Rattle.std.specs.Option.{option_map}
-use Rattle.std.proofs.lemmas.List.{append-nil}
 use Rattle.ei_spec.specs.declared.interface.KnownInterface.{KnownInterface}
 use Rattle.ei_spec.specs.Interface.{name_of, server_version}
 use Rattle.ei_spec.specs.Message.{Raw}
-use Rattle.ei_spec.specs.Stream.{Verdict, Accepted, Final, Refused}
-use Rattle.ei_spec.specs.History.{last_said, each}
-use Rattle.ei_spec.specs.Groups.{Slot, gives, Plain, Free}
 use Rattle.ei_spec.proofs.HistoryLaws.{occurs_or, said_now, said_before}
-use Rattle.ei_session.specs.Setup.{Setup}
-use Rattle.ei_session.specs.Handshake.{is_finish, connected, is_the_finish, announced, announces, version_if, settled}
-use Rattle.ei_session.specs.Built.{Refusal, NotBuilt, is_built, is_built_before, is_disconnect, is_last, refusal, judge, verdict}
-use Rattle.ei_session.specs.Framed.{item, slot, framed, Disconnect}
-use Rattle.ei_session.specs.Replies.{reply, replies, finish_events}
-use Rattle.ei_session.proofs.Parts.{framed_more, replies_more}
+use Rattle.ei_session.specs.Handshake.{is_finish, connected, announced, announces, version_if, settled}
 
 pub connected_more : (before : List Raw) (m : Raw) → connected (m ∷ before) ≡ (is_finish m || connected before)
 unfolding connected
@@ -37,53 +28,3 @@ pub settled_more : (before : List Raw) (m : Raw) (interface : KnownInterface) �
     settled (m ∷ before) interface ≡ version_then interface (version_if (name_of interface) (announced m)) (settled before interface)
 unfolding announces
 settled_more before m interface e = settled_says before m interface (version_if (name_of interface) (announced m)) (rw (e, announces) refl)
-
--- ---- the verdict
-
-pub judged_before : (before : List Raw) (m : Raw) → connected before ≡ false → judge before m ≡ verdict (cond (is_built_before before m) None (Some NotBuilt)) false
-unfolding judge refusal is_built is_last
-judged_before before m e = rw (e, judge) refl
-
-pub judged_after : (before : List Raw) (m : Raw) → connected before ≡ true → judge before m ≡ verdict (cond (is_disconnect m) None (Some NotBuilt)) (is_disconnect m)
-unfolding judge refusal is_built is_last
-judged_after before m e = rw (e, judge) refl
-
-pub accepts : (before : List Raw) (m : Raw) → connected before ≡ false → is_built_before before m ≡ true → judge before m ≡ Accepted
-accepts before m e b = judged_before before m e ∙ ap (λ x. verdict (cond x None (Some NotBuilt)) false) b
-
-pub refuses : (before : List Raw) (m : Raw) → connected before ≡ false → is_built_before before m ≡ false → judge before m ≡ Refused NotBuilt
-refuses before m e b = judged_before before m e ∙ ap (λ x. verdict (cond x None (Some NotBuilt)) false) b
-
-pub ends : (before : List Raw) (m : Raw) → connected before ≡ true → is_disconnect m ≡ true → judge before m ≡ Final
-ends before m e b = judged_after before m e ∙ ap (λ x. verdict (cond x None (Some NotBuilt)) x) b
-
-pub refuses_after : (before : List Raw) (m : Raw) → connected before ≡ true → is_disconnect m ≡ false → judge before m ≡ Refused NotBuilt
-refuses_after before m e b = judged_after before m e ∙ ap (λ x. verdict (cond x None (Some NotBuilt)) x) b
-
--- ---- requests
-
-pub framed_quiet : (setup : Setup) (readings : List ℕ) (before : List Raw) (m : Raw) → is_last before m ≡ false → framed setup readings (m ∷ before) ≡ framed setup readings before
-unfolding slot item gives
-framed_quiet setup readings before m e =
-    let none : gives readings (each (slot setup) before) (slot setup before m) ≡ [] = rw (e, gives) refl in
-    framed_more setup readings before m ∙ ap (λ (x : List _). framed setup readings before ++ x) none ∙ append-nil (framed setup readings before)
-
-pub framed_last : (setup : Setup) (readings : List ℕ) (before : List Raw) (m : Raw) → is_last before m ≡ true → framed setup readings (m ∷ before) ≡ framed setup readings before ++ (Plain Disconnect ∷ [])
-unfolding slot item gives
-framed_last setup readings before m e =
-    let one : gives readings (each (slot setup) before) (slot setup before m) ≡ Plain Disconnect ∷ [] = rw (e, gives) refl in
-    framed_more setup readings before m ∙ ap (λ (x : List _). framed setup readings before ++ x) one
-
--- ---- replies
-
-pub replies_quiet : (setup : Setup) (before : List Raw) (m : Raw) → is_the_finish before m ≡ false → replies setup (m ∷ before) ≡ replies setup before
-unfolding reply
-replies_quiet setup before m e =
-    let none : reply setup before m ≡ [] = rw (e, reply) refl in
-    replies_more setup before m ∙ ap (λ (x : List Raw). replies setup before ++ x) none ∙ append-nil (replies setup before)
-
-pub replies_finish : (setup : Setup) (before : List Raw) (m : Raw) → is_the_finish before m ≡ true → replies setup (m ∷ before) ≡ replies setup before ++ finish_events setup before
-unfolding reply
-replies_finish setup before m e =
-    let all : reply setup before m ≡ finish_events setup before = rw (e, reply) refl in
-    replies_more setup before m ∙ ap (λ (x : List Raw). replies setup before ++ x) all

@@ -13,7 +13,7 @@ use Rattle.ei_spec.specs.Message.{Raw, size}
 use Rattle.ei_session.specs.Setup.{Setup}
 use Rattle.ei_session.specs.Arguments.{whole, row_args, request_args, body_of}
 use Rattle.ei_session.specs.Asked.{asked, asks, first}
-use Rattle.ei_session.specs.Built.{all_settled}
+use Rattle.ei_session.specs.Handshake.{all_settled}
 use Rattle.ei_session.specs.Inputs.{ScrollStop as Stopped, ScrollCancel as Cancelled, TextUtf8, scroll_end}
 use Rattle.ei_session.specs.Meaning.{Meaning, Asks, Greeting, Finish, ContextType, Name, InterfaceVersion, Sync, Disconnect, Pong, SeatRelease, Bind}
 use Rattle.ei_session.specs.Meaning.{RequestDevice, DeviceRelease, Start, Stop, Frame, Ready, PointerRelease, MotionRelative, PointerAbsoluteRelease}

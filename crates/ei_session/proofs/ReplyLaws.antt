@@ -8,7 +8,8 @@ use Rattle.ei_spec.specs.declared.interface.KnownInterface.TheVariants as known
 use Rattle.ei_spec.specs.Value.{Word, Long}
 use Rattle.ei_spec.specs.Message.{Raw}
 use Rattle.ei_session.specs.Setup.{Setup, connection_id, seat_id}
-use Rattle.ei_session.specs.Asked.{asked, asks, event}
+use Rattle.ei_session.specs.Arguments.{event}
+use Rattle.ei_session.specs.Asked.{asked, asks}
 use Rattle.ei_session.specs.Handshake.{connected, is_the_finish, version}
 use Rattle.ei_session.specs.Replies.{finish_events}
 use Rattle.ei_session.specs.Devices.{seat_is_open, made, interfaces_of, next_id, exhausts}

@@ -1,12 +1,12 @@
--- The arguments of requests and the events, by their names in the table of all messages.
+-- The arguments of requests, by their names in the table of all messages.
 use Rattle.std.specs.Prelude.{ℕ, Bool, true, false, List, Option, Some, None, is_some, ◌==◌, if◌then◌else◌}
 use Rattle.ei_spec.specs.declared.interface.KnownInterface.{KnownInterface}
 use Rattle.ei_spec.specs.Value.{Value}
 pub use Rattle.ei_spec.specs.FromValues.{first, none, one, two, three, long, text}
 use Rattle.ei_spec.specs.Rows.{Row, row_named}
 use Rattle.ei_spec.specs.Table.{table}
-use Rattle.ei_spec.specs.Message.{Raw, message}
-use Rattle.ei_session.specs.Arguments.{row_args, opcode_of}
+use Rattle.ei_spec.specs.Message.{Raw}
+use Rattle.ei_session.specs.Arguments.{row_args}
 
 -- the arguments of a message, where it has the opcode of the row and its body spells them and nothing else
 abbrev pub args_by : Option (ℕ × Row) → Raw → Option (List Value)
@@ -20,7 +20,3 @@ asked interface name m = args_by (row_named name (table false interface)) m
 -- whether the message is that request
 unfoldable pub asks : KnownInterface → List ℕ → Raw → Bool
 asks interface name m = is_some (asked interface name m)
-
--- the event of that name, sent to an object of the interface
-abbrev pub event : KnownInterface → List ℕ → ℕ → List Value → Raw
-event interface name id values = message id (opcode_of (row_named name (table true interface))) values

@@ -8,7 +8,7 @@ use Rattle.ei_spec.specs.Reading.{InvalidId}
 use Rattle.ei_spec.specs.Message.{Raw}
 use Rattle.ei_spec.specs.Groups.{Frame, Other, Free}
 use Rattle.ei_session.specs.Setup.{Setup}
-use Rattle.ei_session.specs.Built.{all_settled}
+use Rattle.ei_session.specs.Handshake.{all_settled}
 use Rattle.ei_session.specs.Inputs.{Input, TextUtf8}
 use Rattle.ei_session.specs.Meaning.{Shake, Finishes, TellsContext, TellsName, Meaning, Shakes, Syncs, Disconnects, Pongs, ReleasesSeat, Binds, RequestsDevice}
 use Rattle.ei_session.specs.Meaning.{Closes, Starts, Stops, Frames, Readies, Releases, Inputs}

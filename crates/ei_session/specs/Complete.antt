@@ -5,8 +5,7 @@ use Rattle.ei_spec.specs.Stream.{Stop, Ended}
 use Rattle.ei_spec.specs.Piece.{Piece, stream, handle_count}
 use Rattle.ei_session.specs.Setup.{Setup}
 use Rattle.ei_session.specs.Refusals.{Refusal}
-use Rattle.ei_session.specs.Session.{least}
-use Rattle.ei_session.specs.Served.{ran_out, read_first, IsValid}
+use Rattle.ei_session.specs.Served.{ran_out, least, read_first, IsValid}
 use Rattle.ei_spec.specs.declared.limits.TheConstants.{MOST_UNREAD_HANDLES}
 
 -- whether reading stopped so at a disconnect of the client

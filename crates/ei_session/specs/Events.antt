@@ -1,4 +1,4 @@
--- The events that a server answers all requests by.
+-- The events that a server answers messages by.
 use Rattle.std.specs.Prelude.{◌≡◌, ◌⊎◌, ℕ, ◌+◌, ◌%◌, ◌^◌, true, List, [], ◌∷◌, ◌++◌, Option, Some, None, is_some, codes, if◌then◌else◌}
 use Rattle.ei_spec.specs.declared.interface.KnownInterface.{KnownInterface}
 use Rattle.ei_spec.specs.declared.interface.KnownInterface.TheVariants as known
@@ -7,7 +7,7 @@ use Rattle.ei_spec.specs.Value.{Word, Long, Letters}
 use Rattle.ei_spec.specs.Message.{Raw}
 use Rattle.ei_spec.specs.History.{joined}
 use Rattle.ei_session.specs.Setup.{Setup, connection_id, seat_id}
-use Rattle.ei_session.specs.Asked.{event}
+use Rattle.ei_session.specs.Arguments.{event}
 use Rattle.ei_session.specs.Handshake.{connected, is_the_finish, version}
 use Rattle.ei_session.specs.Replies.{connection_event, seat_event, finish_events, greeting}
 use Rattle.ei_session.specs.Devices.{interfaces_of, made, next_id, exhausts}

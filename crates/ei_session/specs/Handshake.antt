@@ -1,6 +1,7 @@
 -- The handshake, told by the messages before a position, the newest first.
 use Rattle.std.specs.Prelude.{ℕ, min, Bool, true, false, not, ◌&&◌, List, [], ◌∷◌, Option, Some, None, is_some, unwrap_or, ◌==◌, if◌then◌else◌}
 use Rattle.std.specs.Option.{option_map}
+use Rattle.std.specs.List.{list_all}
 use Rattle.std.specs.Str.{bytes_eq}
 use Rattle.ei_spec.specs.declared.interface.KnownInterface.{KnownInterface}
 use Rattle.ei_spec.specs.declared.interface.KnownInterface.TheVariants as known
@@ -52,3 +53,13 @@ settled before interface = option_map (min (server_version interface)) (last_sai
 -- the version in which objects of the interface are made
 unfoldable pub version : List Raw → KnownInterface → ℕ
 version before interface = unwrap_or (settled before interface) 1
+
+-- ---- what a client must announce
+
+-- the interfaces that it must announce before its finish
+abbrev pub required : List KnownInterface
+required = known.Connection ∷ known.Callback ∷ known.Pingpong ∷ []
+
+-- whether each of them is settled
+unfoldable pub all_settled : List Raw → Bool
+all_settled before = list_all (λ interface. is_some (settled before interface)) required

@@ -1,10 +1,7 @@
 pub mod Setup
 pub mod Arguments
 pub mod Handshake
-pub mod Built
-pub mod Framed
 pub mod Replies
-pub mod Session
 pub mod Asked
 pub mod Inputs
 pub mod Meaning
@@ -19,6 +16,7 @@ pub mod Events
 pub mod AnsweredByMeaning
 pub mod Kept
 pub mod Served
+pub mod Guard
 pub mod Told
 pub mod Complete
 pub mod NextIds

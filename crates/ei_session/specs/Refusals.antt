@@ -19,7 +19,7 @@ use Rattle.ei_session.specs.Setup.{Setup, connection_id}
 use Rattle.ei_session.specs.Arguments.{body_of}
 use Rattle.ei_session.specs.Asked.{asked, asks, first, text}
 use Rattle.ei_session.specs.Handshake.{connected}
-use Rattle.ei_session.specs.Built.{all_settled}
+use Rattle.ei_session.specs.Handshake.{all_settled}
 use Rattle.ei_session.specs.Inputs.{TouchDown, TouchCancel, DeviceInput}
 use Rattle.ei_session.specs.Devices.{asked_mask, exhausts}
 use Rattle.ei_session.specs.Objects.{Entry, object}
@@ -32,6 +32,8 @@ pub data Refusal : Type 0 where
   Handshake : (error : HandshakeError) → Refusal
   InvalidInterfaceVersion : (interface : List ℕ) → (version : ℕ) → Refusal
   Request : (error : RequestError) → Refusal
+  -- the server isn't built for the message: by the guard alone, never by the judge
+  NotBuilt : Refusal
 
 -- ---- what can't be read
 

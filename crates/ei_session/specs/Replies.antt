@@ -1,4 +1,4 @@
--- The events that a server answers messages by.
+-- The events of a handshake, and those that hand over the connection and its seat.
 use Rattle.std.specs.Prelude.{ℕ, Bool, true, false, ◌&&◌, List, [], ◌∷◌, ◌++◌, Option, Some, None, is_some, codes, if◌then◌else◌}
 use Rattle.std.specs.Option.{option_map}
 use Rattle.std.specs.List.{filter_map}
@@ -7,11 +7,10 @@ use Rattle.ei_spec.specs.declared.interface.KnownInterface.TheVariants as known
 use Rattle.ei_spec.specs.Interface.{name_of, the_twelve}
 use Rattle.ei_spec.specs.Value.{Value, Word, Long, Letters}
 use Rattle.ei_spec.specs.Message.{Raw, message}
-use Rattle.ei_spec.specs.History.{joined}
 use Rattle.ei_types.specs.Capability.{capabilities, has_bit}
 use Rattle.ei_session.specs.Setup.{Setup, connection_id, seat_id}
 use Rattle.ei_session.specs.Arguments.{event}
-use Rattle.ei_session.specs.Handshake.{is_the_finish, settled, version}
+use Rattle.ei_session.specs.Handshake.{settled, version}
 
 -- ---- single events
 
@@ -62,14 +61,6 @@ finish_events setup before =
     ∷ (capability_events seat_id setup.capabilities (λ interface. is_some (settled before interface))
     ++ (done_event seat_id ∷ [])))
 
--- the events that answer a message
-unfoldable pub reply : Setup → List Raw → Raw → List Raw
-reply setup before m = if is_the_finish before m then finish_events setup before else []
-
 -- the first event, before any message
 abbrev pub greeting : Raw
 greeting = greeting_to 0
-
--- all events, the oldest first
-unfoldable pub replies : Setup → List Raw → List Raw
-replies setup raws = greeting ∷ joined (reply setup) raws

@@ -1,4 +1,4 @@
-//! The laws of the definitions for all requests. Each function does nothing: its clauses are the laws.
+//! The laws of the definitions. Each function does nothing: its clauses are the laws.
 
 ghost use Rattle.std.specs.Prelude.{◌≡◌, ◌≢◌, ◌≤◌, ◌<◌, ◌+◌, ◌%◌, ◌^◌, ◌++◌, ◌==◌, ◌&&◌, ◌||◌, ◌⊎◌, ℕ, ℤ, List, [], ◌∷◌, Bool, true, false, Option, Some, None};
 ghost use Rattle.std.specs.Prelude.{length, is_some, unwrap_or, nat_eq, not, codes, if◌then◌else◌};
@@ -14,10 +14,10 @@ ghost use Rattle.ei_spec.specs.Message.{Raw, IsBytes, all_bytes};
 ghost use Rattle.ei_spec.specs.Piece.{Piece};
 ghost use Rattle.ei_spec.specs.Groups.{Input as Waits, Frame, Other, Free, group, gives, frames_made};
 ghost use Rattle.ei_spec.specs.History.{each, occurs};
-ghost use Rattle.ei_session.specs.Built.{judge as judge_built};
 ghost use Rattle.ei_spec.specs.Stream.{Accepted, Final, Waiting, Reading, go_on, IsReading, AreOpen, stream_of};
 ghost use Rattle.ei_session.specs.Setup.{Setup, connection_id, seat_id};
-ghost use Rattle.ei_session.specs.Asked.{asked, asks, event, first};
+ghost use Rattle.ei_session.specs.Arguments.{event};
+ghost use Rattle.ei_session.specs.Asked.{asked, asks, first};
 ghost use Rattle.ei_session.specs.Handshake.{connected, is_finish, is_the_finish, settled, version};
 ghost use Rattle.ei_session.specs.Inputs.{Input, PointerMotion, PointerMotionAbsolute, ScrollDelta, ScrollDiscrete, scroll_end, button, KeyboardKey, key_of};
 ghost use Rattle.ei_session.specs.Inputs.{TouchDown, TouchMotion, TouchUp, TouchCancel, TextKeysym, TextUtf8, DeviceInput, input_to};
@@ -28,7 +28,7 @@ ghost use Rattle.ei_session.specs.Touches.{input, touches, is_down, touches_down
 ghost use Rattle.ei_session.specs.Refusals.{Refusal, Handshake, arguments, tests, synced, is_at_most, refusal, judge};
 ghost use Rattle.ei_session.specs.Requests.{Request, Plain, Bind, RequestDevice, Ready, DeviceClosed, DeviceStartEmulating, DeviceStopEmulating, Disconnect};
 ghost use Rattle.ei_session.specs.Requests.{is_heard, item, slot, framed};
-ghost use Rattle.ei_session.specs.Replies.{finish_events, replies as replies_built};
+ghost use Rattle.ei_session.specs.Replies.{finish_events};
 ghost use Rattle.ei_session.specs.Events.{invalid_object_event, callback_event, device_events, destroyed_event, destroyed_events, reply, replies, AreTargets};
 ghost use Rattle.ei_session.specs.Events.{announcement, IsSaid};
 ghost use Rattle.ei_session.specs.Served.{AreUnrefused, accepted, reading_of, read_first, is_over, over_at, at_end, session};
@@ -267,11 +267,4 @@ pub fn refusals()
         refusal setup before m ≡ first (tests setup before m e (row_at m.opcode (table false e.interface)) (arguments (row_at m.opcode (table false e.interface)) m)) }
     ensures early { (setup : Setup) (before : List Raw) (m : Raw) → connected before ≡ false → object before m.id ≡ None → refusal setup before m ≡ Some (Handshake (handshake.InvalidObject m.id)) }
     ensures unknown { (setup : Setup) (before : List Raw) (m : Raw) → connected before ≡ true → object before m.id ≡ None → refusal setup before m ≡ None }
-{}
-
-/// What the server of the built requests accepts, and what ends it, is accepted and ends the server of all requests.
-pub fn built_requests()
-    ensures accepted { (setup : Setup) (before : List Raw) (m : Raw) → judge_built before m ≡ Accepted → judge setup before m ≡ Accepted }
-    ensures last { (setup : Setup) (before : List Raw) (m : Raw) → judge_built before m ≡ Final → judge setup before m ≡ Final }
-    ensures replies { (setup : Setup) (past : List Raw) → AreOpen judge_built past → replies setup past ≡ replies_built setup past }
 {}

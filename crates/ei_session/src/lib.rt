@@ -2,11 +2,11 @@
 //!
 //! There is no protocol code here. Each definition takes the messages before a position, the newest
 //! first, so that "one more message" is its own clause, and the messages of a stream cut short are a
-//! tail of the list. Begin with `specs/Session.antt`, the session of the requests that are built, which
-//! stands on `Built`, `Framed` and `Replies`.
+//! tail of the list. Begin with `specs/Served.antt`, the session over pieces, which stands on `Refusals`,
+//! `Requests` and `Events`; these stand on `Inputs`, `Devices`, `Objects`, `Serial` and `Touches`.
 //!
-//! The session of all requests stands beside it: `Inputs`, `Devices`, `Objects`, `Serial`, `Touches`,
-//! `Refusals`, `Requests`, `Events` and, on them, `Served`.
+//! `Guard` has the same words for a server that isn't built for every request yet: what it isn't built for it
+//! refuses as that, and every other message is judged as in the session of all requests.
 //!
 //! What a request asks is told in `Meaning`, by its row in the table of messages. `ByMeaning` and
 //! `AnsweredByMeaning` have the item, the refusal and the answer by it, a line for each thing asked: what
@@ -16,23 +16,24 @@
 mod all_requests;
 mod completeness;
 mod devices_held;
+mod guarded;
 mod kinds_of_messages;
 mod meanings;
 mod next;
 mod objects_by_id;
-mod theorems;
 mod told;
 mod versions;
 mod worked;
 mod worked_told;
 
 pub use all_requests::{
-    all_one_more, all_prefixes, all_sessions, all_streams, answers, bounds, built_requests,
-    devices_made, groups, inputs, interfaces_after, items, objects_after, objects_there, refusals,
-    steps_after, targets, touches_after,
+    all_one_more, all_prefixes, all_sessions, all_streams, answers, bounds, devices_made, groups,
+    inputs, interfaces_after, items, objects_after, objects_there, refusals, steps_after, targets,
+    touches_after,
 };
 pub use completeness::complete_pieces;
 pub use devices_held::{fresh_devices, touch_counts};
+pub use guarded::{guarded_messages, guarded_sessions, guarded_streams};
 pub use kinds_of_messages::{
     finish_message, frames_made_by_item, given_by_item, handshake_messages, ids_run_out,
     other_inputs, plain_requests, seat_released,
@@ -45,7 +46,6 @@ pub use next::{own_ids, peer_ids};
 pub use objects_by_id::{
     interfaces_there, new_objects, objects_gone, objects_introduced, objects_placed,
 };
-pub use theorems::{one_more_message, prefixes, sessions, streams};
 pub use told::reply_targets;
 pub use versions::settled_versions;
 pub use worked::{

@@ -6,7 +6,7 @@
 
 use ei_request::EisRequest;
 use ei_serve::Ended;
-use ei_types::Error;
+use ei_types::{Error, HandshakeError};
 use ei_wire::ParseError;
 
 /// `interface_version("ei_connection", 1)`: 40 bytes.
@@ -64,6 +64,42 @@ const GREETING_AND_EVENTS_OF_VERSION_0: &str = concat!(
     "01000000000000ff1000000003000000",
 );
 
+/// The same, and the event that no object has id 9, with serial 5.
+const GREETING_AND_EVENTS_AND_NO_OBJECT_9: &str = concat!(
+    "0000000000000000140000000000000001000000",
+    "000000000000000028000000010000000e00000065695f636f6e6e656374696f6e00000001000000",
+    "000000000000000024000000010000000c00000065695f63616c6c6261636b0001000000",
+    "000000000000000024000000010000000c00000065695f70696e67706f6e670001000000",
+    "000000000000000020000000020000000500000000000000000000ff01000000",
+    "00000000000000ff1c0000000100000001000000000000ff01000000",
+    "01000000000000ff1000000003000000",
+    "00000000000000ff1c00000002000000050000000900000000000000",
+);
+
+/// The same, and the event that no object has id 0.
+const GREETING_AND_EVENTS_AND_NO_OBJECT_0: &str = concat!(
+    "0000000000000000140000000000000001000000",
+    "000000000000000028000000010000000e00000065695f636f6e6e656374696f6e00000001000000",
+    "000000000000000024000000010000000c00000065695f63616c6c6261636b0001000000",
+    "000000000000000024000000010000000c00000065695f70696e67706f6e670001000000",
+    "000000000000000020000000020000000500000000000000000000ff01000000",
+    "00000000000000ff1c0000000100000001000000000000ff01000000",
+    "01000000000000ff1000000003000000",
+    "00000000000000ff1c00000002000000050000000000000000000000",
+);
+
+/// The same where the client has version 2 of the seat.
+const GREETING_AND_EVENTS_OF_SEAT_2: &str = concat!(
+    "0000000000000000140000000000000001000000",
+    "000000000000000028000000010000000e00000065695f636f6e6e656374696f6e00000001000000",
+    "000000000000000024000000010000000c00000065695f63616c6c6261636b0001000000",
+    "000000000000000024000000010000000c00000065695f70696e67706f6e670001000000",
+    "000000000000000020000000010000000800000065695f736561740002000000",
+    "000000000000000020000000020000000500000000000000000000ff01000000",
+    "00000000000000ff1c0000000100000001000000000000ff02000000",
+    "01000000000000ff1000000003000000",
+);
+
 /// More bytes than any stream has.
 const NEVER: usize = usize::MAX;
 
@@ -73,7 +109,8 @@ pub(crate) struct Stream {
     pub(crate) name: &'static str,
     /// What the client sends, in hexadecimal digits.
     pub(crate) sent: &'static [&'static str],
-    /// With how many of its bytes the finish is taken.
+    /// With how many of its bytes all that is sent to the client goes out: the finish is taken, and a message to no
+    /// object behind it.
     pub(crate) shaken_at: usize,
     /// With how many of its bytes the session is over, before the source's end.
     pub(crate) over_at: usize,
@@ -108,7 +145,7 @@ pub(crate) const SHAKEN: Stream = Stream {
 };
 
 /// Streams that end, or are left by a disconnect, with nothing refused.
-pub(crate) const TAKEN: [Stream; 11] = [
+pub(crate) const TAKEN: [Stream; 16] = [
     DISCONNECTED,
     SHAKEN,
     Stream {
@@ -204,10 +241,70 @@ pub(crate) const TAKEN: [Stream; 11] = [
         requests: &[EisRequest::Disconnect],
         reply: GREETING_AND_EVENTS,
     },
+    Stream {
+        name: "an unknown object behind the handshake",
+        // object 9, length 16, opcode 1
+        sent: &[
+            CONNECTION,
+            CALLBACK,
+            PINGPONG,
+            FINISH,
+            "09000000000000001000000001000000",
+            DISCONNECT,
+        ],
+        shaken_at: 144,
+        over_at: 160,
+        answer: Ok(Ended::Disconnect),
+        requests: &[EisRequest::Disconnect],
+        reply: GREETING_AND_EVENTS_AND_NO_OBJECT_9,
+    },
+    Stream {
+        name: "a second finish",
+        sent: &[CONNECTION, CALLBACK, PINGPONG, FINISH, FINISH, DISCONNECT],
+        shaken_at: 144,
+        over_at: 160,
+        answer: Ok(Ended::Disconnect),
+        requests: &[EisRequest::Disconnect],
+        reply: GREETING_AND_EVENTS_AND_NO_OBJECT_0,
+    },
+    Stream {
+        name: "announced behind the handshake",
+        sent: &[
+            CONNECTION, CALLBACK, PINGPONG, FINISH, CONNECTION, DISCONNECT,
+        ],
+        shaken_at: 168,
+        over_at: 184,
+        answer: Ok(Ended::Disconnect),
+        requests: &[EisRequest::Disconnect],
+        reply: GREETING_AND_EVENTS_AND_NO_OBJECT_0,
+    },
+    Stream {
+        name: "an interface that is not required",
+        sent: &[CONNECTION, CALLBACK, PINGPONG, SEAT, FINISH],
+        shaken_at: 160,
+        over_at: NEVER,
+        answer: Ok(Ended::End),
+        requests: &[],
+        reply: GREETING_AND_EVENTS_OF_SEAT_2,
+    },
+    Stream {
+        name: "an unknown name",
+        // interface_version("ei", 1), of length 28
+        sent: &[
+            CONNECTION,
+            "00000000000000001c000000040000000300000065690000",
+            "01000000",
+        ],
+        shaken_at: NEVER,
+        over_at: NEVER,
+        answer: Err(Error::UnexpectedEof),
+        requests: &[],
+        reply: GREETING,
+    },
 ];
 
 /// Streams in which a message, or its header, is refused.
-pub(crate) const REFUSED: [Stream; 18] = [
+pub(crate) const REFUSED: [Stream; 13] = [
     Stream {
         name: "length 15",
         // object 0, length 15, opcode 4
@@ -250,26 +347,9 @@ pub(crate) const REFUSED: [Stream; 18] = [
         sent: &["09000000000000001000000000000000", CONNECTION],
         shaken_at: NEVER,
         over_at: 16,
-        answer: Err(Error::NotBuilt),
+        answer: Err(Error::Handshake(HandshakeError::InvalidObject(9))),
         requests: &[],
         reply: GREETING,
-    },
-    Stream {
-        name: "an unknown object behind the handshake",
-        // object 9, length 16, opcode 1
-        sent: &[
-            CONNECTION,
-            CALLBACK,
-            PINGPONG,
-            FINISH,
-            "09000000000000001000000001000000",
-            DISCONNECT,
-        ],
-        shaken_at: 128,
-        over_at: 144,
-        answer: Err(Error::NotBuilt),
-        requests: &[],
-        reply: GREETING_AND_EVENTS,
     },
     Stream {
         name: "an unknown opcode",
@@ -277,7 +357,7 @@ pub(crate) const REFUSED: [Stream; 18] = [
         sent: &[CONNECTION, "00000000000000001000000005000000"],
         shaken_at: NEVER,
         over_at: 56,
-        answer: Err(Error::NotBuilt),
+        answer: Err(Error::Parse(ParseError::InvalidOpcode("handshake", 5))),
         requests: &[],
         reply: GREETING,
     },
@@ -286,7 +366,7 @@ pub(crate) const REFUSED: [Stream; 18] = [
         sent: &[CONNECTION, CALLBACK, FINISH, PINGPONG, FINISH],
         shaken_at: NEVER,
         over_at: 92,
-        answer: Err(Error::NotBuilt),
+        answer: Err(Error::Handshake(HandshakeError::MissingInterface)),
         requests: &[],
         reply: GREETING,
     },
@@ -301,34 +381,16 @@ pub(crate) const REFUSED: [Stream; 18] = [
         ],
         shaken_at: NEVER,
         over_at: 132,
-        answer: Err(Error::NotBuilt),
+        answer: Err(Error::Parse(ParseError::MessageLength(24, 20))),
         requests: &[],
         reply: GREETING,
-    },
-    Stream {
-        name: "a second finish",
-        sent: &[CONNECTION, CALLBACK, PINGPONG, FINISH, FINISH],
-        shaken_at: 128,
-        over_at: 144,
-        answer: Err(Error::NotBuilt),
-        requests: &[],
-        reply: GREETING_AND_EVENTS,
-    },
-    Stream {
-        name: "announced behind the handshake",
-        sent: &[CONNECTION, CALLBACK, PINGPONG, FINISH, CONNECTION],
-        shaken_at: 128,
-        over_at: 168,
-        answer: Err(Error::NotBuilt),
-        requests: &[],
-        reply: GREETING_AND_EVENTS,
     },
     Stream {
         name: "disconnect too early",
         sent: &[CONNECTION, DISCONNECT],
         shaken_at: NEVER,
         over_at: 56,
-        answer: Err(Error::NotBuilt),
+        answer: Err(Error::Handshake(HandshakeError::InvalidObject(0xff00_0000_0000_0000))),
         requests: &[],
         reply: GREETING,
     },
@@ -349,29 +411,6 @@ pub(crate) const REFUSED: [Stream; 18] = [
         reply: GREETING_AND_EVENTS,
     },
     Stream {
-        name: "an interface that is not required",
-        sent: &[CONNECTION, CALLBACK, PINGPONG, SEAT, FINISH],
-        shaken_at: NEVER,
-        over_at: 144,
-        answer: Err(Error::NotBuilt),
-        requests: &[],
-        reply: GREETING,
-    },
-    Stream {
-        name: "an unknown name",
-        // interface_version("ei", 1), of length 28
-        sent: &[
-            CONNECTION,
-            "00000000000000001c000000040000000300000065690000",
-            "01000000",
-        ],
-        shaken_at: NEVER,
-        over_at: 68,
-        answer: Err(Error::NotBuilt),
-        requests: &[],
-        reply: GREETING,
-    },
-    Stream {
         name: "no name",
         // a text of length 0, then version 1: length 24
         sent: &[
@@ -380,7 +419,7 @@ pub(crate) const REFUSED: [Stream; 18] = [
         ],
         shaken_at: NEVER,
         over_at: 64,
-        answer: Err(Error::NotBuilt),
+        answer: Err(Error::Parse(ParseError::InvalidNull)),
         requests: &[],
         reply: GREETING,
     },
@@ -390,7 +429,7 @@ pub(crate) const REFUSED: [Stream; 18] = [
         sent: &["00000000000000001c0000000400000002000000ff00000001000000"],
         shaken_at: NEVER,
         over_at: 28,
-        answer: Err(Error::NotBuilt),
+        answer: Err(Error::Parse(ParseError::Utf8(0))),
         requests: &[],
         reply: GREETING,
     },
@@ -400,7 +439,7 @@ pub(crate) const REFUSED: [Stream; 18] = [
         sent: &["000000000000000020000000040000000c00000065695f63616c6c6261636b00"],
         shaken_at: NEVER,
         over_at: 32,
-        answer: Err(Error::NotBuilt),
+        answer: Err(Error::Parse(ParseError::EndOfMessage)),
         requests: &[],
         reply: GREETING,
     },
@@ -413,7 +452,7 @@ pub(crate) const REFUSED: [Stream; 18] = [
         ],
         shaken_at: NEVER,
         over_at: 73,
-        answer: Err(Error::NotBuilt),
+        answer: Err(Error::Parse(ParseError::MessageLength(38, 37))),
         requests: &[],
         reply: GREETING,
     },

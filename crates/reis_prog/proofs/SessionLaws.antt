@@ -9,10 +9,11 @@ use Rattle.ei_spec.specs.Piece.{Piece, stream}
 use Rattle.ei_spec.specs.History.{each, joined}
 use Rattle.ei_spec.specs.Groups.{grouped}
 use Rattle.ei_session.specs.Setup.{Setup}
-use Rattle.ei_session.specs.Framed.{framed}
+use Rattle.ei_session.specs.Requests.{framed}
 use Rattle.ei_session.specs.Handshake.{connected}
-use Rattle.ei_session.specs.Session.{Outcome, at_end, session, accepted, read_first, is_over}
-use Rattle.ei_session.proofs.Least.{session_end}
+use Rattle.ei_session.specs.Served.{Outcome, at_end, read_first_by}
+use Rattle.ei_session.specs.Guard.{judge, session, accepted, read_first, is_over}
+use Rattle.ei_session.proofs.AllParts.{session_end_by}
 use Rattle.ei_backend.specs.Memory.{TrayView}
 use Rattle.ei_backend.specs.Outside.{Rose, with_more}
 use Rattle.ei_request.specs.Converter.{asked_of}
@@ -67,20 +68,20 @@ rose_or_spent : {I : Type 0} (text : I → Option (List ℕ)) (later : I → I �
 rose_or_spent text later faults input y None t none told l rose = let same : 0 ≡ y.bad_faults = (l.unmet none).1 in inl (omega (arith, rose, same))
 rose_or_spent text later faults input y (Some n) t met told l rose = inr (l.spent refl n met t told)
 
-accepted_first : (pieces : List Piece) (k : ℕ) → (read_first pieces k).past ≡ accepted (stream (take k pieces))
-unfolding read_first
-accepted_first pieces k = refl
+accepted_first : (setup : Setup) (pieces : List Piece) (k : ℕ) → (read_first setup pieces k).past ≡ accepted setup (stream (take k pieces))
+unfolding read_first_by
+accepted_first setup pieces k = refl
 
 none_behind_k : (left : Option (List Piece)) (rest : List Piece) → left ≡ Some rest → left ≡ Some [] → rest ≡ []
 none_behind_k left rest is none = cc
 
 -- where all the pieces were taken and the session was not over, it handles the messages of them all
 all_handled : (setup : Setup) (pieces : List Piece) (k : ℕ) → k ≤ length pieces → drop k pieces ≡ [] → ((j : ℕ) → 1 ≤ j → j ≤ k → is_over setup pieces j ≡ false) →
-    accepted (stream (take k pieces)) ≡ (session setup pieces).handled
+    accepted setup (stream (take k pieces)) ≡ (session setup pieces).handled
 all_handled setup pieces k within none goes_on =
     let whole : k ≡ length pieces = omega (arith, within, length-drop k pieces, ap length none) in
-    ap (λ (n : ℕ). accepted (stream (take n pieces))) whole ∙ sym (accepted_first pieces (length pieces))
-    ∙ sym (ap (λ (o : Outcome). o.handled) (session_end setup pieces (λ j low high. goes_on j low (omega (arith, high, whole)))))
+    ap (λ (n : ℕ). accepted setup (stream (take n pieces))) whole ∙ sym (accepted_first setup pieces (length pieces))
+    ∙ sym (ap (λ (o : Outcome). o.handled) (session_end_by (judge setup) setup pieces (λ j low high. goes_on j low (omega (arith, high, whole)))))
 
 -- the requests and the replies of some messages
 abbrev pub Both : Setup → List Raw → Option (List ℕ) → List EisRequest → List EisRequest → Option Piece → Option Piece → Type 0
@@ -111,7 +112,7 @@ pieces_end past false c = rw c tt
 ends_first : (setup : Setup) (pieces : List Piece) (k : ℕ) → k ≤ length pieces → drop k pieces ≡ [] → ((j : ℕ) → 1 ≤ j → j ≤ k → is_over setup pieces j ≡ false) → IsPiecesEnd (session setup pieces).answer
 ends_first setup pieces k within none goes_on =
     let whole : k ≡ length pieces = omega (arith, within, length-drop k pieces, ap length none) in
-    subst (λ (o : Outcome). IsPiecesEnd o.answer) (sym (session_end setup pieces (λ j low high. goes_on j low (omega (arith, high, whole))))) (pieces_end (read_first pieces (length pieces)).past _ refl)
+    subst (λ (o : Outcome). IsPiecesEnd o.answer) (sym (session_end_by (judge setup) setup pieces (λ j low high. goes_on j low (omega (arith, high, whole))))) (pieces_end (read_first setup pieces (length pieces)).past _ refl)
 
 ended_of_handled : (setup : Setup) (pieces : List Piece) (left : Option (List Piece)) (readings : Option (List ℕ)) (old new : List EisRequest) (took_old took_new : Option Piece) → left ≡ Some [] →
     Handled setup pieces left readings old new took_old took_new → IsPiecesEnd (session setup pieces).answer
@@ -198,7 +199,7 @@ are_of_taken setup pieces left readings tray new reply old out requests k w =
       unread = w.0;
       took = h.took;
       goes_on = h.goes_on;
-      are_of = are_of setup (accepted (stream (take h.k pieces))) readings tray new reply old out requests k h.requests h.replies;
+      are_of = are_of setup (accepted setup (stream (take h.k pieces))) readings tray new reply old out requests k h.requests h.replies;
     }
 
 are_of_first : (setup : Setup) (messages : List Raw) (readings : Option (List ℕ)) (tray : TrayView) (new : Piece) (reply : List ℕ) (old out requests : List EisRequest) → Kept tray new reply old out requests →

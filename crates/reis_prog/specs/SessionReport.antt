@@ -3,11 +3,11 @@ use Rattle.std.specs.Prelude.{◌≡◌, ◌≤◌, ◌⊎◌, ℕ, false, List,
 use Rattle.std.specs.Option.{option_map}
 use Rattle.ei_spec.specs.Message.{Raw, all_bytes}
 use Rattle.ei_spec.specs.Piece.{Piece, stream}
-use Rattle.ei_spec.specs.Stream.{Ended}
 use Rattle.ei_session.specs.Setup.{Setup}
-use Rattle.ei_session.specs.Framed.{framed}
-use Rattle.ei_session.specs.Replies.{replies}
-use Rattle.ei_session.specs.Session.{Answer, End, UnexpectedEof, Stopped, session, is_over, accepted}
+use Rattle.ei_session.specs.Requests.{framed}
+use Rattle.ei_session.specs.Events.{replies}
+use Rattle.ei_session.specs.Served.{Answer, Disconnect, End, UnexpectedEof}
+use Rattle.ei_session.specs.Guard.{session, is_over, accepted}
 use Rattle.ei_request.specs.Converter.{asked_of}
 use Rattle.ei_request.specs.declared.event.EisRequest.{EisRequest}
 use Rattle.ei_serve.specs.declared.session.Ended.{Ended as HowEnded}
@@ -59,7 +59,7 @@ pub record AreOfTaken (setup : Setup) (pieces : List Piece) (left : Option (List
   pub unread : List ℕ
   pub took : TookPieces pieces (pieces_left unread left) k
   pub goes_on : (j : ℕ) → 1 ≤ j → j ≤ k → is_over setup pieces j ≡ false
-  pub are_of : AreOf setup (accepted (stream (take k pieces))) readings reply requests
+  pub are_of : AreOf setup (accepted setup (stream (take k pieces))) readings reply requests
 
 -- they are the requests of the first of the messages, and a front of the replies to these
 pub record AreOfFirst (setup : Setup) (messages : List Raw) (readings : Option (List ℕ)) (reply : List ℕ) (requests : List EisRequest) : Type 0 where
@@ -97,7 +97,7 @@ pub record TellsAll (setup : Setup) (pieces : List Piece) (readings : Option (Li
 -- a session came to its end: the client disconnected, or the pieces ended behind the handshake
 abbrev pub IsDone : Answer → Type 0
 IsDone End = Unit {0}
-IsDone (Stopped Ended) = Unit {0}
+IsDone Disconnect = Unit {0}
 IsDone answer = ⊥
 
 -- a status that says whether the session came to its end, or 3, 4 or 5 for what failed

@@ -5,7 +5,7 @@ ghost use Rattle.std.specs.String.{string_bytes};
 ghost use Rattle.ei_types.specs.Capability.{bits_of};
 ghost use Rattle.ei_types.specs.declared.error.Error.TheVariants as error;
 ghost use Rattle.ei_backend.specs.Outside.{Piece, Rose};
-ghost use Rattle.ei_session.specs.Session.{session};
+ghost use Rattle.ei_session.specs.Guard.{session};
 ghost use Rattle.ei_serve.specs.Standing.{setup_of};
 ghost use Rattle.ei_serve.specs.Serving.{AnswersAs, IsDecided, IsCutShort, IsSourceEnd, HandsOut, Replied, Handled, HandledInPart};
 ghost use Rattle.reis_prog.specs.Words.{command_of};

@@ -95,7 +95,7 @@ fn reports_sessions_before_the_finish(rt: HostRuntime) -> Result<(), Fail> {
         (
             "serve 5 32 200",
             "09000000000000001000000000000000",
-            "\nerror message not built\n1",
+            "\nerror handshake error: invalid object 9 during handshake\n1",
         ),
         ("serve 5 32 200", "0g", "\nerror IO error: read fault\n3"),
     ] {

@@ -3,7 +3,7 @@ use Rattle.std.proofs.lemmas.Result.{err_from_is_err_and}
 use Rattle.ei_types.specs.declared.error.Error.{Error}
 use Rattle.ei_serve.specs.Standing.{setup_of}
 use Rattle.ei_serve.proofs.Going.{goes_none}
-use Rattle.ei_serve.proofs.Stepping.{steps_refused, steps_cut_off, goes_quiet, goes_finish, converses}
+use Rattle.ei_serve.proofs.Stepping.{steps_refused, steps_cut_off, goes_quiet, goes_finish}
 use Rattle.ei_serve.proofs.phase.Phase.step.Goals as goal
 
 pub returns-in_err-shake-in-Handshake-clause-steps : goal.returns-in_err-shake-in-Handshake-clause-steps
@@ -41,4 +41,4 @@ returns-in_ok-connect-in-Complete-clause-steps g c = λ past rest handles h.
 pub returns-in-Connected-clause-steps : goal.returns-in-Connected-clause-steps
 returns-in-Connected-clause-steps g c = λ past rest handles h.
     let s = rw c.in-Connected.is at h in
-    converses (setup_of c.args.setup) past rest handles _ _ _ _ _ _ s (c.converse.ensures.converses (setup_of c.args.setup) past rest handles s)
+    c.converse.ensures.converses (setup_of c.args.setup) past rest handles s

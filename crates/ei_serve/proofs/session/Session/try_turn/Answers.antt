@@ -1,7 +1,7 @@
 use Rattle.std.proofs.Common.{◌∙◌, ◌++◌, ap, Ok, Err, refl}
 use Rattle.std.proofs.lemmas.Result.{err_from_is_err_and}
 use Rattle.ei_types.specs.declared.error.Error.{Error}
-use Rattle.ei_session.specs.Session.{accepted, reading_of}
+use Rattle.ei_session.specs.Guard.{accepted, reading_of}
 use Rattle.ei_spec.specs.Piece.{stream}
 use Rattle.ei_serve.specs.Standing.{setup_of}
 use Rattle.ei_serve.proofs.Turns.{refused_as, found_end, handled, no_end_refused, no_end_handled, with_setup}
@@ -20,7 +20,7 @@ returns-in_err-take_piece-clause-last_end g c = λ setup pieces s at_end.
 pub returns-then-not-branch-clause-turns : goal.returns-then-not-branch-clause-turns
 returns-then-not-branch-clause-turns g c = λ setup pieces s.
     let t = rw c.if-not-branch.true at (c.in_ok-take_piece.ensures.takes setup pieces s) in
-    found_end setup pieces c.take_piece.new.self c.is_connected.result _ _ _ c.args.out.now.items _ c.at_end.ensures (c.is_connected.ensures setup (accepted (stream pieces)) (reading_of (stream pieces)).rest t.1.unread t.1.phase) t
+    found_end setup pieces c.take_piece.new.self c.is_connected.result _ _ _ c.args.out.now.items _ c.at_end.ensures (c.is_connected.ensures setup (accepted setup (stream pieces)) (reading_of setup (stream pieces)).rest t.1.unread t.1.phase) t
 
 pub returns-then-not-branch-clause-last_end : goal.returns-then-not-branch-clause-last_end
 returns-then-not-branch-clause-last_end g c = λ setup pieces s at_end.
@@ -30,9 +30,9 @@ pub returns-clause-turns : goal.returns-clause-turns
 returns-clause-turns g c = λ setup pieces s.
     let t = rw c.if-not-branch.false at (c.in_ok-take_piece.ensures.takes setup pieces s) in
     handled setup pieces c.args.self.now c.take_piece.new.self _ t.0 s t.2 _ _ t.1 c.args.out.now.items _ _ _ c.handle_messages.result refl refl
-    (with_setup setup c.take_piece.new.self.setup _ _ _ _ _ _ _ _ _ t.2.started (c.handle_messages.ensures.handles (accepted (stream pieces)) ((reading_of (stream pieces)).rest ++ t.0.bytes) t.2.unread (rw t.2.started t.2.phase)))
+    (with_setup setup c.take_piece.new.self.setup _ _ _ _ _ _ _ _ _ t.2.started (c.handle_messages.ensures.handles (accepted setup (stream pieces)) ((reading_of setup (stream pieces)).rest ++ t.0.bytes) t.2.unread (rw t.2.started t.2.phase)))
 
 pub returns-clause-last_end : goal.returns-clause-last_end
 returns-clause-last_end g c = λ setup pieces s at_end.
     let t = rw c.if-not-branch.false at (c.in_ok-take_piece.ensures.takes setup pieces s) in
-    no_end_handled (setup_of c.take_piece.new.self.setup) _ _ _ _ _ _ _ _ _ _ (c.handle_messages.ensures.handles (accepted (stream pieces)) ((reading_of (stream pieces)).rest ++ t.0.bytes) t.2.unread (rw t.2.started t.2.phase)) at_end
+    no_end_handled (setup_of c.take_piece.new.self.setup) _ _ _ _ _ _ _ _ _ _ (c.handle_messages.ensures.handles (accepted setup (stream pieces)) ((reading_of setup (stream pieces)).rest ++ t.0.bytes) t.2.unread (rw t.2.started t.2.phase)) at_end
