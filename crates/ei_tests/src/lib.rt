@@ -4,6 +4,8 @@
 #![tactic(auto)]
 
 #[cfg(test)]
+mod handshake;
+#[cfg(test)]
 mod served;
 #[cfg(test)]
 mod streams;

@@ -106,6 +106,101 @@ fn reports_sessions_before_the_finish(rt: HostRuntime) -> Result<(), Fail> {
     Ok(())
 }
 
+/// One or two messages to object 0, and how the session ends behind the greeting.
+#[test]
+fn reports_refusals_of_the_handshake(rt: HostRuntime) -> Result<(), Fail> {
+    let alloc = rt.alloc();
+    for (text, rest) in [
+        // a length above 1048576, and fewer bytes than a header has
+        (
+            "00000000000000000100100001000000",
+            "\nerror parse error: header length 1048577 < 16\n1",
+        ),
+        (
+            "000000000000000000000000000000",
+            "\nerror IO error: unexpected EOF reading ei socket\n1",
+        ),
+        // a finish with four bytes too many
+        (
+            "0000000000000000140000000100000000000000",
+            "\nerror parse error: message length didn't match header (24 != 20)\n1",
+        ),
+        // a context type of number 3, an opcode without a message
+        (
+            "0000000000000000140000000200000003000000",
+            "\nerror parse error: variant '3' invalid for enum 'ContextType'\n1",
+        ),
+        (
+            "00000000000000001000000005000000",
+            "\nerror parse error: opcode '5' invalid for interface 'handshake'\n1",
+        ),
+        // names: null, `ab` with other padding, one that is no text, one cut short
+        (
+            "0000000000000000140000000300000000000000",
+            "\nerror parse error: NULL value for non-nullable argument\n1",
+        ),
+        (
+            "000000000000000018000000030000000300000061620700",
+            "\nerror IO error: unexpected EOF reading ei socket\n1",
+        ),
+        (
+            "000000000000000018000000030000000300000061ff0000",
+            "\nerror parse error: invalid UTF-8 string in message: at byte 1\n1",
+        ),
+        (
+            "0000000000000000140000000300000005000000",
+            "\nerror parse error: found end of message while parsing argument\n1",
+        ),
+        // a second name, a second context type
+        (
+            "000000000000000018000000030000000300000061620000\n\
+             000000000000000018000000030000000300000061620000",
+            "\nerror handshake error: duplicate event during handshake\n1",
+        ),
+        (
+            "0000000000000000140000000200000002000000\n\
+             0000000000000000140000000200000002000000",
+            "\nerror handshake error: duplicate event during handshake\n1",
+        ),
+        // a finish alone, and behind one announcement
+        (
+            "00000000000000001000000001000000",
+            "\nerror handshake error: missing required interface\n1",
+        ),
+        (
+            "000000000000000028000000040000000e00000065695f636f6e6e656374696f6e00000001000000\n\
+             00000000000000001000000001000000",
+            "\nerror handshake error: missing required interface\n1",
+        ),
+    ] {
+        let report = report_of(alloc, "serve 5 32 200", &[text], 9)?;
+        let want = report_with(alloc, GREETING, rest)?;
+        assert_eq!(rt; report.as_str(), want.as_str(), "{text:?}");
+    }
+    Ok(())
+}
+
+/// The greatest serial stands in the event that hands the connection over.
+#[test]
+fn reports_the_greatest_serial(rt: HostRuntime) -> Result<(), Fail> {
+    let alloc = rt.alloc();
+    let report = report_of(alloc, "serve 4294967295 32 200", &SHAKEN, 9)?;
+    let want = report_with(
+        alloc,
+        GREETING,
+        "\
+        000000000000000028000000010000000e00000065695f636f6e6e656374696f6e00000001000000\
+        000000000000000024000000010000000c00000065695f63616c6c6261636b0001000000\
+        000000000000000024000000010000000c00000065695f70696e67706f6e670001000000\
+        00000000000000002000000002000000ffffffff00000000000000ff01000000\
+        00000000000000ff1c0000000100000001000000000000ff01000000\
+        01000000000000ff1000000003000000\
+        \nend eof\n0",
+    )?;
+    assert_eq!(rt; report.as_str(), want.as_str());
+    Ok(())
+}
+
 /// A handshake, and one line behind it; or no line, where the second call of the input fails.
 #[test]
 fn reports_sessions_behind_the_finish(rt: HostRuntime) -> Result<(), Fail> {
@@ -125,12 +220,72 @@ fn reports_sessions_behind_the_finish(rt: HostRuntime) -> Result<(), Fail> {
             "\nerror piece limit reached\n1",
         ),
         ("serve 5 32 4", "", 9, "\nend eof\n0"),
+        // nothing behind a disconnect is read
+        (
+            "serve 5 32 200",
+            "00000000000000ff1000000001000000ffff",
+            9,
+            "\ndisconnect\nend disconnect\n0",
+        ),
+        // fewer bytes than a header has
+        (
+            "serve 5 32 200",
+            "000000000000000000000000000000",
+            9,
+            "\nend eof\n0",
+        ),
+        // no object has id 9, nor 0 any more: each is answered by `invalid_object`
+        (
+            "serve 5 32 200",
+            "09000000000000001000000000000000",
+            9,
+            "00000000000000ff1c00000002000000050000000900000000000000\nend eof\n0",
+        ),
+        (
+            "serve 5 32 200",
+            FINISH,
+            9,
+            "00000000000000ff1c00000002000000050000000000000000000000\nend eof\n0",
+        ),
         ("serve 5 32 200", "", 2, "\nerror IO error: read fault\n3"),
     ] {
         let text = [connection, callback, pingpong, finish, last];
         let report = report_of(alloc, line, &text, fails)?;
         let want = report_with(alloc, REPLY, rest)?;
         assert_eq!(rt; report.as_str(), want.as_str(), "{line} and {last:?}");
+    }
+    Ok(())
+}
+
+/// Adds the bytes of a message, each as a line.
+fn push_bytes(lines: &mut String, message: &str) -> Result<(), NoMemory> {
+    let mut is_second = false;
+    for digit in message.trim_end().chars() {
+        lines.push(digit)?;
+        if is_second {
+            lines.push('\n')?;
+        }
+        is_second = !is_second;
+    }
+    Ok(())
+}
+
+/// A handshake and a disconnect, a byte a line: 144 lines.
+#[test]
+fn reports_a_session_of_one_byte_a_line(rt: HostRuntime) -> Result<(), Fail> {
+    let alloc = rt.alloc();
+    let mut lines = String::new(alloc);
+    for message in [CONNECTION, CALLBACK, PINGPONG, FINISH, DISCONNECT] {
+        push_bytes(&mut lines, message)?;
+    }
+    for (line, rest) in [
+        ("serve 5 32 200", "\ndisconnect\nend disconnect\n0"),
+        ("serve 5 32 144", "\ndisconnect\nend disconnect\n0"),
+        ("serve 5 32 143", "\nerror piece limit reached\n1"),
+    ] {
+        let report = report_of(alloc, line, &[lines.as_str()], 9)?;
+        let want = report_with(alloc, REPLY, rest)?;
+        assert_eq!(rt; report.as_str(), want.as_str(), "{line}");
     }
     Ok(())
 }
