@@ -1,5 +1,6 @@
 pub mod Held
 pub mod HexSource
+pub mod LaterReadings
 pub mod Report
 pub mod RequestLine
 pub mod Run

@@ -135,7 +135,8 @@ impl<'a, I: Input> Source for HexSource<'a, I> {
     ghost use Rattle.std.specs.Prelude.{◌≡◌, ◌≤◌, ℕ, Some, None, length, IfOk, IsErr, true};
     ghost use Rattle.ei_backend.specs.Outside.{Piece, HasCause, IsPieceSize, Takes, last_of};
     ghost use Rattle.reis_prog.specs.Text.{has_newline};
-    ghost use Rattle.reis_prog.specs.HexSource.{reading_of, answer_of, left_of, faults_of, LaterSource, LaterSource-refl, LaterSource-trans};
+    ghost use Rattle.reis_prog.specs.HexSource.{reading_of, answer_of, left_of, faults_of, LaterSource};
+    ghost use Rattle.reis_prog.specs.LaterReadings.{LaterSource-refl, LaterSource-trans};
 
     ghost left = { λ s. left_of I.text (reading_of s) };
 

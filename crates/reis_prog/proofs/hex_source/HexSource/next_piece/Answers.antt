@@ -1,7 +1,7 @@
 use Rattle.std.proofs.Common.{◌≡◌, refl, arith, ap, sym, ◌∙◌, Ok, None, true}
 use Rattle.std.proofs.lemmas.List.{length-take-le}
 use Rattle.std.specs.Prelude.{is_some}
-use Rattle.reis_prog.specs.HexSource.{LaterText-none}
+use Rattle.reis_prog.specs.LaterReadings.{LaterText-none}
 use Rattle.reis_prog.proofs.SourceLaws.{some_not_none, none_if_not_some, not_both, first_of, line_is, removed_is, no_line, handed_out, hands_line, bad_number}
 use Rattle.reis_prog.proofs.SourceLaws.{none_left, ends_here}
 use Rattle.reis_prog.proofs.hex_source.HexSource.next_piece.Goals as goal
