@@ -49,7 +49,17 @@ impl Model for Backend {
 
     ghost coded = { backend_code };
 
-    ghost view = { λ b. record { table = b.table; unread = b.incoming.bytes; handles = b.incoming.handles; unsent = b.outgoing.waiting.bytes; unsent_handles = b.outgoing.waiting.handles; closed = b.closed; capacity = b.incoming.capacity; room = b.outgoing.room } };
+    ghost view = { λ b. record {
+      table = b.table;
+      unread = b.incoming.bytes;
+      handles = b.incoming.handles;
+      unsent = b.outgoing.waiting.bytes;
+      unsent_handles =
+          b.outgoing.waiting.handles;
+      closed = b.closed;
+      capacity = b.incoming.capacity;
+      room = b.outgoing.room;
+    } };
 }
 
 impl Backend {
@@ -94,7 +104,8 @@ impl Backend {
         ensures closed_source { self.old.closed ≡ true → source.new ≡ source.old }
         // on an open one
         ensures reads { self.old.closed ≡ false → ReadsOn result self.old self.new }
-        ensures told { self.old.closed ≡ false → (pieces : List Piece) → S.left source.old ≡ Some pieces → ReadsPiece pieces (S.left source.new) result self.old self.new }
+        ensures told { self.old.closed ≡ false → (pieces : List Piece) → S.left source.old ≡ Some pieces
+            → ReadsPiece pieces (S.left source.new) result self.old self.new }
         // what the source says
         ensures memory { IsErrOf result read_error.NoMemory → source.new ≡ source.old }
         ensures room { length self.old.unread + MOST_PIECE_BYTES ≤ self.old.capacity → IsErrOf result read_error.NoMemory → ⊥ }
@@ -204,11 +215,14 @@ impl Backend {
         interface: InterfaceName,
         version: u32,
     ) -> Result<Object, SendError>
-        ensures ok { IfOk result (λ o. (o ≡ own self.old.table (interface_view interface) version) × (self.new ≡ sent_new self.old object_id opcode (map value_of_arg args.now) (interface_view interface) version)) }
+        ensures ok { IfOk result (λ o. (o ≡ own self.old.table (interface_view interface) version)
+            × (self.new ≡ sent_new self.old object_id opcode (map value_of_arg args.now) (interface_view interface) version)) }
         ensures exhausted { IsErrOf result send_error.IdsExhausted ↔ (own_end self.old.table ≤ self.old.table.next_own) }
-        ensures long { IsErrOf result send_error.MessageTooLong ↔ ((self.old.table.next_own < own_end self.old.table) × (MOST_MESSAGE_BYTES < size (message object_id opcode (map value_of_arg args.now)))) }
+        ensures long { IsErrOf result send_error.MessageTooLong ↔ ((self.old.table.next_own < own_end self.old.table)
+            × (MOST_MESSAGE_BYTES < size (message object_id opcode (map value_of_arg args.now)))) }
         ensures err { OnErr result (self.new ≡ self.old) }
-        ensures room { HasRoomFor object_id opcode (map value_of_arg args.now) (unsent_of self.old) self.old.room → self.old.table.next_own < self.old.table.room → HasFixedName (interface_view interface) → IsErrOf result send_error.NoMemory → ⊥ }
+        ensures room { HasRoomFor object_id opcode (map value_of_arg args.now) (unsent_of self.old) self.old.room
+            → self.old.table.next_own < self.old.table.room → HasFixedName (interface_view interface) → IsErrOf result send_error.NoMemory → ⊥ }
     {
         announce(
             &mut self.table,
@@ -229,7 +243,8 @@ impl Backend {
         interface: InterfaceName,
         version: u32,
     ) -> Result<Object, SendError>
-        ensures ok { IfOk result (λ o. (o ≡ own self.old.table (interface_view interface) version) × (self.new ≡ with_object self.old (interface_view interface) version)) }
+        ensures ok { IfOk result (λ o. (o ≡ own self.old.table (interface_view interface) version)
+            × (self.new ≡ with_object self.old (interface_view interface) version)) }
         ensures exhausted { IsErrOf result send_error.IdsExhausted ↔ (own_end self.old.table ≤ self.old.table.next_own) }
         ensures err { OnErr result (self.new ≡ self.old) }
         ensures not_long { IsErrOf result send_error.MessageTooLong → ⊥ }
@@ -358,13 +373,16 @@ fn announce(
     interface: InterfaceName,
     version: u32,
 ) -> Result<Object, SendError>
-    ensures object { IfOk result (λ o. (o ≡ own table.old (interface_view interface) version) × (table.new ≡ with_own table.old (interface_view interface) version)) }
+    ensures object { IfOk result (λ o. (o ≡ own table.old (interface_view interface) version)
+        × (table.new ≡ with_own table.old (interface_view interface) version)) }
     ensures ok { OnOk result (outgoing.new ≡ record outgoing.old { waiting = with_message object_id opcode (map value_of_arg args.now) outgoing.old.waiting }) }
     ensures exhausted { IsErrOf result send_error.IdsExhausted ↔ (own_end table.old ≤ table.old.next_own) }
-    ensures long { IsErrOf result send_error.MessageTooLong ↔ ((table.old.next_own < own_end table.old) × (MOST_MESSAGE_BYTES < size (message object_id opcode (map value_of_arg args.now)))) }
+    ensures long { IsErrOf result send_error.MessageTooLong ↔ ((table.old.next_own < own_end table.old)
+        × (MOST_MESSAGE_BYTES < size (message object_id opcode (map value_of_arg args.now)))) }
     ensures err_table { OnErr result (table.new ≡ table.old) }
     ensures err { OnErr result (outgoing.new ≡ outgoing.old) }
-    ensures room { HasRoomFor object_id opcode (map value_of_arg args.now) outgoing.old.waiting outgoing.old.room → table.old.next_own < table.old.room → HasFixedName (interface_view interface) → IsErrOf result send_error.NoMemory → ⊥ }
+    ensures room { HasRoomFor object_id opcode (map value_of_arg args.now) outgoing.old.waiting outgoing.old.room → table.old.next_own < table.old.room
+        → HasFixedName (interface_view interface) → IsErrOf result send_error.NoMemory → ⊥ }
 {
     if table.ids_left() == 0 {
         return Err(SendError::IdsExhausted);

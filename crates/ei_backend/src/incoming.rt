@@ -107,7 +107,8 @@ impl Incoming {
     ) -> Result<Option<PendingRequestResult<T>>, NoMemory>
     where
         T: Drop,
-        ensures ok { (b : BackendView) → IfOk result (λ answer. Answers T.target T.code T.values answer (holding self.new table.new b) (next T.events (holding self.old table.old b))) }
+        ensures ok { (b : BackendView) → IfOk result (λ answer. Answers T.target T.code T.values answer (holding self.new table.new b) (next T.events
+            (holding self.old table.old b))) }
         ensures announced { IfOk result (λ answer. Brings T.announced answer table.old table.new) }
         ensures shorter { IfOk result (λ answer. Shortens self.old.bytes self.new.bytes answer) }
         ensures err { OnErr result (self.new ≡ self.old) }

@@ -36,7 +36,8 @@ pub trait MessageEnum: Sized {
         bytes: &mut ByteStream<'_>,
         table: &mut Table,
     ) -> Result<Self, ParseError>
-        ensures read { Reads (λ m. record { values = values m; table = table.new; unread = bytes.new }) bytes.new.taken result (message_read events object.interface opcode bytes.old table.old) }
+        ensures read { Reads (λ m. record { values = values m; table = table.new; unread = bytes.new }) bytes.new.taken result
+            (message_read events object.interface opcode bytes.old table.old) }
         ensures target { IfOk result (λ m. (target m ≡ object) × (code m ≡ opcode)) }
         ensures announced { IfOk result (λ m. Announced (announced m) table.old table.new) }
         ensures err { OnErr result (table.new ≡ table.old) };

@@ -145,7 +145,8 @@ impl Object {
         ensures long { IsErrOf result send_error.MessageTooLong ↔ (MOST_MESSAGE_BYTES < size (message self.now.id opcode (map value_of_arg args.now))) }
         ensures not_exhausted { IsErrOf result send_error.IdsExhausted → ⊥ }
         ensures err { OnErr result (ctx.new ≡ ctx.old) }
-        ensures room { HasRoomFor self.now.id opcode (map value_of_arg args.now) (unsent_of (C.seen ctx.old)) (C.seen ctx.old).room → IsErrOf result send_error.NoMemory → ⊥ }
+        ensures room { HasRoomFor self.now.id opcode (map value_of_arg args.now) (unsent_of (C.seen ctx.old)) (C.seen ctx.old).room
+            → IsErrOf result send_error.NoMemory → ⊥ }
     {
         ctx.backend_mut().request(self.id, opcode, args)
     }

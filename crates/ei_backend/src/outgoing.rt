@@ -92,7 +92,9 @@ impl Outgoing {
     /// Takes back what was written since so many bytes and handles waited.
     pub(crate) fn cut_back(&mut self, mark: (usize, usize))
         requires { mark.0 ≡ 0 → mark.1 ≡ 0 }
-        ensures { self.new ≡ record self.old { waiting = record { bytes = take mark.0 self.old.waiting.bytes; handles = take mark.1 self.old.waiting.handles } } }
+        ensures { self.new ≡ record self.old {
+          waiting = record { bytes = take mark.0 self.old.waiting.bytes; handles = take mark.1 self.old.waiting.handles };
+        } }
     {
         self.bytes.truncate(mark.0);
         self.handles.truncate(mark.1);
@@ -189,7 +191,8 @@ fn push_args(out: &mut Vec<u8>, handles: &mut Vec<Handle>, args: &[Arg<'_>]) -> 
     ensures handles { OnOk result (handles.new.items ≡ handles.old.items ++ args_handles args.now) }
     ensures err { OnErr result ((more : List ℕ) × (out.new.items ≡ out.old.items ++ more)) }
     ensures err_handles { OnErr result ((more : List Handle) × (handles.new.items ≡ handles.old.items ++ more)) }
-    ensures succeeds { vec_len out.old + length (args_body args.now) ≤ vec_capacity out.old → vec_len handles.old + length (args_handles args.now) ≤ vec_capacity handles.old → IsOk result }
+    ensures succeeds { vec_len out.old + length (args_body args.now) ≤ vec_capacity out.old
+        → vec_len handles.old + length (args_handles args.now) ≤ vec_capacity handles.old → IsOk result }
     ensures capacity { vec_capacity out.old ≤ vec_capacity out.new }
     ensures handle_capacity { vec_capacity handles.old ≤ vec_capacity handles.new }
 {
@@ -215,7 +218,8 @@ fn write_message(
     ensures handles { OnOk result (handles.new.items ≡ handles.old.items ++ args_handles args.now) }
     ensures err { OnErr result (bytes.new.items ≡ bytes.old.items) }
     ensures err_handles { OnErr result (handles.new.items ≡ handles.old.items) }
-    ensures succeeds { vec_len bytes.old + 16 + body ≤ vec_capacity bytes.old → vec_len handles.old + length (args_handles args.now) ≤ vec_capacity handles.old → IsOk result }
+    ensures succeeds { vec_len bytes.old + 16 + body ≤ vec_capacity bytes.old
+        → vec_len handles.old + length (args_handles args.now) ≤ vec_capacity handles.old → IsOk result }
     ensures capacity { vec_capacity bytes.old ≤ vec_capacity bytes.new }
     ensures handle_capacity { vec_capacity handles.old ≤ vec_capacity handles.new }
 {
@@ -246,7 +250,8 @@ fn put_all<K: Sink>(
 ) -> (usize, Result<(), FlushError>)
     ensures within { result.0 ≤ length bytes.now }
     ensures ok { OnOk result.1 (result.0 ≡ length bytes.now) }
-    ensures took { (held : Piece) → K.taken sink.old ≡ Some held → K.taken sink.new ≡ Some (with_more (take result.0 bytes.now) (beside result.0 handles.now) held) }
+    ensures took { (held : Piece) → K.taken sink.old ≡ Some held
+        → K.taken sink.new ≡ Some (with_more (take result.0 bytes.now) (beside result.0 handles.now) held) }
     ensures nothing { bytes.now ≡ [] → IsOk result.1 }
     ensures nothing_put { bytes.now ≡ [] → sink.new ≡ sink.old }
     ensures fault { IsErrOf result.1 flush_error.WriteFault → Rose (K.faults sink.old) (K.faults sink.new) }

@@ -48,7 +48,8 @@ pub(crate) fn next_message<T: MessageEnum>(
 ) -> Result<Option<PendingRequestResult<T>>, NoMemory>
 where
     T: Drop,
-    ensures ok { (b : BackendView) → IfOk result (λ answer. Answers T.target T.code T.values answer (reading bytes.new.items handles.new.items table.new b) (next T.events (reading bytes.old.items handles.old.items table.old b))) }
+    ensures ok { (b : BackendView) → IfOk result (λ answer. Answers T.target T.code T.values answer (reading bytes.new.items handles.new.items table.new b)
+        (next T.events (reading bytes.old.items handles.old.items table.old b))) }
     ensures announced { IfOk result (λ answer. Brings T.announced answer table.old table.new) }
     ensures shorter { IfOk result (λ answer. Shortens bytes.old.items bytes.new.items answer) }
     ensures err { OnErr result (bytes.new.items ≡ bytes.old.items) }
@@ -79,7 +80,8 @@ fn step_in<T: MessageEnum>(
 ) -> Result<Step<T>, NoMemory>
 where
     T: Drop,
-    ensures ok { (b : BackendView) → IfOk result (λ step. Answers T.target T.code T.values step.answer (reading (drop step.bytes bytes.old.items) (drop step.handles handles.now) table.new b) (next T.events (reading bytes.old.items handles.now table.old b))) }
+    ensures ok { (b : BackendView) → IfOk result (λ step. Answers T.target T.code T.values step.answer (reading (drop step.bytes bytes.old.items)
+        (drop step.handles handles.now) table.new b) (next T.events (reading bytes.old.items handles.now table.old b))) }
     ensures announced { IfOk result (λ step. Brings T.announced step.answer table.old table.new) }
     ensures within { IfOk result (λ step. step.bytes ≤ length bytes.old.items) }
     ensures shorter { IfOk result (λ step. TakesSome step.answer step.bytes) }
@@ -114,7 +116,8 @@ fn step_of<T: MessageEnum>(
 ) -> Result<Step<T>, NoMemory>
 where
     T: Drop,
-    ensures ok { (b : BackendView) → IfOk result (λ step. Answers T.target T.code T.values step.answer (reading (drop step.bytes bytes.now) (drop step.handles handles.now) table.new b) (next T.events (reading bytes.now handles.now table.old b))) }
+    ensures ok { (b : BackendView) → IfOk result (λ step. Answers T.target T.code T.values step.answer (reading (drop step.bytes bytes.now)
+        (drop step.handles handles.now) table.new b) (next T.events (reading bytes.now handles.now table.old b))) }
     ensures announced { IfOk result (λ step. Brings T.announced step.answer table.old table.new) }
     ensures within { IfOk result (λ step. step.bytes ≤ length bytes.now) }
     ensures shorter { IfOk result (λ step. TakesSome step.answer step.bytes) }

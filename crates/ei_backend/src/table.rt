@@ -46,7 +46,8 @@ impl Model for Table {
 
     ghost view = { λ t. table_of t.own.items t.peer.items t.next_own t.next_peer t.client t.room };
 
-    ghost invariant = { λ t. Stands (table_of t.own.items t.peer.items t.next_own t.next_peer t.client t.room) t.own.items t.peer.items (vec_len t.own) (vec_capacity t.own) };
+    ghost invariant = { λ t. Stands (table_of t.own.items t.peer.items t.next_own t.next_peer t.client t.room) t.own.items t.peer.items (vec_len t.own)
+        (vec_capacity t.own) };
 }
 
 impl Table {
@@ -164,7 +165,8 @@ impl Table {
         interface: InterfaceName,
         version: u32,
     ) -> Result<Object, SendError>
-        ensures ok { IfOk result (λ o. (o ≡ own self.old (interface_view interface) version) × (self.new ≡ with_own self.old (interface_view interface) version)) }
+        ensures ok { IfOk result (λ o. (o ≡ own self.old (interface_view interface) version)
+            × (self.new ≡ with_own self.old (interface_view interface) version)) }
         ensures exhausted { (result ≡ Err send_error.IdsExhausted) ↔ (own_end self.old ≤ self.old.next_own) }
         ensures err { OnErr result (self.new ≡ self.old) }
         ensures not_long { result ≡ Err send_error.MessageTooLong → ⊥ }

@@ -150,7 +150,8 @@ fn offer_if_settled(
     capabilities: DeviceCapabilities,
     one: DeviceCapability,
 ) -> Result<(), SendError>
-    ensures ok { OnOk result (ctx.new ≡ sends ctx.old (capability_if seat.now.id (bits_of capabilities) (is_settled versions.now) (bit_of one, interface_of one))) }
+    ensures ok { OnOk result (ctx.new ≡ sends ctx.old (capability_if seat.now.id (bits_of capabilities) (is_settled versions.now)
+        (bit_of one, interface_of one))) }
     ensures only { IfErr result (λ e. e ≡ send_error.NoMemory) }
 {
     if capabilities.has(one) && versions.contains(one.interface_name()) {

@@ -40,7 +40,16 @@ impl EisRequestConverter {
         resp: EisHandshakeResp,
         initial_serial: u32,
     ) -> EisRequestConverter
-        ensures { result ≡ record { handle = record { ctx = context; proxy = resp.connection; negotiated = resp.negotiated_interfaces; last_serial = initial_serial }; queue = [] } }
+        ensures { result ≡ record {
+          handle = record {
+            ctx = context;
+            proxy = resp.connection;
+            negotiated = resp.negotiated_interfaces;
+            last_serial =
+                initial_serial;
+          };
+          queue = [];
+        } }
     {
         EisRequestConverter {
             handle: Connection::new(context, resp, initial_serial),

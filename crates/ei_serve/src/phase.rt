@@ -79,14 +79,16 @@ impl Phase {
 
     /// Whether the connection stands.
     pub(crate) fn is_connected(&self) -> bool
-        ensures { (setup : Started) (past : List Raw) (rest : List ℕ) (handles : List Handle) → StandsAt setup past rest handles self.now → result ≡ connected past }
+        ensures { (setup : Started) (past : List Raw) (rest : List ℕ) (handles : List Handle) → StandsAt setup past rest handles self.now
+            → result ≡ connected past }
     {
         matches!(self, Phase::Connected(_))
     }
 
     /// How many bytes came and are not read yet.
     pub(crate) fn unread_len(&self) -> usize
-        ensures { (setup : Started) (past : List Raw) (rest : List ℕ) (handles : List Handle) → StandsAt setup past rest handles self.now → result ≡ length rest }
+        ensures { (setup : Started) (past : List Raw) (rest : List ℕ) (handles : List Handle) → StandsAt setup past rest handles self.now
+            → result ≡ length rest }
     {
         match self {
             Phase::Handshake(context, _) => context.unread_len(),
@@ -99,7 +101,8 @@ impl Phase {
     #[tactic(auto, using(crate::proofs::Ringing::phase_most))]
     pub(crate) fn ring_capacity(&self) -> usize
         ensures value { result ≡ capacity_in self.now }
-        ensures most { (setup : Started) (past : List Raw) (rest : List ℕ) (handles : List Handle) → StandsAt setup past rest handles self.now → result ≤ most_capacity }
+        ensures most { (setup : Started) (past : List Raw) (rest : List ℕ) (handles : List Handle) → StandsAt setup past rest handles self.now
+            → result ≤ most_capacity }
     {
         match self {
             Phase::Handshake(context, _) => context.ring_capacity(),

@@ -41,7 +41,8 @@ pub fn serve<S: Source, K: Sink, C: Clock>(
     ensures handled { (told : List Piece) → S.left source.old ≡ Some told → IsErrOf result error.ReadFault →
         Handled (setup_of setup) told (S.left source.new) (C.readings clock.old) out.old.items out.new.items (K.taken sink.old) (K.taken sink.new) }
     ensures handled_in_part { (told : List Piece) → S.left source.old ≡ Some told → IsCutShort result →
-        HandledInPart (setup_of setup) (session (setup_of setup) told).handled (C.readings clock.old) out.old.items out.new.items (K.taken sink.old) (K.taken sink.new) }
+        HandledInPart (setup_of setup) (session (setup_of setup) told).handled (C.readings clock.old) out.old.items out.new.items (K.taken sink.old)
+        (K.taken sink.new) }
     ensures owes { (told : List Piece) → S.left source.old ≡ Some told → IsCutShort result →
         OwesLast (setup_of setup) told (S.left source.new) (K.taken sink.old) (K.taken sink.new) }
     // over any source

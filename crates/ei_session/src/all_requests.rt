@@ -70,11 +70,14 @@ pub fn all_one_more()
     ensures serial { (setup : Setup) (before : List Raw) (m : Raw) → serial setup (m ∷ before) ≡ (serial setup before + steps before m) % 2 ^ 32 }
     ensures next_id { (before : List Raw) (m : Raw) → next_id (m ∷ before) ≡ next_id before + ids_given before m }
     ensures object { (before : List Raw) (m : Raw) (id : ℕ) → object (m ∷ before) id ≡ unwrap_or (says id before m) (object before id) }
-    ensures is_down { (before : List Raw) (m : Raw) (device touch : ℕ) → is_down (m ∷ before) device touch ≡ unwrap_or (touches device touch before m) (is_down before device touch) }
+    ensures is_down { (before : List Raw) (m : Raw) (device touch : ℕ)
+        → is_down (m ∷ before) device touch ≡ unwrap_or (touches device touch before m) (is_down before device touch) }
     ensures connected { (before : List Raw) (m : Raw) → is_the_finish before m ≡ false → connected (m ∷ before) ≡ connected before }
     ensures finish { (before : List Raw) (m : Raw) → is_the_finish before m ≡ true → connected (m ∷ before) ≡ true }
-    ensures settled { (before : List Raw) (m : Raw) (interface : KnownInterface) → connected before ≡ true → settled (m ∷ before) interface ≡ settled before interface }
-    ensures version { (before : List Raw) (m : Raw) (interface : KnownInterface) → connected before ≡ true → version (m ∷ before) interface ≡ version before interface }
+    ensures settled { (before : List Raw) (m : Raw) (interface : KnownInterface) → connected before ≡ true
+        → settled (m ∷ before) interface ≡ settled before interface }
+    ensures version { (before : List Raw) (m : Raw) (interface : KnownInterface) → connected before ≡ true
+        → version (m ∷ before) interface ≡ version before interface }
 {}
 
 /// The objects after a message of each kind.
@@ -84,7 +87,8 @@ pub fn objects_after()
         object (m ∷ before) id ≡ option_or (new_device before (next_id before) (interfaces_of mask) id) (object before id) }
     ensures seat_release { (before : List Raw) (m : Raw) (id : ℕ) → connected before ≡ true → m.id ≡ seat_id → asks known.Seat (codes "release") m ≡ true →
         object (m ∷ before) id ≡ (if m.id == id then None else object before id) }
-    ensures interface_release { (before : List Raw) (m : Raw) (e : Entry) (d id : ℕ) → object before m.id ≡ Some e → e.device ≡ Some d → is_device e.interface ≡ false →
+    ensures interface_release { (before : List Raw) (m : Raw) (e : Entry) (d id : ℕ) → object before m.id ≡ Some e → e.device ≡ Some d
+        → is_device e.interface ≡ false →
         asks e.interface (codes "release") m ≡ true → object (m ∷ before) id ≡ (if m.id == id then None else object before id) }
     ensures device_gone { (before : List Raw) (m : Raw) (e : Entry) (id : ℕ) → object before m.id ≡ Some e → e.device ≡ Some m.id → e.interface ≡ known.Device →
         asks e.interface (codes "release") m ≡ true → is_of m.id (object before id) ≡ true → object (m ∷ before) id ≡ None }
@@ -92,7 +96,8 @@ pub fn objects_after()
         asks e.interface (codes "release") m ≡ true → is_of m.id (object before id) ≡ false → object (m ∷ before) id ≡ object before id }
     ensures plain { (before : List Raw) (m : Raw) (e : Entry) (d id : ℕ) → object before m.id ≡ Some e → e.device ≡ Some d →
         asks e.interface (codes "release") m ≡ false → object (m ∷ before) id ≡ object before id }
-    ensures unknown { (before : List Raw) (m : Raw) (id : ℕ) → is_the_finish before m ≡ false → object before m.id ≡ None → object (m ∷ before) id ≡ object before id }
+    ensures unknown { (before : List Raw) (m : Raw) (id : ℕ) → is_the_finish before m ≡ false → object before m.id ≡ None
+        → object (m ∷ before) id ≡ object before id }
 {}
 
 /// What the objects of a server are like, whatever was sent.
@@ -107,7 +112,8 @@ pub fn objects_there()
     ensures device { (before : List Raw) (id : ℕ) (e : Entry) → object before id ≡ Some e → e.interface ≡ known.Device → e.device ≡ Some id }
     ensures above { (before : List Raw) (id : ℕ) (e : Entry) (d : ℕ) → object before id ≡ Some e → e.device ≡ Some d → seat_id < id }
     ensures below { (before : List Raw) (id : ℕ) (e : Entry) → object before id ≡ Some e → id < next_id before }
-    ensures gone { (more before : List Raw) (m : Raw) (id : ℕ) → connected (m ∷ before) ≡ true → list_any (nat_eq id) (gone before m) ≡ true → object (more ++ (m ∷ before)) id ≡ None }
+    ensures gone { (more before : List Raw) (m : Raw) (id : ℕ) → connected (m ∷ before) ≡ true → list_any (nat_eq id) (gone before m) ≡ true
+        → object (more ++ (m ∷ before)) id ≡ None }
 {}
 
 /// How many serials a message of each kind uses.
@@ -127,12 +133,15 @@ pub fn steps_after()
 pub fn items()
     ensures input { (before : List Raw) (m : Raw) (i : DeviceInput) → input before m ≡ Some i →
         item before m ≡ (if is_heard before i.device i.input then Some (Waits i.device i.input) else None) }
-    ensures frame { (before : List Raw) (m : Raw) (e : Entry) (d serial time : ℕ) → object before m.id ≡ Some e → e.interface ≡ known.Device → e.device ≡ Some d →
+    ensures frame { (before : List Raw) (m : Raw) (e : Entry) (d serial time : ℕ) → object before m.id ≡ Some e → e.interface ≡ known.Device
+        → e.device ≡ Some d →
         asked known.Device (codes "frame") m ≡ Some (Word serial ∷ Long time ∷ []) → item before m ≡ Some (Frame d serial time) }
     ensures closed { (before : List Raw) (m : Raw) (e : Entry) (d : ℕ) → object before m.id ≡ Some e → e.interface ≡ known.Device → e.device ≡ Some d →
         asked known.Device (codes "release") m ≡ Some [] → item before m ≡ Some (Other d (DeviceClosed d)) }
-    ensures start { (before : List Raw) (m : Raw) (e : Entry) (d serial sequence : ℕ) → object before m.id ≡ Some e → e.interface ≡ known.Device → e.device ≡ Some d →
-        asked known.Device (codes "start_emulating") m ≡ Some (Word serial ∷ Word sequence ∷ []) → item before m ≡ Some (Other d (DeviceStartEmulating d serial sequence)) }
+    ensures start { (before : List Raw) (m : Raw) (e : Entry) (d serial sequence : ℕ) → object before m.id ≡ Some e → e.interface ≡ known.Device
+        → e.device ≡ Some d →
+        asked known.Device (codes "start_emulating") m ≡ Some (Word serial ∷ Word sequence ∷ [])
+        → item before m ≡ Some (Other d (DeviceStartEmulating d serial sequence)) }
     ensures stop { (before : List Raw) (m : Raw) (e : Entry) (d serial : ℕ) → object before m.id ≡ Some e → e.interface ≡ known.Device → e.device ≡ Some d →
         asked known.Device (codes "stop_emulating") m ≡ Some (Word serial ∷ []) → item before m ≡ Some (Other d (DeviceStopEmulating d serial)) }
     ensures ready { (before : List Raw) (m : Raw) (e : Entry) (d : ℕ) → object before m.id ≡ Some e → e.interface ≡ known.Device → e.device ≡ Some d →
@@ -147,7 +156,8 @@ pub fn items()
         asked known.Connection (codes "sync") m ≡ Some (Long callback ∷ Word v ∷ []) → item before m ≡ None }
     ensures seat_release { (before : List Raw) (m : Raw) (e : Entry) → object before m.id ≡ Some e → e.interface ≡ known.Seat →
         asked known.Seat (codes "release") m ≡ Some [] → item before m ≡ None }
-    ensures interface_release { (before : List Raw) (m : Raw) (e : Entry) (d : ℕ) → object before m.id ≡ Some e → e.device ≡ Some d → is_device e.interface ≡ false →
+    ensures interface_release { (before : List Raw) (m : Raw) (e : Entry) (d : ℕ) → object before m.id ≡ Some e → e.device ≡ Some d
+        → is_device e.interface ≡ false →
         asks e.interface (codes "release") m ≡ true → item before m ≡ None }
     ensures unknown { (before : List Raw) (m : Raw) → object before m.id ≡ None → item before m ≡ None }
 {}
@@ -161,7 +171,8 @@ pub fn answers()
         asked known.Connection (codes "sync") m ≡ Some (Long callback ∷ Word v ∷ []) → reply setup before m ≡ callback_event callback ∷ [] }
     ensures device { (setup : Setup) (before : List Raw) (m : Raw) (mask : ℕ) → made before m ≡ Some mask → exhausts before m ≡ false →
         reply setup before m ≡ device_events (version before) (next_id before) (interfaces_of mask) (serial setup (m ∷ before)) }
-    ensures release { (setup : Setup) (before : List Raw) (m : Raw) (e : Entry) → object before m.id ≡ Some e → connection_id ≢ m.id → is_the_finish before m ≡ false →
+    ensures release { (setup : Setup) (before : List Raw) (m : Raw) (e : Entry) → object before m.id ≡ Some e → connection_id ≢ m.id
+        → is_the_finish before m ≡ false →
         asks e.interface (codes "release") m ≡ true → reply setup before m ≡ destroyed_events (serial setup before) (gone before m) }
     ensures destroyed { (interface : KnownInterface) (m : Raw) (id serial : ℕ) → asks interface (codes "release") m ≡ true →
         destroyed_event id serial ≡ event interface (codes "destroyed") id (Word serial ∷ []) }
@@ -169,7 +180,8 @@ pub fn answers()
         asks e.interface (codes "release") m ≡ true → gone before m ≡ m.id ∷ [] }
     ensures device_gone { (before : List Raw) (m : Raw) (e : Entry) → object before m.id ≡ Some e → e.interface ≡ known.Device →
         asks e.interface (codes "release") m ≡ true → gone before m ≡ interfaces_left before m.id ++ (m.id ∷ []) }
-    ensures plain { (setup : Setup) (before : List Raw) (m : Raw) (e : Entry) → is_the_finish before m ≡ false → made before m ≡ None → object before m.id ≡ Some e →
+    ensures plain { (setup : Setup) (before : List Raw) (m : Raw) (e : Entry) → is_the_finish before m ≡ false → made before m ≡ None
+        → object before m.id ≡ Some e →
         asks e.interface (codes "release") m ≡ false → synced before m ≡ None → reply setup before m ≡ [] }
 {}
 
@@ -177,7 +189,8 @@ pub fn answers()
 pub fn bounds()
     ensures unrefused { (setup : Setup) (bytes : List ℕ) → IsBytes bytes → AreUnrefused setup (accepted setup bytes) }
     ensures touches { (setup : Setup) (past : List Raw) (device : ℕ) → AreUnrefused setup past → length (touches_down past device) ≤ MOST_TOUCHES }
-    ensures unread { (setup : Setup) (bytes : List ℕ) → IsBytes bytes → (reading_of setup bytes).stop ≡ Waiting → length (reading_of setup bytes).rest < MOST_MESSAGE_BYTES }
+    ensures unread { (setup : Setup) (bytes : List ℕ) → IsBytes bytes → (reading_of setup bytes).stop ≡ Waiting
+        → length (reading_of setup bytes).rest < MOST_MESSAGE_BYTES }
     ensures interfaces { (mask : ℕ) → length (interfaces_of mask) ≤ 7 }
     ensures gone { (before : List Raw) (m : Raw) → length (gone before m) ≤ 8 }
     ensures reply { (setup : Setup) (before : List Raw) (m : Raw) → length (all_bytes (reply setup before m)) ≤ 804 }
@@ -187,12 +200,16 @@ pub fn bounds()
 pub fn interfaces_after()
     ensures new { (before : List Raw) (m : Raw) (mask : ℕ) → made before m ≡ Some mask →
         interfaces_left (m ∷ before) (next_id before) ≡ range_with_len (next_id before + 1) (length (interfaces_of mask)) }
-    ensures another { (before : List Raw) (m : Raw) (mask d : ℕ) → made before m ≡ Some mask → next_id before ≢ d → interfaces_left (m ∷ before) d ≡ interfaces_left before d }
-    ensures interface_release { (before : List Raw) (m : Raw) (e : Entry) (d device : ℕ) → made before m ≡ None → object before m.id ≡ Some e → e.device ≡ Some d → is_device e.interface ≡ false →
+    ensures another { (before : List Raw) (m : Raw) (mask d : ℕ) → made before m ≡ Some mask → next_id before ≢ d
+        → interfaces_left (m ∷ before) d ≡ interfaces_left before d }
+    ensures interface_release { (before : List Raw) (m : Raw) (e : Entry) (d device : ℕ) → made before m ≡ None → object before m.id ≡ Some e
+        → e.device ≡ Some d → is_device e.interface ≡ false →
         asks e.interface (codes "release") m ≡ true → interfaces_left (m ∷ before) device ≡ filter (λ id. not (m.id == id)) (interfaces_left before device) }
-    ensures device_release { (before : List Raw) (m : Raw) (e : Entry) (d : ℕ) → made before m ≡ None → object before m.id ≡ Some e → e.device ≡ Some m.id → e.interface ≡ known.Device →
+    ensures device_release { (before : List Raw) (m : Raw) (e : Entry) (d : ℕ) → made before m ≡ None → object before m.id ≡ Some e → e.device ≡ Some m.id
+        → e.interface ≡ known.Device →
         asks e.interface (codes "release") m ≡ true → d ≢ m.id → interfaces_left (m ∷ before) d ≡ interfaces_left before d }
-    ensures plain { (before : List Raw) (m : Raw) (d : ℕ) → made before m ≡ None → ((id : ℕ) → object (m ∷ before) id ≡ object before id) → interfaces_left (m ∷ before) d ≡ interfaces_left before d }
+    ensures plain { (before : List Raw) (m : Raw) (d : ℕ) → made before m ≡ None → ((id : ℕ) → object (m ∷ before) id ≡ object before id)
+        → interfaces_left (m ∷ before) d ≡ interfaces_left before d }
 {}
 
 /// Each event goes to an object that is there, or to the callback that it calls; and what is there was announced.
@@ -208,7 +225,8 @@ pub fn targets()
 /// The inputs that wait on a device, after a message of each kind.
 pub fn groups()
     ensures input { (setup : Setup) (before : List Raw) (m : Raw) (device d : ℕ) (i : Input) → item before m ≡ Some (Waits d i) →
-        group device (each (slot setup) (m ∷ before)) ≡ (if d == device then group device (each (slot setup) before) ++ (i ∷ []) else group device (each (slot setup) before)) }
+        group device (each (slot setup) (m ∷ before))
+        ≡ (if d == device then group device (each (slot setup) before) ++ (i ∷ []) else group device (each (slot setup) before)) }
     ensures frame { (setup : Setup) (before : List Raw) (m : Raw) (device d serial time : ℕ) → item before m ≡ Some (Frame d serial time) →
         group device (each (slot setup) (m ∷ before)) ≡ (if d == device then [] else group device (each (slot setup) before)) }
     ensures other { (setup : Setup) (before : List Raw) (m : Raw) (device d : ℕ) (y : Plain) → item before m ≡ Some (Other d y) →
@@ -227,14 +245,17 @@ pub fn touches_after()
         (device touch : ℕ) → is_down (m ∷ before) device touch ≡ (not (d == device && t == touch) && is_down before device touch) }
     ensures cancel { (before : List Raw) (m : Raw) (d t : ℕ) → input before m ≡ Some (record { device = d; input = TouchCancel t }) →
         (device touch : ℕ) → is_down (m ∷ before) device touch ≡ (not (d == device && t == touch) && is_down before device touch) }
-    ensures none { (before : List Raw) (m : Raw) → input before m ≡ None → (device touch : ℕ) → is_down (m ∷ before) device touch ≡ is_down before device touch }
+    ensures none { (before : List Raw) (m : Raw) → input before m ≡ None → (device touch : ℕ)
+        → is_down (m ∷ before) device touch ≡ is_down before device touch }
 {}
 
 /// Which requests make a device.
 pub fn devices_made()
-    ensures bind { (before : List Raw) (m : Raw) (mask : ℕ) → seat_is_open before ≡ true → m.id ≡ seat_id → asked known.Seat (codes "bind") m ≡ Some (Long mask ∷ []) →
+    ensures bind { (before : List Raw) (m : Raw) (mask : ℕ) → seat_is_open before ≡ true → m.id ≡ seat_id
+        → asked known.Seat (codes "bind") m ≡ Some (Long mask ∷ []) →
         made before m ≡ (if mask == 0 then None else Some mask) }
-    ensures request_device { (before : List Raw) (m : Raw) (mask : ℕ) → seat_is_open before ≡ true → m.id ≡ seat_id → asked known.Seat (codes "request_device") m ≡ Some (Long mask ∷ []) →
+    ensures request_device { (before : List Raw) (m : Raw) (mask : ℕ) → seat_is_open before ≡ true → m.id ≡ seat_id
+        → asked known.Seat (codes "request_device") m ≡ Some (Long mask ∷ []) →
         made before m ≡ (if mask == 0 then None else Some mask) }
     ensures shut { (before : List Raw) (m : Raw) → seat_is_open before ≡ false → made before m ≡ None }
     ensures other { (before : List Raw) (m : Raw) → m.id ≢ seat_id → made before m ≡ None }
@@ -244,27 +265,42 @@ pub fn devices_made()
 
 /// Which requests are inputs.
 pub fn inputs()
-    ensures there { (before : List Raw) (m : Raw) (e : Entry) (d : ℕ) (interface : KnownInterface) (i : Input) → object before m.id ≡ Some e → e.interface ≡ interface → e.device ≡ Some d →
+    ensures there { (before : List Raw) (m : Raw) (e : Entry) (d : ℕ) (interface : KnownInterface) (i : Input) → object before m.id ≡ Some e
+        → e.interface ≡ interface → e.device ≡ Some d →
         input_to interface m ≡ Some i → input before m ≡ Some (record { device = d; input = i }) }
-    ensures motion_relative { (m : Raw) (x y : ℕ) → asked known.Pointer (codes "motion_relative") m ≡ Some (Word x ∷ Word y ∷ []) → input_to known.Pointer m ≡ Some (PointerMotion x y) }
-    ensures motion_absolute { (m : Raw) (x y : ℕ) → asked known.PointerAbsolute (codes "motion_absolute") m ≡ Some (Word x ∷ Word y ∷ []) → input_to known.PointerAbsolute m ≡ Some (PointerMotionAbsolute x y) }
-    ensures scroll { (m : Raw) (x y : ℕ) → asked known.Scroll (codes "scroll") m ≡ Some (Word x ∷ Word y ∷ []) → input_to known.Scroll m ≡ Some (ScrollDelta x y) }
-    ensures scroll_discrete { (m : Raw) (x y : ℤ) → asked known.Scroll (codes "scroll_discrete") m ≡ Some (Signed x ∷ Signed y ∷ []) → input_to known.Scroll m ≡ Some (ScrollDiscrete x y) }
-    ensures scroll_stop { (m : Raw) (x y is_cancel : ℕ) → asked known.Scroll (codes "scroll_stop") m ≡ Some (Word x ∷ Word y ∷ Word is_cancel ∷ []) → input_to known.Scroll m ≡ Some (scroll_end x y is_cancel) }
-    ensures button { (m : Raw) (code state : ℕ) → asked known.Button (codes "button") m ≡ Some (Word code ∷ Word state ∷ []) → input_to known.Button m ≡ Some (button code state) }
-    ensures key { (m : Raw) (key state : ℕ) → asked known.Keyboard (codes "key") m ≡ Some (Word key ∷ Word state ∷ []) → input_to known.Keyboard m ≡ Some (KeyboardKey key (key_of state)) }
-    ensures down { (m : Raw) (touch x y : ℕ) → asked known.Touchscreen (codes "down") m ≡ Some (Word touch ∷ Word x ∷ Word y ∷ []) → input_to known.Touchscreen m ≡ Some (TouchDown touch x y) }
-    ensures motion { (m : Raw) (touch x y : ℕ) → asked known.Touchscreen (codes "motion") m ≡ Some (Word touch ∷ Word x ∷ Word y ∷ []) → input_to known.Touchscreen m ≡ Some (TouchMotion touch x y) }
+    ensures motion_relative { (m : Raw) (x y : ℕ) → asked known.Pointer (codes "motion_relative") m ≡ Some (Word x ∷ Word y ∷ [])
+        → input_to known.Pointer m ≡ Some (PointerMotion x y) }
+    ensures motion_absolute { (m : Raw) (x y : ℕ) → asked known.PointerAbsolute (codes "motion_absolute") m ≡ Some (Word x ∷ Word y ∷ [])
+        → input_to known.PointerAbsolute m ≡ Some (PointerMotionAbsolute x y) }
+    ensures scroll { (m : Raw) (x y : ℕ) → asked known.Scroll (codes "scroll") m ≡ Some (Word x ∷ Word y ∷ [])
+        → input_to known.Scroll m ≡ Some (ScrollDelta x y) }
+    ensures scroll_discrete { (m : Raw) (x y : ℤ) → asked known.Scroll (codes "scroll_discrete") m ≡ Some (Signed x ∷ Signed y ∷ [])
+        → input_to known.Scroll m ≡ Some (ScrollDiscrete x y) }
+    ensures scroll_stop { (m : Raw) (x y is_cancel : ℕ) → asked known.Scroll (codes "scroll_stop") m ≡ Some (Word x ∷ Word y ∷ Word is_cancel ∷ [])
+        → input_to known.Scroll m ≡ Some (scroll_end x y is_cancel) }
+    ensures button { (m : Raw) (code state : ℕ) → asked known.Button (codes "button") m ≡ Some (Word code ∷ Word state ∷ [])
+        → input_to known.Button m ≡ Some (button code state) }
+    ensures key { (m : Raw) (key state : ℕ) → asked known.Keyboard (codes "key") m ≡ Some (Word key ∷ Word state ∷ [])
+        → input_to known.Keyboard m ≡ Some (KeyboardKey key (key_of state)) }
+    ensures down { (m : Raw) (touch x y : ℕ) → asked known.Touchscreen (codes "down") m ≡ Some (Word touch ∷ Word x ∷ Word y ∷ [])
+        → input_to known.Touchscreen m ≡ Some (TouchDown touch x y) }
+    ensures motion { (m : Raw) (touch x y : ℕ) → asked known.Touchscreen (codes "motion") m ≡ Some (Word touch ∷ Word x ∷ Word y ∷ [])
+        → input_to known.Touchscreen m ≡ Some (TouchMotion touch x y) }
     ensures up { (m : Raw) (touch : ℕ) → asked known.Touchscreen (codes "up") m ≡ Some (Word touch ∷ []) → input_to known.Touchscreen m ≡ Some (TouchUp touch) }
-    ensures cancel { (m : Raw) (touch : ℕ) → asked known.Touchscreen (codes "cancel") m ≡ Some (Word touch ∷ []) → input_to known.Touchscreen m ≡ Some (TouchCancel touch) }
-    ensures keysym { (m : Raw) (keysym state : ℕ) → asked known.Text (codes "keysym") m ≡ Some (Word keysym ∷ Word state ∷ []) → input_to known.Text m ≡ Some (TextKeysym keysym (key_of state)) }
-    ensures utf8 { (m : Raw) (letters : List ℕ) → asked known.Text (codes "utf8") m ≡ Some (Letters letters ∷ []) → input_to known.Text m ≡ Some (TextUtf8 letters) }
+    ensures cancel { (m : Raw) (touch : ℕ) → asked known.Touchscreen (codes "cancel") m ≡ Some (Word touch ∷ [])
+        → input_to known.Touchscreen m ≡ Some (TouchCancel touch) }
+    ensures keysym { (m : Raw) (keysym state : ℕ) → asked known.Text (codes "keysym") m ≡ Some (Word keysym ∷ Word state ∷ [])
+        → input_to known.Text m ≡ Some (TextKeysym keysym (key_of state)) }
+    ensures utf8 { (m : Raw) (letters : List ℕ) → asked known.Text (codes "utf8") m ≡ Some (Letters letters ∷ [])
+        → input_to known.Text m ≡ Some (TextUtf8 letters) }
 {}
 
 /// Why a message is refused, by what its target is.
 pub fn refusals()
     ensures known { (setup : Setup) (before : List Raw) (m : Raw) (e : Entry) → object before m.id ≡ Some e →
-        refusal setup before m ≡ first (tests setup before m e (row_at m.opcode (table false e.interface)) (arguments (row_at m.opcode (table false e.interface)) m)) }
-    ensures early { (setup : Setup) (before : List Raw) (m : Raw) → connected before ≡ false → object before m.id ≡ None → refusal setup before m ≡ Some (Handshake (handshake.InvalidObject m.id)) }
+        refusal setup before m ≡ first (tests setup before m e (row_at m.opcode (table false e.interface)) (arguments (row_at m.opcode
+        (table false e.interface)) m)) }
+    ensures early { (setup : Setup) (before : List Raw) (m : Raw) → connected before ≡ false → object before m.id ≡ None
+        → refusal setup before m ≡ Some (Handshake (handshake.InvalidObject m.id)) }
     ensures unknown { (setup : Setup) (before : List Raw) (m : Raw) → connected before ≡ true → object before m.id ≡ None → refusal setup before m ≡ None }
 {}

@@ -36,7 +36,8 @@ pub fn handshakes()
     ensures none_came { (session (record { serial = 5; capabilities = 32; pieces = 0 }) []).answer ≡ UnexpectedEof }
     ensures what_follows { answer buttons (shaken ∷ parts (disconnect ∷ (255 ∷ 255 ∷ []) ∷ []) ∷ []) ≡ Disconnect }
     ensures waits { answer buttons (shaken ∷ (0 ∷ 0 ∷ 0 ∷ 0 ∷ 0 ∷ 0 ∷ 0 ∷ 0 ∷ 0 ∷ 0 ∷ 0 ∷ 0 ∷ 0 ∷ 0 ∷ 0 ∷ []) ∷ []) ≡ End }
-    ensures wraps { reply_bytes (record { serial = 4294967295; capabilities = 32; pieces = 200 }) (shaken ∷ bind 32 ∷ []) ≡ parts (connected_with 4294967295 ∷ device_of_button ∷ resumed 0 ∷ []) }
+    ensures wraps { reply_bytes (record { serial = 4294967295; capabilities = 32; pieces = 200 }) (shaken ∷ bind 32 ∷ [])
+        ≡ parts (connected_with 4294967295 ∷ device_of_button ∷ resumed 0 ∷ []) }
 {}
 
 /// What a fresh server says of messages of the handshake.
@@ -50,7 +51,8 @@ pub fn first_messages()
     ensures named { answer buttons (parts (header 0 24 3 ∷ le4 3 ∷ (97 ∷ 98 ∷ 7 ∷ 0 ∷ []) ∷ []) ∷ []) ≡ UnexpectedEof }
     ensures utf8 { answer buttons (parts (header 0 24 3 ∷ le4 3 ∷ (97 ∷ 255 ∷ 0 ∷ 0 ∷ []) ∷ []) ∷ []) ≡ Refused (Parse (Utf8 1)) }
     ensures ends { answer buttons (parts (header 0 20 3 ∷ le4 5 ∷ []) ∷ []) ≡ Refused (Parse EndOfMessage) }
-    ensures twice { answer buttons (parts (header 0 24 3 ∷ le4 3 ∷ (97 ∷ 98 ∷ 7 ∷ 0 ∷ []) ∷ []) ∷ parts (header 0 24 3 ∷ le4 3 ∷ (97 ∷ 98 ∷ 7 ∷ 0 ∷ []) ∷ []) ∷ []) ≡ Refused (Handshake handshake.DuplicateEvent) }
+    ensures twice { answer buttons (parts (header 0 24 3 ∷ le4 3 ∷ (97 ∷ 98 ∷ 7 ∷ 0 ∷ []) ∷ []) ∷ parts (header 0 24 3 ∷ le4 3 ∷
+        (97 ∷ 98 ∷ 7 ∷ 0 ∷ []) ∷ []) ∷ []) ≡ Refused (Handshake handshake.DuplicateEvent) }
     ensures missing { answer buttons (finish ∷ []) ≡ Refused (Handshake handshake.MissingInterface) }
     ensures stranger { answer buttons (header 9 16 0 ∷ []) ≡ Refused (Handshake (handshake.InvalidObject 9)) }
 {}
@@ -63,10 +65,12 @@ pub fn devices()
     ensures framed { requests buttons [] (shaken ∷ bind 32 ∷ press ∷ frame 6 9 ∷ frame 6 10 ∷ disconnect ∷ []) ≡
         Plain (Bind seat_id 32) ∷ Timed device_id (Button 272 button_state.Press) 9 ∷ Framed device_id 6 9 ∷ Plain Disconnects ∷ [] }
     ensures ready { requests buttons (77 ∷ []) (shaken ∷ bind 32 ∷ press ∷ ready ∷ disconnect ∷ []) ≡
-        Plain (Bind seat_id 32) ∷ Timed device_id (Button 272 button_state.Press) 77 ∷ Framed device_id 6 77 ∷ Plain (Ready device_id) ∷ Plain Disconnects ∷ [] }
+        Plain (Bind seat_id 32) ∷ Timed device_id (Button 272 button_state.Press) 77 ∷ Framed device_id 6 77 ∷ Plain
+        (Ready device_id) ∷ Plain Disconnects ∷ [] }
     ensures unframed { requests buttons [] (shaken ∷ bind 32 ∷ press ∷ disconnect ∷ []) ≡ Plain (Bind seat_id 32) ∷ Plain Disconnects ∷ [] }
     ensures closed { requests buttons (77 ∷ []) (shaken ∷ bind 32 ∷ press ∷ release interface_id ∷ release device_id ∷ disconnect ∷ []) ≡
-        Plain (Bind seat_id 32) ∷ Timed device_id (Button 272 button_state.Press) 77 ∷ Framed device_id 7 77 ∷ Plain (DeviceClosed device_id) ∷ Plain Disconnects ∷ [] }
+        Plain (Bind seat_id 32) ∷ Timed device_id (Button 272 button_state.Press) 77 ∷ Framed device_id 7 77 ∷ Plain
+        (DeviceClosed device_id) ∷ Plain Disconnects ∷ [] }
     ensures destroyed { reply_bytes buttons (shaken ∷ bind 32 ∷ press ∷ release interface_id ∷ release device_id ∷ disconnect ∷ []) ≡
         parts (connected_with 5 ∷ device_of_button ∷ resumed 6 ∷ destroyed interface_id 7 ∷ destroyed device_id 8 ∷ []) }
     ensures no_mask { requests buttons [] (shaken ∷ bind 0 ∷ []) ≡ Plain (Bind seat_id 0) ∷ [] }
@@ -79,7 +83,8 @@ pub fn devices()
 pub fn strangers()
     ensures other { reply_bytes buttons (shaken ∷ header 9 16 0 ∷ []) ≡ parts (connected_with 5 ∷ invalid_object 5 9 ∷ []) }
     ensures handshake { reply_bytes buttons (shaken ∷ header 0 16 0 ∷ []) ≡ parts (connected_with 5 ∷ invalid_object 5 0 ∷ []) }
-    ensures early { reply_bytes buttons (shaken ∷ release device_id ∷ bind 32 ∷ []) ≡ parts (connected_with 5 ∷ invalid_object 5 device_id ∷ device_of_button ∷ resumed 6 ∷ []) }
+    ensures early { reply_bytes buttons (shaken ∷ release device_id ∷ bind 32 ∷ [])
+        ≡ parts (connected_with 5 ∷ invalid_object 5 device_id ∷ device_of_button ∷ resumed 6 ∷ []) }
     ensures live { requests buttons [] (shaken ∷ release device_id ∷ bind 32 ∷ ready ∷ []) ≡ Plain (Bind seat_id 32) ∷ Plain (Ready device_id) ∷ [] }
 {}
 
@@ -97,13 +102,18 @@ pub fn callbacks()
 /// Touches: at most sixteen are down, each once.
 pub fn touches()
     ensures sixteen { answer (with_capabilities 8) (touchscreen_announced ∷ shaken ∷ bind 8 ∷ sixteen_down ∷ []) ≡ End }
-    ensures too_many { answer (with_capabilities 8) (touchscreen_announced ∷ shaken ∷ bind 8 ∷ sixteen_down ∷ touch_down 0 ∷ []) ≡ Refused (Request request.TooManyTouches) }
+    ensures too_many { answer (with_capabilities 8) (touchscreen_announced ∷ shaken ∷ bind 8 ∷ sixteen_down ∷ touch_down 0 ∷ [])
+        ≡ Refused (Request request.TooManyTouches) }
     ensures again { answer (with_capabilities 8) (touchscreen_announced ∷ shaken ∷ bind 8 ∷ sixteen_down ∷ touch_up 3 ∷ touch_down 3 ∷ []) ≡ End }
-    ensures again_too_many { answer (with_capabilities 8) (touchscreen_announced ∷ shaken ∷ bind 8 ∷ sixteen_down ∷ touch_up 3 ∷ touch_down 3 ∷ touch_down 4 ∷ []) ≡ Refused (Request request.TooManyTouches) }
-    ensures duplicated { answer (with_capabilities 8) (touchscreen_announced ∷ shaken ∷ bind 8 ∷ touch_down 4 ∷ touch_down 4 ∷ []) ≡ Refused (Request request.DuplicatedTouchDown) }
+    ensures again_too_many { answer (with_capabilities 8)
+        (touchscreen_announced ∷ shaken ∷ bind 8 ∷ sixteen_down ∷ touch_up 3 ∷ touch_down 3 ∷ touch_down 4 ∷ []) ≡ Refused (Request request.TooManyTouches) }
+    ensures duplicated { answer (with_capabilities 8) (touchscreen_announced ∷ shaken ∷ bind 8 ∷ touch_down 4 ∷ touch_down 4 ∷ [])
+        ≡ Refused (Request request.DuplicatedTouchDown) }
     ensures cancelled { answer (with_capabilities 8) (touchscreen_announced ∷ shaken ∷ bind 8 ∷ touch_down 4 ∷ touch_cancel 4 ∷ []) ≡ End }
-    ensures old { answer (with_capabilities 8) (shaken ∷ bind 8 ∷ touch_down 4 ∷ touch_cancel 4 ∷ []) ≡ Refused (InvalidInterfaceVersion (codes "ei_touchscreen") 1) }
-    ensures unheard { requests (with_capabilities 8) [] (touchscreen_announced ∷ shaken ∷ bind 8 ∷ touch_down 4 ∷ touch_motion 5 ∷ touch_up 4 ∷ touch_up 4 ∷ touch_cancel 4 ∷ frame 6 9 ∷ []) ≡
+    ensures old { answer (with_capabilities 8) (shaken ∷ bind 8 ∷ touch_down 4 ∷ touch_cancel 4 ∷ [])
+        ≡ Refused (InvalidInterfaceVersion (codes "ei_touchscreen") 1) }
+    ensures unheard { requests (with_capabilities 8) []
+        (touchscreen_announced ∷ shaken ∷ bind 8 ∷ touch_down 4 ∷ touch_motion 5 ∷ touch_up 4 ∷ touch_up 4 ∷ touch_cancel 4 ∷ frame 6 9 ∷ []) ≡
         Plain (Bind seat_id 8) ∷ Timed device_id (TouchDown 4 0 0) 9 ∷ Timed device_id (TouchUp 4) 9 ∷ Framed device_id 6 9 ∷ [] }
 {}
 

@@ -43,7 +43,8 @@ pub fn enums()
 /// bytes the same refusal comes, of one argument and of some, one after another, behind as many handles.
 pub fn refusals()
     ensures one { (kind : Kind) (s t : Unread) (f : Fault) → s.bytes ≡ t.bytes → f ≢ NoFd → read kind s ≡ Err f → read kind t ≡ Err f }
-    ensures all { (kinds : List Kind) (s t : Unread) (f : Fault) (taken : ℕ) → s.bytes ≡ t.bytes → s.taken ≡ t.taken → f ≢ NoFd → all_at kinds s ≡ Err (f, taken) →
+    ensures all { (kinds : List Kind) (s t : Unread) (f : Fault) (taken : ℕ) → s.bytes ≡ t.bytes → s.taken ≡ t.taken → f ≢ NoFd
+        → all_at kinds s ≡ Err (f, taken) →
         (all_at kinds t ≡ Err (f, taken)) ⊎ ((before : ℕ) × (all_at kinds t ≡ Err (NoFd, before))) }
 {}
 

@@ -69,7 +69,8 @@ impl Arg<'_> {
         ensures err { OnErr result (buf.new.items ≡ buf.old.items) }
         ensures err_handles { OnErr result (handles.new.items ≡ handles.old.items) }
         // a refusal comes only where room was missing, and no room is lost
-        ensures succeeds { vec_len buf.old + length (written (value_of_arg self.now)) ≤ vec_capacity buf.old → vec_len handles.old + length (handles_of (value_of_arg self.now)) ≤ vec_capacity handles.old → IsOk result }
+        ensures succeeds { vec_len buf.old + length (written (value_of_arg self.now)) ≤ vec_capacity buf.old
+            → vec_len handles.old + length (handles_of (value_of_arg self.now)) ≤ vec_capacity handles.old → IsOk result }
         ensures capacity { vec_capacity buf.old ≤ vec_capacity buf.new }
         ensures handle_capacity { vec_capacity handles.old ≤ vec_capacity handles.new }
     {

@@ -131,14 +131,16 @@ fn session<I: Input, C: Clock>(
     ensures replies { ForPieces (I.text input.old) (λ pieces. IsDecided result →
         Replied (setup_of setup) (session (setup_of setup) pieces).handled (Some reply.old.held) (Some reply.new.held)) }
     ensures handled { ForPieces (I.text input.old) (λ pieces. IsErrOf result error.ReadFault → (unread : List ℕ) ×
-        Handled (setup_of setup) pieces (pieces_left unread (I.text input.new)) (C.readings clock.old) requests.old.items requests.new.items (Some reply.old.held) (Some reply.new.held)) }
+        Handled (setup_of setup) pieces (pieces_left unread (I.text input.new)) (C.readings clock.old) requests.old.items requests.new.items
+        (Some reply.old.held) (Some reply.new.held)) }
     ensures all_handled { ForPieces (I.text input.old) (λ pieces. IsErrOf result error.ReadFault → Rose (I.faults input.old) (I.faults input.new) ⊎
         (HandsOut (setup_of setup) (session (setup_of setup) pieces).handled (C.readings clock.old) requests.old.items requests.new.items
         × Replied (setup_of setup) (session (setup_of setup) pieces).handled (Some reply.old.held) (Some reply.new.held))) }
     ensures pieces_end { ForPieces (I.text input.old) (λ pieces. IsErrOf result error.ReadFault → Rose (I.faults input.old) (I.faults input.new) ⊎
         IsPiecesEnd (session (setup_of setup) pieces).answer) }
     ensures handled_in_part { ForPieces (I.text input.old) (λ pieces. IsCutShort result →
-        HandledInPart (setup_of setup) (session (setup_of setup) pieces).handled (C.readings clock.old) requests.old.items requests.new.items (Some reply.old.held) (Some reply.new.held)) }
+        HandledInPart (setup_of setup) (session (setup_of setup) pieces).handled (C.readings clock.old) requests.old.items requests.new.items
+        (Some reply.old.held) (Some reply.new.held)) }
     ensures whole { ForPieces (I.text input.old) (λ pieces. HasBadLine (I.text input.old) → IsSourceEnd result → ⊥) }
     ensures read_fault { IsErrOf result error.ReadFault → Rose (I.faults input.old) (I.faults input.new) ⊎ HasBadLine (I.text input.old) }
     ensures later_input { I.later input.old input.new }
