@@ -106,9 +106,12 @@ impl Session {
     ///
     /// At the source's end it answers `End` after the connection, and `UnexpectedEof` before it.
     /// `PieceLimit` where the setup's number of pieces was taken and one more came, which isn't handled;
-    /// `HandleLimit` where more than 4096 handles would be unread; `Parse` of a header of unlawful
-    /// length; `NotBuilt` for a message that the server doesn't take; `ReadFault`, `WriteFault` and
-    /// `NoMemory`. After each of them the session is over.
+    /// `HandleLimit` where more than 4096 handles would be unread; `ReadFault`, `WriteFault` and `NoMemory`.
+    /// At any time `Parse` of a header of unlawful length. Before the connection `Parse` of what can't be read
+    /// in a message; of `Handshake` `InvalidObject` for a message to another object than 0, `DuplicateEvent` for
+    /// a second name or context type, and `MissingInterface` for a finish without ei_connection, ei_callback
+    /// and ei_pingpong announced. After it `NotBuilt` for a message to the connection or its seat but a
+    /// disconnect. After each of them the session is over.
     pub fn turn<S: Source, K: Sink, C: Clock>(
         &mut self,
         source: &mut S,

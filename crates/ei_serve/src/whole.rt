@@ -17,6 +17,8 @@ use std::alloc::Global;
 
 /// Serves one client: greets it, shakes hands, announces one seat, and hands out its requests until it
 /// disconnects or the source is at its end.
+///
+/// It is refused as `Session::start` and `Session::turn` are.
 #[tactic(auto, using(crate::proofs::Causes::rose_since))]
 pub fn serve<S: Source, K: Sink, C: Clock>(
     alloc: Global,
