@@ -13,6 +13,9 @@ use std::test::Fail;
 fn another_interface_has_no_part_in_the_handshake(rt: HostRuntime) -> Result<(), Fail> {
     let alloc = rt.alloc();
     let mut context = Context::new(alloc)?;
+    let Some(_handshake) = context.handshake() else {
+        panic!(rt; "no handshake");
+    };
     let mut handshaker = EisHandshaker::new(alloc, &mut context, 5)?;
     let interface = InterfaceName::Known(KnownInterface::Pingpong);
     let object = context.backend_mut().new_object(interface, 1)?;
