@@ -1,1 +1,13 @@
+pub mod AddedDevice
+pub mod Closing
+pub mod DeviceRooms
+pub mod FirstOnes
+pub mod GoneInTurn
+pub mod IdsInTurn
+pub mod ItemsInTurn
+pub mod MadeInTurn
 pub mod Offering
+pub mod RisingDevices
+pub mod Rooms
+pub mod SeatRooms
+pub mod Unfailing

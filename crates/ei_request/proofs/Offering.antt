@@ -10,7 +10,7 @@ use Rattle.ei_spec.specs.Message.{Raw}
 use Rattle.ei_types.specs.declared.capability.DeviceCapability.{DeviceCapability}
 use Rattle.ei_types.specs.Capability.{capability_list, bit_of, interface_of, has_bit}
 use Rattle.ei_session.specs.Replies.{capability_event, capability_events}
-use Rattle.ei_request.specs.Connection.{capability_if}
+use Rattle.ei_request.specs.Making.{capability_if}
 
 -- the bit and the interface of a capability
 abbrev pub pair_of : DeviceCapability → ℕ × KnownInterface

@@ -1,3 +1,16 @@
+pub mod Keys
+pub mod Coded
+pub mod Timed
+pub mod Typed
+pub mod Event
+pub mod Held
+pub mod Rising
 pub mod Connection
+pub mod Sending
+pub mod Removing
+pub mod Making
+pub mod Reading
 pub mod Converter
+pub mod Refusing
+pub mod Handling
 pub mod Lending

@@ -1,16 +1,25 @@
 //! The server's converter.
 
-ghost use Rattle.std.specs.Prelude.{◌≡◌, [], ◌∷◌, ◌++◌, List, Some, None, Ok, Err, option_map};
+ghost use Rattle.std.specs.Prelude.{◌≡◌, [], ℕ, length, true, List, Option, OnOk, OnErr, IfOk, IfErr, IsSome, None, find};
 ghost use Rattle.std.specs.Borrow.{sem};
-ghost use Rattle.ei_request.specs.Converter.{ConverterView, Converts, first_of, rest_of};
+ghost use Rattle.ei_types.specs.declared.error.Error.TheVariants as error;
+ghost use Rattle.std.specs.Option.{option_map};
+ghost use Rattle.ei_request.specs.Connection.{new_connection};
+ghost use Rattle.ei_request.specs.Converter.{first_of, rest_of};
+ghost use Rattle.ei_request.specs.Typed.{connection_meaning, seat_meaning, device_meaning};
+ghost use Rattle.ei_request.specs.Held.{is_seat, has_interface};
+ghost use Rattle.ei_request.specs.Refusing.{asked_refusal, mask_refusal, Tells};
+ghost use Rattle.ei_request.specs.Handling.{Handles, HandlesTo, obeys, hands_out, ClosesWith, device_in, set_of};
 ghost use Rattle.ei_request.specs.Lending.{LendsHandle};
 
 use crate::connection::Connection;
-use crate::event::EisRequest;
-use ei_backend::Clock;
+use crate::event::{self, EisRequest};
+use crate::input::{self, Input};
+use crate::seat::Seat;
+use ei_backend::{Clock, Interface, Object};
 use ei_handshake::EisHandshakeResp;
-use ei_server::{Context, Request, connection};
-use ei_types::Error;
+use ei_server::{Context, Request, connection, device, seat};
+use ei_types::{DeviceCapabilities, Error, RequestError};
 use std::alloc::Global;
 use std::collections::VecDeque;
 use std::marker::Model;
@@ -40,19 +49,10 @@ impl EisRequestConverter {
         resp: EisHandshakeResp,
         initial_serial: u32,
     ) -> EisRequestConverter
-        ensures { result ≡ record {
-          handle = record {
-            ctx = context;
-            proxy = resp.connection;
-            negotiated = resp.negotiated_interfaces;
-            last_serial =
-                initial_serial;
-          };
-          queue = [];
-        } }
+        ensures { result ≡ record { handle = new_connection context resp initial_serial; queue = [] } }
     {
         EisRequestConverter {
-            handle: Connection::new(context, resp, initial_serial),
+            handle: Connection::new(alloc, context, resp, initial_serial),
             queue: VecDeque::new(alloc),
         }
     }
@@ -72,6 +72,13 @@ impl EisRequestConverter {
         &mut self.handle
     }
 
+    /// How many requests are queued.
+    pub fn queued_len(&self) -> usize
+        ensures { result ≡ length self.now.queue }
+    {
+        self.queue.len()
+    }
+
     /// Takes the oldest request that is queued. `None` exactly where none is.
     pub fn next_request(&mut self) -> Option<EisRequest>
         ensures first { result ≡ first_of self.old.queue }
@@ -80,21 +87,200 @@ impl EisRequestConverter {
         self.queue.pop_front()
     }
 
-    /// Queues what a request of the client means.
+    /// Does what a request of the client asks, and queues what it means. An input waits for a frame of its device; a
+    /// request that ends a group without a frame makes one, with the time of the clock and the last serial.
     ///
-    /// `UnexpectedHandshakeEvent` for a request of the handshake, `NotBuilt` for any other that isn't a
-    /// `disconnect`. A refused call changes nothing.
+    /// `UnexpectedHandshakeEvent` for a request of the handshake. `InvalidInterfaceVersion` for a callback of another
+    /// version than 1, and for a touch that a touchscreen of a version below 2 cancels. `InvalidCapabilities` for a
+    /// mask with a bit outside those given to the seat. `TooManyTouches` for a touch that goes down where sixteen
+    /// are, `DuplicatedTouchDown` for one that is down. `InvalidTextLength` for a text of no bytes or of more than 254.
+    /// `NoMemory`. A refused call queues nothing, asks no clock, and leaves touches, serial and buffers.
     pub fn handle_request<C: Clock>(&mut self, clock: &mut C, request: Request) -> Result<(), Error>
-        ensures converts { Converts self.old request result self.new }
+        ensures handles { Handles self.old request (C.readings clock.old) result (C.readings clock.new) self.new }
+        ensures kept { OnErr result (clock.new ≡ clock.old) }
         ensures later { C.later clock.old clock.new }
     {
         match request {
             Request::Handshake(_, _) => Err(Error::UnexpectedHandshakeEvent),
-            Request::Connection(_, connection::Request::Disconnect) => {
-                self.queue.push_back(EisRequest::Disconnect)?;
-                Ok(())
+            Request::Connection(_, request) => self.handle_connection(request),
+            Request::Pingpong(_, _) => Ok(()),
+            Request::Seat(seat, request) => self.handle_seat(seat.as_object().id(), request),
+            Request::Device(device, request) => {
+                self.handle_device(clock, device.as_object().id(), request)
             }
-            _ => Err(Error::NotBuilt),
+            Request::Pointer(target, request) => {
+                self.obey(target.as_object(), input::of_pointer(request))
+            }
+            Request::PointerAbsolute(target, request) => {
+                self.obey(target.as_object(), input::of_pointer_absolute(request))
+            }
+            Request::Scroll(target, request) => {
+                self.obey(target.as_object(), input::of_scroll(request))
+            }
+            Request::Button(target, request) => {
+                self.obey(target.as_object(), input::of_button(request))
+            }
+            Request::Keyboard(target, request) => {
+                self.obey(target.as_object(), input::of_keyboard(request))
+            }
+            Request::Touchscreen(target, request) => {
+                self.obey(target.as_object(), input::of_touchscreen(request))
+            }
+            Request::Text(target, request) => {
+                self.obey(target.as_object(), input::of_text(request))
+            }
         }
+    }
+
+    /// A request to an interface of a device: an input, or else the release.
+    fn obey(&mut self, target: &Object, asked: Option<Input>) -> Result<(), Error>
+        ensures accepted { OnOk result (asked_refusal target.now.version asked (find (has_interface target.now.id) self.old.handle.devices) ≡ None) }
+        ensures ok { OnOk result (self.new ≡ record self.old { handle = obeys self.old.handle target.now.id asked }) }
+        ensures why { IfErr result (Tells (asked_refusal target.now.version asked (find (has_interface target.now.id) self.old.handle.devices))) }
+        ensures err { OnErr result (self.new ≡ self.old) }
+    {
+        self.handle.obey(target.id(), target.version(), asked)
+    }
+
+    /// A request to the connection.
+    fn handle_connection(&mut self, request: connection::Request) -> Result<(), Error>
+        ensures { (id version : ℕ) (told : Option (List ℕ)) → HandlesTo self.old id version (connection_meaning request) told result told self.new }
+    {
+        match request {
+            connection::Request::Sync { callback } => {
+                let version = callback.version();
+                if version != 1 {
+                    return Err(Error::InvalidInterfaceVersion("ei_callback", version));
+                }
+                self.handle.call_back(&callback)?;
+            }
+            connection::Request::Disconnect => self.queue.push_back(EisRequest::Disconnect)?,
+        }
+        Ok(())
+    }
+
+    /// A request to the seat of that id.
+    fn handle_seat(&mut self, id: u64, request: seat::Request) -> Result<(), Error>
+        ensures { (version : ℕ) (told : Option (List ℕ)) → HandlesTo self.old id version (seat_meaning request) told result told self.new }
+    {
+        match request {
+            seat::Request::Release => self.handle.release_seat(id)?,
+            seat::Request::Bind { capabilities } => {
+                if let Some((seat, capabilities)) = self.masked(id, capabilities)? {
+                    self.queue
+                        .push_back(EisRequest::Bind(event::Bind { seat, capabilities }))?;
+                }
+            }
+            seat::Request::RequestDevice { capabilities } => {
+                if let Some((seat, capabilities)) = self.masked(id, capabilities)? {
+                    self.queue.push_back(EisRequest::RequestDevice(event::RequestDevice {
+                        seat,
+                        capabilities,
+                    }))?;
+                }
+            }
+        }
+        Ok(())
+    }
+
+    /// The seat of that id with the capabilities of a mask, if it is held.
+    ///
+    /// `InvalidCapabilities` where a bit of the mask is no capability's, or that of one which the seat wasn't given.
+    fn masked(&self, id: u64, mask: u64) -> Result<Option<(Seat, DeviceCapabilities)>, Error>
+        ensures accepted { OnOk result (mask_refusal mask (find (is_seat id) self.now.handle.seats) ≡ None) }
+        ensures ok { IfOk result (λ found. found ≡ option_map (λ s. (s.proxy, set_of mask)) (find (is_seat id) self.now.handle.seats)) }
+        ensures why { IfErr result (Tells (mask_refusal mask (find (is_seat id) self.now.handle.seats))) }
+    {
+        let Some(held) = self.handle.find_seat(id) else {
+            return Ok(None);
+        };
+        match DeviceCapabilities::from_bits(mask) {
+            Some(wanted) if held.capabilities().contains(wanted) => {
+                Ok(Some((Seat::over(held.proxy().copy()), wanted)))
+            }
+            _ => Err(Error::Request(RequestError::InvalidCapabilities)),
+        }
+    }
+
+    /// A request to the device of that id.
+    fn handle_device<C: Clock>(
+        &mut self,
+        clock: &mut C,
+        id: u64,
+        request: device::Request,
+    ) -> Result<(), Error>
+        ensures handles { (version : ℕ) → HandlesTo self.old id version (device_meaning request) (C.readings clock.old) result (C.readings clock.new) self.new }
+        ensures kept { OnErr result (clock.new ≡ clock.old) }
+        ensures later { C.later clock.old clock.new }
+    {
+        let Some(held) = self.handle.find_device(id) else {
+            return Ok(());
+        };
+        let device = held.device().copy();
+        match request {
+            device::Request::Frame {
+                last_serial,
+                timestamp,
+            } => self.frame(id, last_serial, timestamp),
+            device::Request::Release => {
+                self.close(
+                    clock,
+                    id,
+                    EisRequest::DeviceClosed(event::DeviceClosed { device }),
+                )
+            }
+            device::Request::StartEmulating {
+                last_serial,
+                sequence,
+            } => {
+                let request = event::DeviceStartEmulating {
+                    device,
+                    last_serial,
+                    sequence,
+                };
+                self.close(clock, id, EisRequest::DeviceStartEmulating(request))
+            }
+            device::Request::StopEmulating { last_serial } => {
+                let request = event::DeviceStopEmulating {
+                    device,
+                    last_serial,
+                };
+                self.close(clock, id, EisRequest::DeviceStopEmulating(request))
+            }
+            device::Request::Ready => {
+                self.close(clock, id, EisRequest::Ready(event::Ready { device }))
+            }
+        }
+    }
+
+    /// Hands out what waits on the device of that id with a frame. The device is held.
+    fn frame(&mut self, id: u64, serial: u32, time: u64) -> Result<(), Error>
+        requires held { IsSome (device_in self.old id) }
+        ensures ok { OnOk result (self.new ≡ hands_out self.old id serial time (device_in self.old id)) }
+        ensures err { OnErr result (self.new ≡ self.old) }
+        ensures only { IfErr result (λ e. e ≡ error.NoMemory) }
+    {
+        let waiting = self.handle.waiting(id);
+        self.queue.reserve(waiting.saturating_add(2))?;
+        self.handle.hand_out(&mut self.queue, id, serial, time);
+        Ok(())
+    }
+
+    /// Hands out what waits on the device of that id with a made frame, and the request behind it. The device is held.
+    fn close<C: Clock>(&mut self, clock: &mut C, id: u64, request: EisRequest) -> Result<(), Error>
+        requires held { IsSome (device_in self.old id) }
+        ensures ok { OnOk result (ClosesWith self.old id request (C.readings clock.old) (C.readings clock.new) self.new) }
+        ensures err { OnErr result (self.new ≡ self.old) }
+        ensures only { IfErr result (λ e. e ≡ error.NoMemory) }
+        ensures kept { OnErr result (clock.new ≡ clock.old) }
+        ensures later { C.later clock.old clock.new }
+    {
+        let waiting = self.handle.waiting(id);
+        self.queue.reserve(waiting.saturating_add(2))?;
+        let time = if waiting > 0 { clock.now() } else { 0 };
+        let serial = self.handle.last_serial();
+        self.handle.hand_out(&mut self.queue, id, serial, time);
+        self.queue.push_back_reserved(request);
+        Ok(())
     }
 }

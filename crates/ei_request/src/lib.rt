@@ -1,14 +1,33 @@
-//! The server's converter: what a client's requests mean.
+//! The server's converter: what a client's requests mean, and the seats and devices that a server announces.
 //!
-//! There is no policy here and no loop. Begin with `EisRequestConverter` and `EisRequest`.
+//! There is no policy here and no loop. Begin with `EisRequestConverter`, which takes requests, and with `Connection`,
+//! its handle, on which seats are announced.
 #![tactic(auto)]
 
 mod connection;
 mod converter;
+mod copies;
+mod device;
+mod devices;
 mod event;
+mod held;
+mod holding;
+mod input;
+mod making;
 mod seat;
+mod seats;
+mod sending;
+mod traits;
 
 pub use connection::Connection;
 pub use converter::EisRequestConverter;
-pub use event::EisRequest;
+pub use device::{Device, DeviceInterface};
+pub use event::{
+    Bind, Button, DeviceClosed, DeviceStartEmulating, DeviceStopEmulating, EisRequest, Frame,
+    KeyboardKey, PointerMotion, PointerMotionAbsolute, Ready, RequestDevice, ScrollCancel,
+    ScrollDelta, ScrollDiscrete, ScrollStop, TextKeysym, TextUtf8, TouchCancel, TouchDown,
+    TouchMotion, TouchUp,
+};
+pub use making::DeviceSetup;
 pub use seat::Seat;
+pub use traits::{DeviceEvent, EventTime, SeatEvent};

@@ -1,25 +1,37 @@
--- What asking for the request at the front answers, by cases on the front.
-use Rattle.std.proofs.Common.{◌≡◌, ℕ, Bool, true, false, List, Option, Some, None, Err, refl, sym, ap, ◌∙◌, subst, inl, inr}
-use Rattle.std.specs.Prelude.{IfSome, IsSome}
-use Rattle.ei_spec.specs.declared.interface.KnownInterface.{KnownInterface}
-use Rattle.ei_spec.specs.declared.interface.KnownInterface.TheVariants as interfaces
+-- What asking for the message at the front of a connection answers.
+use Rattle.std.proofs.Common.{◌≡◌, ℕ, true, false, List, [], Option, Some, None, Result, Ok, Err, refl, sym, ap, ◌∙◌, subst}
+use Rattle.std.specs.Prelude.{MatchResult, IfSome, IsSome, drop}
+use Rattle.std.specs.Option.{option_map}
+use Rattle.ei_spec.specs.declared.handle.Handle.{Handle}
 use Rattle.ei_spec.specs.Value.{Value}
-use Rattle.ei_spec.specs.Interface.{Known, ObjectView}
+use Rattle.ei_spec.specs.Interface.{ObjectView}
 use Rattle.ei_spec.specs.Reading.{Fault, HeaderLength}
 use Rattle.ei_spec.specs.Message.{Raw, Front, Short, Unlawful, Whole, front}
+use Rattle.ei_spec.specs.Stream.{Refused as RefusedSo}
 use Rattle.ei_spec.proofs.Faults.{IsNoHeader}
-use Rattle.ei_backend.specs.Table.{found}
-use Rattle.ei_backend.specs.Backend.{BackendView, Answer, Waits, Refused, Gone, Message, next}
-use Rattle.ei_session.specs.Arguments.{request_args}
-use Rattle.ei_backend.specs.Backend.{Answers}
-use Rattle.ei_backend.specs.declared.message.PendingRequestResult.{PendingRequestResult}
+use Rattle.ei_backend.specs.Table.{TableView, found}
+use Rattle.ei_backend.specs.Backend.{BackendView, Outcome, Answer, Waits, Refused, Gone, Message, said_of, of_outcome, of_target, of_front, body_read, next, Answers, Brings}
 use Rattle.ei_backend.specs.declared.message.PendingRequestResult.TheVariants as pending
 use Rattle.ei_wire.specs.Gives.{fault_of}
+use Rattle.ei_wire.specs.declared.error.ParseError.{ParseError}
+use Rattle.ei_wire.specs.declared.error.ParseError.TheVariants as parse_error
+use Rattle.ei_types.specs.declared.error.Error.TheVariants as error
 use Rattle.ei_server.specs.declared.request.Request.{Request}
-use Rattle.ei_server.specs.Request.{target_of, code_of, values_of}
-use Rattle.ei_session.specs.Refusals.{Parse}
-use Rattle.ei_serve.specs.Asking.{AllKnown, is_sync, Takes, IsGone, bytes_refused, Unreadable, SaysWhy, SaysOfFront}
-use Rattle.ei_serve.proofs.Taking.{AnswersSync, next_short, next_unlawful, next_gone, next_taken, next_refused, next_sync}
+use Rattle.ei_server.specs.Request.{target_of, code_of, values_of, announced_of}
+use Rattle.ei_session.specs.Setup.{Setup}
+use Rattle.ei_session.specs.Arguments.{request_args}
+use Rattle.ei_session.specs.NextIds.{next_peer}
+use Rattle.ei_session.specs.Objects.{Entry, object}
+use Rattle.ei_session.specs.Refusals.{Refusal, Parse, refusal, judge}
+use Rattle.ei_request.specs.Converter.{ConverterView}
+use Rattle.ei_standing.specs.Standing.{IsHeld, object_of}
+use Rattle.ei_serve.specs.Asking.{IsAsked}
+use Rattle.ei_serve.specs.Standing.{IsConnected}
+use Rattle.ei_serve.specs.Steps.{Refuses, RefusesFront}
+use Rattle.ei_serve.proofs.ReadFront.{exactly}
+
+abbrev pair : Answer → BackendView → Answer × BackendView
+pair a b = (a, b)
 
 abbrev answer_of : Answer × BackendView → Answer
 answer_of p = p.0
@@ -27,168 +39,234 @@ answer_of p = p.0
 abbrev backend_of : Answer × BackendView → BackendView
 backend_of p = p.1
 
--- what stands at the front, and the answer that it gives
-pub data Cases (b : BackendView) : Type 0 where
-  IsShort : front b.unread ≡ Short → answer_of (next false b) ≡ Waits → backend_of (next false b) ≡ b → Cases b
-  IsUnlawful : (n : ℕ) → front b.unread ≡ Unlawful n → answer_of (next false b) ≡ Refused (HeaderLength n) → Cases b
-  IsGoneThere : (m : Raw) → (rest : List ℕ) → front b.unread ≡ Whole m rest → found b.table m.id ≡ None → answer_of (next false b) ≡ Gone m.id → backend_of (next false b) ≡ record b { unread = rest } → Cases b
-  IsTaken : (m : Raw) → (rest : List ℕ) → (target : ObjectView) → (interface : KnownInterface) → (vs : List Value) → front b.unread ≡ Whole m rest → found b.table m.id ≡ Some target → target.interface ≡ Known interface → is_sync interface m.opcode ≡ false → request_args interface m ≡ Some vs →
-      answer_of (next false b) ≡ Message target m.opcode vs → backend_of (next false b) ≡ record b { unread = rest } → Cases b
-  IsRefused : (m : Raw) → (rest : List ℕ) → (target : ObjectView) → (interface : KnownInterface) → front b.unread ≡ Whole m rest → found b.table m.id ≡ Some target → target.interface ≡ Known interface → is_sync interface m.opcode ≡ false → request_args interface m ≡ None →
-      (f : Fault) → answer_of (next false b) ≡ Refused f → IsNoHeader f → bytes_refused interface m ≡ Some (Parse f) → Cases b
-  IsSync : (m : Raw) → (rest : List ℕ) → (target : ObjectView) → front b.unread ≡ Whole m rest → found b.table m.id ≡ Some target → target.interface ≡ Known interfaces.Connection → is_sync interfaces.Connection m.opcode ≡ true →
-      AnswersSync target m.opcode (answer_of (next false b)) → Cases b
+-- ---- a converter of which only the endpoint changed, and not its objects
 
-with_args : (b : BackendView) (m : Raw) (rest : List ℕ) (target : ObjectView) (interface : KnownInterface) (a : Option (List Value)) → front b.unread ≡ Whole m rest → found b.table m.id ≡ Some target → target.interface ≡ Known interface → is_sync interface m.opcode ≡ false → request_args interface m ≡ a → Cases b
-with_args b m rest target interface (Some vs) e f k plain a = let h = next_taken b m rest target interface vs e f k plain a in IsTaken m rest target interface vs e f k plain a h.0 h.1
-with_args b m rest target interface None e f k plain a = let h = next_refused b m rest target interface e f k plain a in IsRefused m rest target interface e f k plain a h.0 h.1 h.2 h.3
+pub held_with : (setup : Setup) (past : List Raw) (times : List ℕ) (c d : ConverterView) (ctx : BackendView) → IsHeld setup past times c → ctx.table ≡ c.handle.ctx.table → ctx.closed ≡ c.handle.ctx.closed → ctx.unsent_handles ≡ [] → d.handle ≡ record c.handle { ctx = ctx } →
+    IsHeld setup past times d
+held_with setup past times c d ctx h t closed none is =
+    subst (λ x. IsHeld setup past times (record { handle = x; queue = d.queue })) (sym is) (record {
+      lawful = h.lawful;
+      connected = h.connected;
+      server = ap (λ (x : TableView). x.client) t ∙ h.server;
+      opened = closed ∙ h.opened;
+      no_handles = none;
+      objects = λ id. ap (λ (x : TableView). found x id) t ∙ h.objects id;
+      own = ap (λ (x : TableView). x.next_own) t ∙ h.own;
+      peer = ap (λ (x : TableView). x.next_peer) t ∙ h.peer;
+      proxy = h.proxy;
+      name = h.name;
+      versions = h.versions;
+      serial = h.serial;
+      seats = h.seats;
+      devices = h.devices;
+      going_on = h.going_on;
+      frames = h.frames;
+    })
 
-no_sync : (b : BackendView) (m : Raw) (rest : List ℕ) (target : ObjectView) (interface : KnownInterface) → front b.unread ≡ Whole m rest → found b.table m.id ≡ Some target → target.interface ≡ Known interface → is_sync interface m.opcode ≡ false → Cases b
-no_sync b m rest target interface e f k plain = with_args b m rest target interface (request_args interface m) e f k plain refl
+-- ---- the answer, by what stands at the front
 
-to_connection : (b : BackendView) (m : Raw) (rest : List ℕ) (target : ObjectView) (sync : Bool) → front b.unread ≡ Whole m rest → found b.table m.id ≡ Some target → target.interface ≡ Known interfaces.Connection → is_sync interfaces.Connection m.opcode ≡ sync → Cases b
-to_connection b m rest target true e f k h = IsSync m rest target e f k h (next_sync b m rest target e f k h)
-to_connection b m rest target false e f k h = no_sync b m rest target interfaces.Connection e f k h
+pub data View (setup : Setup) (past : List Raw) (b : BackendView) (w : Answer × BackendView) : Type 0 where
+  IsShort : front b.unread ≡ Short → w ≡ pair Waits b → View setup past b w
+  IsUnlawful : (n : ℕ) → front b.unread ≡ Unlawful n → w ≡ pair (Refused (HeaderLength n)) b → View setup past b w
+  IsGone : (m : Raw) → (after : List ℕ) → front b.unread ≡ Whole m after → object past m.id ≡ None → w ≡ pair (Gone m.id) (record b { unread = after }) → View setup past b w
+  IsMessage : (m : Raw) → (after : List ℕ) → (e : Entry) → (values : List Value) → (table : TableView) → front b.unread ≡ Whole m after → object past m.id ≡ Some e → request_args e.interface m ≡ Some values →
+      w ≡ pair (Message (object_of m.id e) m.opcode values) (record b { table = table; unread = after }) → View setup past b w
+  IsRefused : (m : Raw) → (after : List ℕ) → (f : Fault) → (left : BackendView) → front b.unread ≡ Whole m after → refusal setup past m ≡ Some (Parse f) → IsNoHeader f → w ≡ pair (Refused f) left → View setup past b w
 
-to_interface : (b : BackendView) (m : Raw) (rest : List ℕ) (target : ObjectView) (interface : KnownInterface) → front b.unread ≡ Whole m rest → found b.table m.id ≡ Some target → target.interface ≡ Known interface → Cases b
-to_interface b m rest target interfaces.Connection e f k = to_connection b m rest target (is_sync interfaces.Connection m.opcode) e f k refl
-to_interface b m rest target interface e f k = no_sync b m rest target interface e f k refl
+module _ (setup : Setup) (past : List Raw) (b : BackendView) (server : b.table.client ≡ false) (peer : b.table.next_peer ≡ next_peer past) (objects : (id : ℕ) → found b.table id ≡ option_map (object_of id) (object past id)) where
+  said_by : (m : Raw) (after : List ℕ) (e : Entry) (o : Outcome) (r : Result (List Value) Fault) → front b.unread ≡ Whole m after → object past m.id ≡ Some e → o.said ≡ r →
+      MatchResult r (λ values. (request_args e.interface m ≡ Some values) × (o.taken ≡ 0)) (λ f. (refusal setup past m ≡ Some (Parse f)) × IsNoHeader f) →
+      next false b ≡ of_outcome b (object_of m.id e) m.opcode after o → View setup past b (next false b)
+  said_by m after e o (Ok values) f k same x n =
+      IsMessage m after e values o.table f k x.0 (n
+      ∙ ap (λ (r : Result (List Value) Fault). pair (said_of (object_of m.id e) m.opcode r) (record b { table = o.table; unread = after; handles = drop o.taken b.handles })) same
+      ∙ ap (λ (n : ℕ). pair (Message (object_of m.id e) m.opcode values) (record b { table = o.table; unread = after; handles = drop n b.handles })) x.1)
+  said_by m after e o (Err fault) f k same x n =
+      IsRefused m after fault (record b { table = o.table; unread = after; handles = drop o.taken b.handles }) f x.0 x.1 (n
+      ∙ ap (λ (r : Result (List Value) Fault). pair (said_of (object_of m.id e) m.opcode r) (record b { table = o.table; unread = after; handles = drop o.taken b.handles })) same)
 
-with_target : (b : BackendView) → AllKnown b.table → (m : Raw) (rest : List ℕ) (o : Option ObjectView) → front b.unread ≡ Whole m rest → found b.table m.id ≡ o → Cases b
-with_target b known m rest None e f = IsGoneThere m rest e f (ap answer_of (next_gone b m rest e f)) (ap backend_of (next_gone b m rest e f))
-with_target b known m rest (Some target) e f = let k = known m.id target f in to_interface b m rest target k.0 e f k.1
+  view_whole : (m : Raw) (after : List ℕ) (o : Option Entry) → front b.unread ≡ Whole m after → object past m.id ≡ o → View setup past b (next false b)
+  view_whole m after None f k =
+      let t : found b.table m.id ≡ None = objects m.id ∙ ap (option_map (object_of m.id)) k in
+      IsGone m after f k (ap (of_front false b) f ∙ ap (λ (x : Option ObjectView). of_target false b x m after) t)
+  view_whole m after (Some e) f k =
+      let t : found b.table m.id ≡ Some (object_of m.id e) = objects m.id ∙ ap (option_map (object_of m.id)) k in
+      let o : Outcome = body_read false (object_of m.id e) m.opcode m.body b.handles b.table in
+      said_by m after e o o.said f k refl (exactly past b.table server peer setup m e (object_of m.id e) b.handles k refl)
+      (ap (of_front false b) f ∙ ap (λ (x : Option ObjectView). of_target false b x m after) t)
 
-with_front : (b : BackendView) → AllKnown b.table → (f : Front) → front b.unread ≡ f → Cases b
-with_front b known Short e = IsShort e (ap answer_of (next_short b e)) (ap backend_of (next_short b e))
-with_front b known (Unlawful n) e = IsUnlawful n e (ap answer_of (next_unlawful b n e))
-with_front b known (Whole m rest) e = with_target b known m rest (found b.table m.id) e refl
+  view_front : (f : Front) → front b.unread ≡ f → View setup past b (next false b)
+  view_front Short f = IsShort f (ap (of_front false b) f)
+  view_front (Unlawful n) f = IsUnlawful n f (ap (of_front false b) f)
+  view_front (Whole m after) f = view_whole m after (object past m.id) f refl
 
-pub cases : (b : BackendView) → AllKnown b.table → Cases b
-cases b known = with_front b known (front b.unread) refl
+  pub view : View setup past b (next false b)
+  view = view_front (front b.unread) refl
 
--- ---- what each answer says of the front
+-- ---- no message
 
-abbrev pair : Answer → BackendView → Answer × BackendView
-pair a b = (a, b)
+pub waits_by : (setup : Setup) (past : List Raw) (b new : BackendView) (w : Answer × BackendView) → View setup past b w → w ≡ pair Waits new → (front b.unread ≡ Short) × (new ≡ b)
+waits_by setup past b new w (IsShort f n) h = (f, sym (ap backend_of h) ∙ ap backend_of n)
+waits_by setup past b new w (IsUnlawful k f n) h = let g : Waits ≡ Refused (HeaderLength k) = sym (ap answer_of h) ∙ ap answer_of n in absurd cc
+waits_by setup past b new w (IsGone m after f k n) h = let g : Waits ≡ Gone m.id = sym (ap answer_of h) ∙ ap answer_of n in absurd cc
+waits_by setup past b new w (IsMessage m after e values table f k a n) h = let g : Waits ≡ Message (object_of m.id e) m.opcode values = sym (ap answer_of h) ∙ ap answer_of n in absurd cc
+waits_by setup past b new w (IsRefused m after fault left f k a n) h = let g : Waits ≡ Refused fault = sym (ap answer_of h) ∙ ap answer_of n in absurd cc
 
-waits_by : (b new : BackendView) → Cases b → next false b ≡ pair Waits new → (front b.unread ≡ Short) × (new ≡ b)
-waits_by b new (IsShort e a c) h = (e, sym (ap backend_of h) ∙ c)
-waits_by b new (IsUnlawful n e a) h = let g : Waits ≡ Refused (HeaderLength n) = sym (ap answer_of h) ∙ a in absurd cc
-waits_by b new (IsGoneThere m rest e f a c) h = let g : Waits ≡ Gone m.id = sym (ap answer_of h) ∙ a in absurd cc
-waits_by b new (IsTaken m rest target interface vs e f k plain args a c) h = let g : Waits ≡ Message target m.opcode vs = sym (ap answer_of h) ∙ a in absurd cc
-waits_by b new (IsRefused m rest target interface e f k plain args fault a nh why) h = let g : Waits ≡ Refused fault = sym (ap answer_of h) ∙ a in absurd cc
-waits_by b new (IsSync m rest target e f k sync a) h = absurd (subst (AnswersSync target m.opcode) (ap answer_of h) a)
+-- ---- no object has its id
 
-pub asks_waits : (b new : BackendView) → AllKnown b.table → next false b ≡ pair Waits new → (front b.unread ≡ Short) × (new ≡ b)
-asks_waits b new known h = waits_by b new (cases b known) h
+pub record NoObject (past : List Raw) (b : BackendView) (id : ℕ) (new : BackendView) : Type 0 where
+  pub m : Raw
+  pub after : List ℕ
+  pub front_is : front b.unread ≡ Whole m after
+  pub none : object past m.id ≡ None
+  pub id_is : id ≡ m.id
+  pub now : new ≡ record b { unread = after }
 
-takes_by : (b new : BackendView) (t : ObjectView) (op : ℕ) (vs : List Value) → Cases b → next false b ≡ pair (Message t op vs) new → Takes b t op vs new
-takes_by b new t op vs (IsShort e a c) h = let g : Message t op vs ≡ Waits = sym (ap answer_of h) ∙ a in absurd cc
-takes_by b new t op vs (IsUnlawful n e a) h = let g : Message t op vs ≡ Refused (HeaderLength n) = sym (ap answer_of h) ∙ a in absurd cc
-takes_by b new t op vs (IsGoneThere m rest e f a c) h = let g : Message t op vs ≡ Gone m.id = sym (ap answer_of h) ∙ a in absurd cc
-takes_by b new t op vs (IsTaken m rest target interface ws e f k plain args a c) h =
-    let g : Message t op vs ≡ Message target m.opcode ws = sym (ap answer_of h) ∙ a in
-    let same : target ≡ t = cc in
-    let same_opcode : op ≡ m.opcode = cc in
-    let same_values : ws ≡ vs = cc in
-    record {
-      m = m;
-      rest = rest;
-      interface = interface;
-      front_is = e;
-      target_is = f ∙ ap (λ (o : ObjectView). Some o) same;
-      interface_is = sym (ap (λ (o : ObjectView). o.interface) same) ∙ k;
-      opcode_is = same_opcode;
-      args = λ _. args ∙ ap (λ (v : List Value). Some v) same_values;
-      after = λ _. sym (ap backend_of h) ∙ c;
-    }
-takes_by b new t op vs (IsRefused m rest target interface e f k plain args fault a nh why) h = let g : Message t op vs ≡ Refused fault = sym (ap answer_of h) ∙ a in absurd cc
-takes_by b new t op vs (IsSync m rest target e f k sync a) h =
-    let is : AnswersSync target m.opcode (Message t op vs) = subst (AnswersSync target m.opcode) (ap answer_of h) a in
-    record {
-      m = m;
-      rest = rest;
-      interface = interfaces.Connection;
-      front_is = e;
-      target_is = f ∙ ap (λ (o : ObjectView). Some o) (sym is.0);
-      interface_is = ap (λ (o : ObjectView). o.interface) is.0 ∙ k;
-      opcode_is = is.1;
-      args = λ plain. let g : true ≡ false = sym sync ∙ plain in absurd cc;
-      after = λ plain. let g : true ≡ false = sym sync ∙ plain in absurd cc;
-    }
-
-pub asks_takes : (b new : BackendView) (t : ObjectView) (op : ℕ) (vs : List Value) → AllKnown b.table → next false b ≡ pair (Message t op vs) new → Takes b t op vs new
-asks_takes b new t op vs known h = takes_by b new t op vs (cases b known) h
-
--- no object has the id
-gone_by : (b new : BackendView) (id : ℕ) → Cases b → next false b ≡ pair (Gone id) new → IsGone b id new
-gone_by b new id (IsShort e a c) h = let g : Gone id ≡ Waits = sym (ap answer_of h) ∙ a in absurd cc
-gone_by b new id (IsUnlawful n e a) h = let g : Gone id ≡ Refused (HeaderLength n) = sym (ap answer_of h) ∙ a in absurd cc
-gone_by b new id (IsGoneThere m rest e f a c) h =
-    let g : Gone id ≡ Gone m.id = sym (ap answer_of h) ∙ a in
+pub gone_by : (setup : Setup) (past : List Raw) (b new : BackendView) (id : ℕ) (w : Answer × BackendView) → View setup past b w → w ≡ pair (Gone id) new → NoObject past b id new
+gone_by setup past b new id w (IsShort f n) h = let g : Gone id ≡ Waits = sym (ap answer_of h) ∙ ap answer_of n in absurd cc
+gone_by setup past b new id w (IsUnlawful k f n) h = let g : Gone id ≡ Refused (HeaderLength k) = sym (ap answer_of h) ∙ ap answer_of n in absurd cc
+gone_by setup past b new id w (IsGone m after f k n) h =
+    let g : Gone id ≡ Gone m.id = sym (ap answer_of h) ∙ ap answer_of n in
     let same : id ≡ m.id = cc in
-    record { m = m; rest = rest; front_is = e; none = f; id_is = same; after = sym (ap backend_of h) ∙ c }
-gone_by b new id (IsTaken m rest target interface ws e f k plain args a c) h = let g : Gone id ≡ Message target m.opcode ws = sym (ap answer_of h) ∙ a in absurd cc
-gone_by b new id (IsRefused m rest target interface e f k plain args fault a nh why) h = let g : Gone id ≡ Refused fault = sym (ap answer_of h) ∙ a in absurd cc
-gone_by b new id (IsSync m rest target e f k sync a) h = absurd (subst (AnswersSync target m.opcode) (ap answer_of h) a)
+    record { m = m; after = after; front_is = f; none = k; id_is = same; now = sym (ap backend_of h) ∙ ap backend_of n }
+gone_by setup past b new id w (IsMessage m after e values table f k a n) h = let g : Gone id ≡ Message (object_of m.id e) m.opcode values = sym (ap answer_of h) ∙ ap answer_of n in absurd cc
+gone_by setup past b new id w (IsRefused m after fault left f k a n) h = let g : Gone id ≡ Refused fault = sym (ap answer_of h) ∙ ap answer_of n in absurd cc
 
-pub asks_gone : (b new : BackendView) (id : ℕ) → AllKnown b.table → next false b ≡ pair (Gone id) new → IsGone b id new
-asks_gone b new id known h = gone_by b new id (cases b known) h
+-- ---- a request
+
+pub record TakenOut (past : List Raw) (b : BackendView) (r : Request) (new : BackendView) : Type 0 where
+  pub m : Raw
+  pub after : List ℕ
+  pub e : Entry
+  pub front_is : front b.unread ≡ Whole m after
+  pub there : object past m.id ≡ Some e
+  pub target : target_of r ≡ object_of m.id e
+  pub opcode : m.opcode ≡ code_of r
+  pub args : request_args e.interface m ≡ Some (values_of r)
+  pub table : TableView
+  pub now : new ≡ record b { table = table; unread = after }
+
+pub taken_by : (setup : Setup) (past : List Raw) (b new : BackendView) (r : Request) (w : Answer × BackendView) → View setup past b w → w ≡ pair (Message (target_of r) (code_of r) (values_of r)) new → TakenOut past b r new
+taken_by setup past b new r w v h = by (target_of r) (code_of r) (values_of r) refl refl refl v h
+  where
+    by : (t : ObjectView) (op : ℕ) (vs : List Value) → target_of r ≡ t → code_of r ≡ op → values_of r ≡ vs → View setup past b w → w ≡ pair (Message t op vs) new → TakenOut past b r new
+    by t op vs t_is op_is vs_is (IsShort f n) h = let g : Message t op vs ≡ Waits = sym (ap answer_of h) ∙ ap answer_of n in absurd cc
+    by t op vs t_is op_is vs_is (IsUnlawful k f n) h = let g : Message t op vs ≡ Refused (HeaderLength k) = sym (ap answer_of h) ∙ ap answer_of n in absurd cc
+    by t op vs t_is op_is vs_is (IsGone m after f k n) h = let g : Message t op vs ≡ Gone m.id = sym (ap answer_of h) ∙ ap answer_of n in absurd cc
+    by t op vs t_is op_is vs_is (IsMessage m after e values table f k a n) h =
+        let g : Message t op vs ≡ Message (object_of m.id e) m.opcode values = sym (ap answer_of h) ∙ ap answer_of n in
+        let same_target : t ≡ object_of m.id e = cc in
+        let same_opcode : op ≡ m.opcode = cc in
+        let same_values : vs ≡ values = cc in
+        record {
+          m = m;
+          after = after;
+          e = e;
+          front_is = f;
+          there = k;
+          target = t_is ∙ same_target;
+          opcode = sym (op_is ∙ same_opcode);
+          args = a ∙ ap (λ (x : List Value). Some x) (sym (vs_is ∙ same_values));
+          table = table;
+          now = sym (ap backend_of h) ∙ ap backend_of n;
+        }
+    by t op vs t_is op_is vs_is (IsRefused m after fault left f k a n) h = let g : Message t op vs ≡ Refused fault = sym (ap answer_of h) ∙ ap answer_of n in absurd cc
 
 -- ---- a fault
 
-no_header : (b : BackendView) (fault : Fault) → IsNoHeader fault → Unreadable b fault → SaysWhy b (Some fault)
-no_header b (HeaderLength n) nh u = absurd nh
-no_header b other nh u = u
+pub judged_refused : (setup : Setup) (past : List Raw) (m : Raw) (r : Refusal) → refusal setup past m ≡ Some r → judge setup past m ≡ RefusedSo r
+unfolding judge
+judged_refused setup past m r e = rw (judge, e) refl
 
-refused_by : (b new : BackendView) (fault : Fault) → Cases b → next false b ≡ pair (Refused fault) new → SaysWhy b (Some fault)
-refused_by b new fault (IsShort e a c) h = let g : Refused fault ≡ Waits = sym (ap answer_of h) ∙ a in absurd cc
-refused_by b new fault (IsUnlawful n e a) h =
-    let g : Refused fault ≡ Refused (HeaderLength n) = sym (ap answer_of h) ∙ a in
-    let same : HeaderLength n ≡ fault = cc in
-    rw (← same) e
-refused_by b new fault (IsGoneThere m rest e f a c) h = let g : Refused fault ≡ Gone m.id = sym (ap answer_of h) ∙ a in absurd cc
-refused_by b new fault (IsTaken m rest target interface ws e f k plain args a c) h = let g : Refused fault ≡ Message target m.opcode ws = sym (ap answer_of h) ∙ a in absurd cc
-refused_by b new fault (IsRefused m rest target interface e f k plain args other a nh why) h =
-    let g : Refused fault ≡ Refused other = sym (ap answer_of h) ∙ a in
+-- what a fault says of the front
+abbrev SaysWhy : Setup → List Raw → List ℕ → Option Fault → Type 0
+SaysWhy setup past rest None = ⊥
+SaysWhy setup past rest (Some (HeaderLength n)) = front rest ≡ Unlawful n
+SaysWhy setup past rest (Some f) = RefusesFront setup past rest (Some (Parse f))
+
+no_header : (setup : Setup) (past : List Raw) (rest : List ℕ) (f : Fault) → IsNoHeader f → RefusesFront setup past rest (Some (Parse f)) → SaysWhy setup past rest (Some f)
+no_header setup past rest (HeaderLength n) nh u = absurd nh
+no_header setup past rest other nh u = u
+
+pub refused_by : (setup : Setup) (past : List Raw) (b new : BackendView) (fault : Fault) (w : Answer × BackendView) → View setup past b w → w ≡ pair (Refused fault) new → SaysWhy setup past b.unread (Some fault)
+refused_by setup past b new fault w (IsShort f n) h = let g : Refused fault ≡ Waits = sym (ap answer_of h) ∙ ap answer_of n in absurd cc
+refused_by setup past b new fault w (IsUnlawful k f n) h =
+    let g : Refused fault ≡ Refused (HeaderLength k) = sym (ap answer_of h) ∙ ap answer_of n in
+    let same : HeaderLength k ≡ fault = cc in
+    subst (λ (x : Fault). SaysWhy setup past b.unread (Some x)) same f
+refused_by setup past b new fault w (IsGone m after f k n) h = let g : Refused fault ≡ Gone m.id = sym (ap answer_of h) ∙ ap answer_of n in absurd cc
+refused_by setup past b new fault w (IsMessage m after e values table f k a n) h = let g : Refused fault ≡ Message (object_of m.id e) m.opcode values = sym (ap answer_of h) ∙ ap answer_of n in absurd cc
+refused_by setup past b new fault w (IsRefused m after other left f k a n) h =
+    let g : Refused fault ≡ Refused other = sym (ap answer_of h) ∙ ap answer_of n in
     let same : other ≡ fault = cc in
-    no_header b fault (subst IsNoHeader same nh) (record {
-      m = m;
-      rest = rest;
-      target = target;
-      interface = interface;
-      front_is = e;
-      target_is = f;
-      interface_is = k;
-      unread = inl args;
-      why = λ _. why ∙ ap (λ (x : Fault). Some (Parse x)) same;
-    })
-refused_by b new fault (IsSync m rest target e f k sync a) h =
-    let is : AnswersSync target m.opcode (Refused fault) = subst (AnswersSync target m.opcode) (ap answer_of h) a in
-    no_header b fault is (record {
-      m = m;
-      rest = rest;
-      target = target;
-      interface = interfaces.Connection;
-      front_is = e;
-      target_is = f;
-      interface_is = k;
-      unread = inr sync;
-      why = λ plain. let g : true ≡ false = sym sync ∙ plain in absurd cc;
-    })
+    subst (λ (x : Fault). SaysWhy setup past b.unread (Some x)) same (no_header setup past b.unread other a (m, after, f, judged_refused setup past m (Parse other) k))
 
-pub asks_refused : (b new : BackendView) (fault : Fault) → AllKnown b.table → next false b ≡ pair (Refused fault) new → SaysWhy b (Some fault)
-asks_refused b new fault known h = refused_by b new fault (cases b known) h
+says_why : (setup : Setup) (past : List Raw) (b new : BackendView) (o : Option Fault) (w : Answer × BackendView) → View setup past b w → IfSome o (λ f. w ≡ pair (Refused f) new) × IsSome o → SaysWhy setup past b.unread o
+says_why setup past b new None w v h = let g : false ≡ true = h.1 in absurd cc
+says_why setup past b new (Some fault) w v h = refused_by setup past b new fault w v h.0
 
--- ---- what the endpoint answered
+pub parse_refused : (setup : Setup) (past : List Raw) (rest : List ℕ) (e : ParseError) → SaysWhy setup past rest (fault_of e) → Refuses setup past rest (error.Parse e)
+parse_refused setup past rest (parse_error.HeaderLength n) h = h
+parse_refused setup past rest parse_error.NoMemory h = absurd h
+parse_refused setup past rest parse_error.EndOfMessage h = h
+parse_refused setup past rest (parse_error.Utf8 n) h = h
+parse_refused setup past rest (parse_error.InvalidId n) h = h
+parse_refused setup past rest parse_error.NoFd h = h
+parse_refused setup past rest (parse_error.InvalidOpcode name n) h = h
+parse_refused setup past rest (parse_error.InvalidVariant name n) h = h
+parse_refused setup past rest (parse_error.InvalidInterface name) h = h
+parse_refused setup past rest (parse_error.MessageLength n k) h = h
+parse_refused setup past rest parse_error.InvalidNull h = h
 
-says_why : (b new : BackendView) (o : Option Fault) → AllKnown b.table → IfSome o (λ f. next false b ≡ pair (Refused f) new) × IsSome o → SaysWhy b o
-says_why b new None known h = let g : false ≡ true = h.1 in absurd cc
-says_why b new (Some fault) known h = asks_refused b new fault known h.0
+-- ---- over a converter that stands
 
--- it says that of the front
-pub says_of_front : (b new : BackendView) (answer : Option (PendingRequestResult Request)) → AllKnown b.table → Answers target_of code_of values_of answer new (next false b) → SaysOfFront b answer new
-says_of_front b new None known h = asks_waits b new known h
-says_of_front b new (Some (pending.Request r)) known h = asks_takes b new (target_of r) (code_of r) (values_of r) known h
-says_of_front b new (Some (pending.ParseError e)) known h = says_why b new (fault_of e) known h
-says_of_front b new (Some (pending.InvalidObject id)) known h = asks_gone b new id known h
+module _ (setup : Setup) (past : List Raw) (times rest : List ℕ) (handles : List Handle) (old : ConverterView) (new : BackendView) (stands : IsConnected setup past times rest handles old) where
+  seen : View setup past old.handle.ctx (next false old.handle.ctx)
+  seen = view setup past old.handle.ctx stands.held.server stands.held.peer stands.held.objects
+
+  unread_is : {A : Type 0} (x : A) (f : List ℕ → A) → f old.handle.ctx.unread ≡ x → f rest ≡ x
+  unread_is x f h = ap f (sym stands.unread) ∙ h
+
+  pub asks_waits : Answers target_of code_of values_of None new (next false old.handle.ctx) → (front rest ≡ Short) × (new ≡ old.handle.ctx)
+  asks_waits h = let w = waits_by setup past old.handle.ctx new (next false old.handle.ctx) seen h in (unread_is Short front w.0, w.1)
+
+  pub asks_refused : (e : ParseError) → Answers target_of code_of values_of (Some (pending.ParseError e)) new (next false old.handle.ctx) → Refuses setup past rest (error.Parse e)
+  asks_refused e h = parse_refused setup past rest e (subst (λ (x : List ℕ). SaysWhy setup past x (fault_of e)) stands.unread (says_why setup past old.handle.ctx new (fault_of e) (next false old.handle.ctx) seen h))
+
+  -- the converter whose endpoint is that one, but for what is unread
+  standing : (after : List ℕ) → IsConnected setup past times after handles (record old { handle = record old.handle { ctx = record old.handle.ctx { unread = after } } })
+  standing after = record {
+    held = held_with setup past times old _ (record old.handle.ctx { unread = after }) stands.held refl refl stands.held.no_handles refl;
+    ring = stands.ring;
+    unread = refl;
+    unread_handles = stands.unread_handles;
+    unsent = stands.unsent;
+    queue = stands.queue;
+  }
+
+  pub asks_gone : (id : ℕ) → Answers target_of code_of values_of (Some (pending.InvalidObject id)) new (next false old.handle.ctx) →
+      (g : NoObject past old.handle.ctx id new) × (front rest ≡ Whole g.m g.after) × IsConnected setup past times g.after handles (record old { handle = record old.handle { ctx = new } })
+  asks_gone id h =
+      let g = gone_by setup past old.handle.ctx new id (next false old.handle.ctx) seen h in
+      (g, unread_is (Whole g.m g.after) front g.front_is, subst (λ (x : BackendView). IsConnected setup past times g.after handles (record old { handle = record old.handle { ctx = x } })) (sym g.now) (standing g.after))
+
+  pub asks_request : (r : Request) → Answers target_of code_of values_of (Some (pending.Request r)) new (next false old.handle.ctx) → Brings announced_of (Some (pending.Request r)) old.handle.ctx.table new.table →
+      IsAsked setup past times rest handles r (record old { handle = record old.handle { ctx = new } })
+  asks_request r h announced =
+      let t = taken_by setup past old.handle.ctx new r (next false old.handle.ctx) seen h in
+      record {
+        m = t.m;
+        after = t.after;
+        e = t.e;
+        front_is = unread_is (Whole t.m t.after) front t.front_is;
+        there = t.there;
+        target = t.target;
+        opcode = t.opcode;
+        args = t.args;
+        stood = record old { handle = record old.handle { ctx = record old.handle.ctx { unread = t.after } } };
+        stands = standing t.after;
+        table = new.table;
+        announced = announced;
+        now = ap (λ (x : BackendView). record old { handle = record old.handle { ctx = x } })
+            (t.now ∙ ap (λ (x : TableView). record old.handle.ctx { table = x; unread = t.after }) (sym (ap (λ (x : BackendView). x.table) t.now)));
+      }

@@ -1,5 +1,5 @@
 -- An endpoint is what stands of it, and the memory that it has made ready.
-use Rattle.std.proofs.Common.{◌≡◌, ℕ, List, [], refl, ap, sym, ◌∙◌}
+use Rattle.std.proofs.Common.{◌≡◌, ℕ, List, refl, ap}
 use Rattle.ei_spec.specs.declared.handle.Handle.{Handle}
 use Rattle.ei_backend.specs.Table.{TableView}
 use Rattle.ei_backend.specs.Outgoing.{Room}

@@ -5,8 +5,8 @@ use Rattle.ei_spec.specs.Stream.{Verdict, Accepted, Final, Refused, Waiting, Rea
 use Rattle.ei_spec.proofs.FrontLaws.{shorter}
 use Rattle.ei_spec.proofs.GoesOn.{read_short, read_unlawful, read_accepted, read_final, read_refused}
 use Rattle.ei_session.specs.Setup.{Setup}
-use Rattle.ei_session.specs.Served.{reading_by}
-use Rattle.ei_session.specs.Guard.{judge, reading_of}
+use Rattle.ei_session.specs.Refusals.{judge}
+use Rattle.ei_session.specs.Served.{reading_by, reading_of}
 use Rattle.ei_session.proofs.AcceptedLaws.{front_short}
 
 module _ {E : Type 0} (judged : List Raw → Raw → Verdict E) where

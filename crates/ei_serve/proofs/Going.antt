@@ -1,21 +1,24 @@
 -- What a session gives and answers, one message after another.
-use Rattle.std.proofs.Common.{◌≡◌, ℕ, ◌+◌, zero, suc, List, [], ◌∷◌, ◌++◌, length, take, Option, Some, refl, ap, sym, ◌∙◌, append_assoc}
+use Rattle.std.proofs.Common.{◌≡◌, ℕ, ◌+◌, zero, suc, List, [], ◌∷◌, ◌++◌, length, take, drop, Option, Some, refl, ap, sym, subst, ◌∙◌, append_assoc, arith}
 use Rattle.std.specs.Prelude.{map}
-use Rattle.std.proofs.lemmas.List.{append-nil, map-append}
+use Rattle.std.proofs.lemmas.List.{append-nil, map-append, length-append, drop-drop}
 use Rattle.std.proofs.lemmas.Grind.{flat_map-append}
 use Rattle.std.proofs.Math.Seq.{take-append-add}
 use Rattle.ei_spec.specs.declared.handle.Handle.{Handle}
+use Rattle.ei_spec.specs.declared.interface.KnownInterface.{KnownInterface}
 use Rattle.ei_spec.specs.Piece.{Piece}
 use Rattle.ei_spec.specs.Message.{Raw, Front, Short, Unlawful, Whole, front, bytes_of, all_bytes}
-use Rattle.ei_spec.specs.Stream.{Verdict, Accepted, Final, Refused, read_within, read}
+use Rattle.ei_spec.specs.Stream.{Verdict, Reading, Accepted, Final, Refused, read_within, read}
 use Rattle.ei_session.specs.Setup.{Setup}
-use Rattle.ei_session.specs.Requests.{Request, framed}
+use Rattle.ei_session.specs.Requests.{Request as Asked, framed}
 use Rattle.ei_session.specs.Events.{replies}
-use Rattle.ei_session.specs.Guard.{judge}
+use Rattle.ei_session.specs.Refusals.{Refusal, judge}
+use Rattle.ei_session.proofs.KeptByRequests.{fixed_versions, stays_connected}
 use Rattle.ei_backend.specs.Outside.{with_more}
-use Rattle.ei_request.specs.Converter.{asked_of}
 use Rattle.ei_request.specs.declared.event.EisRequest.{EisRequest}
-use Rattle.ei_serve.specs.Steps.{Gives, IsToldInPart, Replies, RepliesInPart, Goes, Breaks}
+use Rattle.ei_standing.specs.Standing.{handed_as}
+use Rattle.ei_serve.specs.Around.{Around, first_readings, AreDrawn, LeavesReadings}
+use Rattle.ei_serve.specs.Steps.{AreVersions, Gives, IsToldInPart, Replies, RepliesInPart, Goes, GoesInPart, Breaks}
 
 -- ---- what a sink holds
 
@@ -36,18 +39,66 @@ cut messages took held told = (0, told ∙ ap (λ (x : Piece). Some x) (none_mor
 
 -- ---- requests
 
--- the messages between give none
-pub gives_none : (setup : Setup) (before reached : List Raw) (out : List EisRequest) → ((readings : List ℕ) → framed setup readings reached ≡ framed setup readings before) → Gives setup before reached out out
-gives_none setup before reached out h = ([], sym (append-nil out), λ readings. h readings ∙ sym (append-nil (framed setup readings before)))
+-- once the connection stands its versions stay
+versions_before : (done before : List Raw) (versions : KnownInterface → ℕ) → AreVersions (done ++ before) versions → AreVersions before versions
+versions_before [] before versions v = v
+versions_before (m ∷ done) before versions v =
+    versions_before done before versions (λ on interface. sym ((fixed_versions (done ++ before) m on).same_version interface) ∙ v (stays_connected (done ++ before) m on) interface)
 
-pub gives_then : (setup : Setup) (a b c : List Raw) (x y z : List EisRequest) → Gives setup a b x y → Gives setup b c y z → Gives setup a c x z
-gives_then setup a b c x y z g h = (
-  g.0 ++ h.0,
-  h.1 ∙ ap (λ (t : List EisRequest). t ++ h.0) g.1 ∙ append_assoc x g.0 h.0,
-  λ readings.
-      h.2 readings ∙ ap (λ (t : List Request). t ++ map asked_of h.0) (g.2 readings) ∙ append_assoc (framed setup readings a) (map asked_of g.0) (map asked_of h.0)
-      ∙ ap (λ (t : List Request). framed setup readings a ++ t) (sym (map-append asked_of g.0 h.0)),
-)
+pub versions_behind : (before reached : List Raw) (versions : KnownInterface → ℕ) → ((done : List Raw) × (reached ≡ done ++ before)) → AreVersions reached versions → AreVersions before versions
+versions_behind before reached versions behind v = versions_before behind.0 before versions (subst (λ (x : List Raw). AreVersions x versions) behind.1 v)
+
+-- the messages between give none
+pub gives_none : (setup : Setup) (before reached : List Raw) (times : List ℕ) (out : List EisRequest) → ((readings : List ℕ) → framed setup readings reached ≡ framed setup readings before) → Gives setup before reached times [] out out
+gives_none setup before reached times out h = record {
+  more = [];
+  grown = λ versions v. sym (append-nil out);
+  framed_is = λ later. h ((times ++ []) ++ later) ∙ sym (append-nil (framed setup ((times ++ []) ++ later) before));
+}
+
+pub gives_then : (setup : Setup) (a b c : List Raw) (times u v : List ℕ) (x y z : List EisRequest) → ((done : List Raw) × (c ≡ done ++ b)) → Gives setup a b times u x y → Gives setup b c (times ++ u) v y z → Gives setup a c times (u ++ v) x z
+gives_then setup a b c times u v x y z behind g h = record {
+  more = g.more ++ h.more;
+  grown = λ versions are.
+      h.grown versions are ∙ ap (λ (t : List EisRequest). t ++ map (handed_as versions) h.more) (g.grown versions (versions_behind b c versions behind are))
+      ∙ append_assoc x (map (handed_as versions) g.more) (map (handed_as versions) h.more)
+      ∙ ap (λ (t : List EisRequest). x ++ t) (sym (map-append (handed_as versions) g.more h.more));
+  framed_is = λ later.
+      ap (λ (r : List ℕ). framed setup (r ++ later) c) (sym (append_assoc times u v))
+      ∙ h.framed_is later
+      ∙ ap (λ (r : List ℕ). framed setup r b ++ h.more) (append_assoc (times ++ u) v later)
+      ∙ ap (λ (t : List Asked). t ++ h.more) (g.framed_is (v ++ later))
+      ∙ append_assoc (framed setup ((times ++ u) ++ (v ++ later)) a) g.more h.more
+      ∙ ap (λ (r : List ℕ). framed setup r a ++ (g.more ++ h.more)) (sym (append_assoc (times ++ u) v later) ∙ ap (λ (r : List ℕ). r ++ later) (append_assoc times u v));
+}
+
+-- ---- readings
+
+pub drop_none : (n : ℕ) → drop {A = ℕ} n [] ≡ []
+drop_none zero = refl
+drop_none (suc n) = refl
+
+first_more : (m n k : ℕ) (told : List ℕ) → k ≡ m + n → first_readings k told ≡ first_readings m told ++ first_readings n (drop m told)
+first_more zero n k told e = let same : k ≡ n = omega (arith, e) in ap (λ (j : ℕ). first_readings j told) same
+first_more (suc m) n zero told e = absurd (omega (arith, e))
+first_more (suc m) n (suc k) [] e =
+    let same : k ≡ m + n = omega (arith, e) in
+    ap (λ (l : List ℕ). 0 ∷ l) (first_more m n k [] same ∙ ap (λ (l : List ℕ). first_readings m [] ++ first_readings n l) (drop_none m))
+first_more (suc m) n (suc k) (t ∷ told) e =
+    let same : k ≡ m + n = omega (arith, e) in
+    ap (λ (l : List ℕ). t ∷ l) (first_more m n k told same)
+
+pub drawn_then : (u v : List ℕ) (old mid : Option (List ℕ)) → AreDrawn u old → LeavesReadings u old mid → AreDrawn v mid → AreDrawn (u ++ v) old
+drawn_then u v old mid d l e told is =
+    ap (λ (x : List ℕ). x ++ v) (d told is)
+    ∙ ap (λ (x : List ℕ). first_readings (length u) told ++ x) (e (drop (length u) told) (l told is))
+    ∙ sym (first_more (length u) (length v) (length (u ++ v)) told (length-append u v))
+
+pub leaves_then : (u v : List ℕ) (old mid new : Option (List ℕ)) → LeavesReadings u old mid → LeavesReadings v mid new → LeavesReadings (u ++ v) old new
+leaves_then u v old mid new l m told is =
+    m (drop (length u) told) (l told is)
+    ∙ ap (λ (x : List ℕ). Some x) (drop-drop (length v) (length u) told)
+    ∙ ap (λ (n : ℕ). Some (drop n told)) (sym (length-append u v))
 
 -- ---- replies
 
@@ -83,13 +134,37 @@ replies_then_part setup a b c x y z g h held told =
 pub in_part_none : (setup : Setup) (before : List Raw) (took : Option Piece) → RepliesInPart setup before before took took
 in_part_none setup before took held told = ([], 0, sym (append-nil (replies setup before)), told ∙ ap (λ (x : Piece). Some x) (none_more held))
 
--- ---- both
+-- ---- all of it
 
-pub goes_none : (setup : Setup) (before : List Raw) (out : List EisRequest) (took : Option Piece) → Goes setup before before out out took took
-goes_none setup before out took = record { gives = gives_none setup before before out (λ readings. refl); replies = replies_none setup before before took refl }
+pub behind_then : (a b c : List Raw) → ((done : List Raw) × (b ≡ done ++ a)) → ((done : List Raw) × (c ≡ done ++ b)) → (done : List Raw) × (c ≡ done ++ a)
+behind_then a b c g h = (h.0 ++ g.0, h.1 ∙ ap (λ (u : List Raw). h.0 ++ u) g.1 ∙ sym (append_assoc h.0 g.0 a))
 
-pub goes_then : (setup : Setup) (a b c : List Raw) (x y z : List EisRequest) (p q r : Option Piece) → Goes setup a b x y p q → Goes setup b c y z q r → Goes setup a c x z p r
-goes_then setup a b c x y z p q r g h = record { gives = gives_then setup a b c x y z g.gives h.gives; replies = replies_then setup a b c p q r g.replies h.replies }
+pub goes_none : (setup : Setup) (before : List Raw) (times : List ℕ) (x : Around) → Goes setup before before times [] x x
+goes_none setup before times x = record {
+  behind = ([], refl);
+  gives = gives_none setup before before times x.out (λ readings. refl);
+  replies = replies_none setup before before x.took refl;
+  drawn = λ told is. refl;
+  leaves = λ told is. is;
+  frames = omega arith;
+}
+
+pub goes_then : (setup : Setup) (a b c : List Raw) (times u v : List ℕ) (x y z : Around) → Goes setup a b times u x y → Goes setup b c (times ++ u) v y z → Goes setup a c times (u ++ v) x z
+goes_then setup a b c times u v x y z g h = record {
+  behind = behind_then a b c g.behind h.behind;
+  gives = gives_then setup a b c times u v x.out y.out z.out h.behind g.gives h.gives;
+  replies = replies_then setup a b c x.took y.took z.took g.replies h.replies;
+  drawn = drawn_then u v x.readings y.readings g.drawn g.leaves h.drawn;
+  leaves = leaves_then u v x.readings y.readings z.readings g.leaves h.leaves;
+  frames = omega (arith, g.frames, h.frames, length-append u v);
+}
+
+-- whatever the source has left
+pub goes_beside : (setup : Setup) (a b : List Raw) (times used : List ℕ) (x y : Around) (left_old left_new : Option (List Piece)) → Goes setup a b times used x y → Goes setup a b times used (record x { left = left_old }) (record y { left = left_new })
+goes_beside setup a b times used x y left_old left_new g = record { behind = g.behind; gives = g.gives; replies = g.replies; drawn = g.drawn; leaves = g.leaves; frames = g.frames }
+
+pub breaks_beside : (setup : Setup) (a b : List Raw) (times : List ℕ) (x y : Around) (left_old left_new : Option (List Piece)) → GoesInPart setup a b times x y → GoesInPart setup a b times (record x { left = left_old }) (record y { left = left_new })
+breaks_beside setup a b times x y left_old left_new g = record { reached = g.reached; used = g.used; behind = g.behind; ahead = g.ahead; gives = g.gives; replies = g.replies; drawn = g.drawn }
 
 -- ---- broken off
 
@@ -120,21 +195,25 @@ module _ {E : Type 0} (judge : List Raw → Raw → Verdict E) where
   extends past bytes = extends_within (suc (length bytes)) past bytes
 
 -- at the message at the front, none of it was given or answered
-pub breaks_here : (setup : Setup) (past : List Raw) (rest : List ℕ) (out : List EisRequest) (took : Option Piece) → Breaks setup past rest out out took took
-breaks_here setup past rest out took = record {
+pub breaks_here : (setup : Setup) (past : List Raw) (times rest : List ℕ) (x : Around) → Breaks setup past times rest x x
+breaks_here setup past times rest x = record {
   reached = past;
+  used = [];
   behind = ([], refl);
   ahead = extends (judge setup) past rest;
-  gives = gives_none setup past past out (λ readings. refl);
-  replies = in_part_none setup past took;
+  gives = gives_none setup past past times x.out (λ readings. refl);
+  replies = in_part_none setup past x.took;
+  drawn = λ told is. refl;
 }
 
 -- later on the way
-pub breaks_then : (setup : Setup) (a b : List Raw) (s t : List ℕ) (x y z : List EisRequest) (p q r : Option Piece) → ((done : List Raw) × (b ≡ done ++ a)) → read (judge setup) a s ≡ read (judge setup) b t → Goes setup a b x y p q → Breaks setup b t y z q r → Breaks setup a s x z p r
-breaks_then setup a b s t x y z p q r on same g h = record {
+pub breaks_then : (setup : Setup) (a b : List Raw) (times u s t : List ℕ) (x y z : Around) → read (judge setup) a s ≡ read (judge setup) b t → Goes setup a b times u x y → Breaks setup b (times ++ u) t y z → Breaks setup a times s x z
+breaks_then setup a b times u s t x y z same g h = record {
   reached = h.reached;
-  behind = (h.behind.0 ++ on.0, h.behind.1 ∙ ap (λ (u : List Raw). h.behind.0 ++ u) on.1 ∙ sym (append_assoc h.behind.0 on.0 a));
-  ahead = (h.ahead.0, ap (λ u. u.past) same ∙ h.ahead.1);
-  gives = gives_then setup a b h.reached x y z g.gives h.gives;
-  replies = replies_then_part setup a b h.reached p q r g.replies h.replies;
+  used = u ++ h.used;
+  behind = behind_then a b h.reached g.behind h.behind;
+  ahead = (h.ahead.0, ap (λ (r : Reading Refusal). r.past) same ∙ h.ahead.1);
+  gives = gives_then setup a b h.reached times u h.used x.out y.out z.out h.behind g.gives h.gives;
+  replies = replies_then_part setup a b h.reached x.took y.took z.took g.replies h.replies;
+  drawn = drawn_then u h.used x.readings y.readings g.drawn g.leaves h.drawn;
 }

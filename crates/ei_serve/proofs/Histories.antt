@@ -11,10 +11,10 @@ use Rattle.ei_spec.specs.Stream.{Stop, Waiting, Ended, HeaderLength, Refusal, Re
 use Rattle.ei_spec.proofs.GoesOn as goes_on
 use Rattle.ei_session.specs.Setup.{Setup}
 use Rattle.ei_session.specs.Handshake.{connected}
-use Rattle.ei_session.specs.Refusals.{Refusal as Cause}
-use Rattle.ei_session.specs.Served.{Answer, Disconnect, End, UnexpectedEof, PieceLimit, HandleLimit, Refused, Outcome, answer_of, answer_at, is_waiting}
+use Rattle.ei_session.specs.Refusals.{Refusal as Cause, judge}
+use Rattle.ei_session.specs.Served.{Answer, Disconnect, End, UnexpectedEof, IdsExhausted, PieceLimit, HandleLimit, Refused, Outcome, answer_of, answer_at, is_waiting}
 use Rattle.ei_session.specs.Served.{too_many_handles, at_end, reading_by, read_first_by, is_over_by, over_at_by}
-use Rattle.ei_session.specs.Guard.{judge, reading_of, accepted, read_first, is_over, over_at, session}
+use Rattle.ei_session.specs.Served.{reading_of, accepted, read_first, is_over, over_at, session}
 use Rattle.ei_session.proofs.AllParts.{session_over_by, session_end_by}
 use Rattle.ei_serve.specs.Taking.{with_next}
 use Rattle.ei_serve.proofs.Going.{extends}
@@ -172,9 +172,23 @@ end_is_late : (b : Bool) → IsEarly (cond b End UnexpectedEof) → ⊥
 end_is_late true h = h
 end_is_late false h = h
 
+-- where the answer is early, the session is over with the last piece
+over_by : (setup : Setup) (pieces : List Piece) (piece : Piece) (b : Bool) → GoesOn setup pieces → IsEarly (session setup (with_next pieces piece)).answer → is_over setup (with_next pieces piece) (length pieces + 1) ≡ b → b ≡ true
+over_by setup pieces piece true on early e = refl
+over_by setup pieces piece false on early e =
+    let none : GoesOn setup (with_next pieces piece) = λ k low high. elim (cases_lt (length pieces) k) [
+      | inl lt ↦ let same : k ≡ length pieces + 1 = omega (arith, lt, high, length_push pieces piece) in ap (is_over setup (with_next pieces piece)) same ∙ e
+      | inr ge ↦ before_next setup pieces piece on k low ge
+    ] in
+    absurd (end_is_late (connected (accepted setup (stream (with_next pieces piece)))) (subst (λ (o : Outcome). IsEarly o.answer) (going setup (with_next pieces piece) none) early))
+
+pub over_early : (setup : Setup) (pieces : List Piece) (piece : Piece) → GoesOn setup pieces → IsEarly (session setup (with_next pieces piece)).answer → is_over setup (with_next pieces piece) (length pieces + 1) ≡ true
+over_early setup pieces piece on early = over_by setup pieces piece (is_over setup (with_next pieces piece) (length pieces + 1)) on early refl
+
 -- the answer is that of a stream which stopped
 abbrev pub IsStopped : Answer → Type 0
 IsStopped Disconnect = Unit {0}
+IsStopped IdsExhausted = Unit {0}
 IsStopped (Refused refusal) = Unit {0}
 IsStopped answer = ⊥
 

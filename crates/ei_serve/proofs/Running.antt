@@ -6,21 +6,23 @@ use Rattle.std.proofs.lemmas.Grind.{flat_map-append}
 use Rattle.ei_spec.specs.Message.{Raw, front, bytes_of, all_bytes}
 use Rattle.ei_spec.specs.Piece.{Piece, stream, handle_count}
 use Rattle.ei_spec.specs.Stream.{Waiting, Reading, reading, read, read_within}
+use Rattle.ei_spec.specs.History.{each}
+use Rattle.ei_spec.specs.Groups.{frames_made}
 use Rattle.ei_session.specs.Setup.{Setup}
-use Rattle.ei_session.specs.Requests.{framed}
+use Rattle.ei_session.specs.Requests.{slot, framed}
 use Rattle.ei_session.specs.Events.{replies}
 use Rattle.ei_session.specs.Refusals.{Refusal as Cause}
-use Rattle.ei_session.specs.Served.{reading_by}
-use Rattle.ei_session.specs.Guard.{accepted, reading_of}
+use Rattle.ei_session.specs.Served.{reading_by, accepted, reading_of}
 use Rattle.ei_backend.specs.Outside.{with_more}
 use Rattle.ei_request.specs.declared.event.EisRequest.{EisRequest}
 use Rattle.ei_serve.specs.declared.session.Session.{Session}
+use Rattle.ei_serve.specs.Around.{Around, around, AreDrawn, LeavesReadings}
 use Rattle.ei_serve.specs.Standing.{Stands, StandsAt, setup_of}
 use Rattle.ei_serve.specs.Steps.{Gives, Replies}
 use Rattle.ei_serve.specs.Taking.{Hands, with_next}
 use Rattle.ei_serve.specs.Turning.{GoesOn}
 use Rattle.ei_serve.specs.Serving.{Replied}
-use Rattle.ei_serve.proofs.Going.{gives_none, gives_then, more_more}
+use Rattle.ei_serve.proofs.Going.{gives_none, gives_then, drawn_then, leaves_then, more_more}
 
 -- of the pieces told, the first n were taken, and they are these
 pub record Took (told : List Piece) (left : Option (List Piece)) (n : ℕ) (pieces : List Piece) : Type 0 where
@@ -29,13 +31,17 @@ pub record Took (told : List Piece) (left : Option (List Piece)) (n : ℕ) (piec
   pub are : take n told ≡ pieces
 
 -- after n turns
-pub record Running (setup : Setup) (n : ℕ) (s : Session) (left_old left_new : Option (List Piece)) (out_old out_new : List EisRequest) (took_old took_new : Option Piece) : Type 0 where
+pub record Running (setup : Setup) (n : ℕ) (s : Session) (old new : Around) : Type 0 where
   pub pieces : List Piece
+  pub times : List ℕ
   pub count : length pieces ≡ n
-  pub stands : Stands setup pieces s
-  pub took : (told : List Piece) → left_old ≡ Some told → Took told left_new n pieces
-  pub gives : Gives setup [] (accepted setup (stream pieces)) out_old out_new
-  pub replied : Replied setup (accepted setup (stream pieces)) took_old took_new
+  pub stands : Stands setup pieces times s
+  pub took : (told : List Piece) → old.left ≡ Some told → Took told new.left n pieces
+  pub gives : Gives setup [] (accepted setup (stream pieces)) [] times old.out new.out
+  pub replied : Replied setup (accepted setup (stream pieces)) old.took new.took
+  pub drawn : AreDrawn times old.readings
+  pub leaves : LeavesReadings times old.readings new.readings
+  pub frames : length times + frames_made (each (slot setup) []) ≡ frames_made (each (slot setup) (accepted setup (stream pieces)))
 
 -- ---- the pieces told
 
@@ -72,14 +78,18 @@ replied_then setup a b x y z r s held told =
 
 -- ---- one turn more
 
-pub goes_on : (setup : Setup) (n : ℕ) (s t : Session) (left left_now left_new : Option (List Piece)) (x y z : List EisRequest) (a b c : Option Piece) (r : Running setup n s left left_now x y a b) → GoesOn setup r.pieces t left_now left_new y z b c → Running setup (n + 1) t left left_new x z a c
-goes_on setup n s t left left_now left_new x y z a b c r g = record {
+pub goes_on : (setup : Setup) (n : ℕ) (s t : Session) (x y z : Around) (r : Running setup n s x y) → GoesOn setup r.pieces r.times t y z → Running setup (n + 1) t x z
+goes_on setup n s t x y z r g = record {
   pieces = with_next r.pieces g.piece;
+  times = r.times ++ g.used;
   count = length-append r.pieces (g.piece ∷ []) ∙ ap (λ (k : ℕ). k + 1) r.count;
   stands = g.stands;
-  took = λ told e. took_more told left_now left_new n r.pieces g.piece (r.took told e) g.hands;
-  gives = gives_then setup [] (accepted setup (stream r.pieces)) (accepted setup (stream (with_next r.pieces g.piece))) x y z r.gives g.goes.gives;
-  replied = replied_then setup (accepted setup (stream r.pieces)) (accepted setup (stream (with_next r.pieces g.piece))) a b c r.replied g.goes.replies;
+  took = λ told e. took_more told y.left z.left n r.pieces g.piece (r.took told e) g.hands;
+  gives = gives_then setup [] (accepted setup (stream r.pieces)) (accepted setup (stream (with_next r.pieces g.piece))) [] r.times g.used x.out y.out z.out g.goes.behind r.gives g.goes.gives;
+  replied = replied_then setup (accepted setup (stream r.pieces)) (accepted setup (stream (with_next r.pieces g.piece))) x.took y.took z.took r.replied g.goes.replies;
+  drawn = drawn_then r.times g.used x.readings y.readings r.drawn r.leaves g.goes.drawn;
+  leaves = leaves_then r.times g.used x.readings y.readings z.readings r.leaves g.goes.leaves;
+  frames = omega (arith, r.frames, g.goes.frames, length-append r.times g.used);
 }
 
 -- nothing is read of no pieces
@@ -91,24 +101,28 @@ none_accepted : (setup : Setup) → accepted setup (stream []) ≡ []
 none_accepted setup = ap (λ (r : Reading Cause). r.past) (nothing_read setup)
 
 -- a session that just started stands for no pieces
-pub stands_for_none : (setup : Setup) (s : Session) → setup_of s.setup ≡ setup → StandsAt setup [] [] [] s.phase → s.taken ≡ 0 → Stands setup [] s
+pub stands_for_none : (setup : Setup) (s : Session) → setup_of s.setup ≡ setup → StandsAt setup [] [] [] [] s.phase → s.taken ≡ 0 → Stands setup [] [] s
 unfolding handle_count
 stands_for_none setup s started phase taken = record {
   started = started;
   goes_on = λ k low high. absurd (omega (arith, low, high));
   waits = ap (λ (r : Reading Cause). r.stop) (nothing_read setup);
   unread = [];
-  phase = subst (λ (r : Reading Cause). StandsAt setup r.past r.rest [] s.phase) (sym (nothing_read setup)) phase;
+  phase = subst (λ (r : Reading Cause). StandsAt setup r.past [] r.rest [] s.phase) (sym (nothing_read setup)) phase;
   handles = refl;
   taken = taken;
 }
 
-pub starts : (setup : Setup) (s : Session) (left : Option (List Piece)) (out : List EisRequest) (old new : Option Piece) → Stands setup [] s → Replied setup [] old new → Running setup 0 s left left out out old new
-starts setup s left out old new stands r = record {
+pub starts : (setup : Setup) (s : Session) (left : Option (List Piece)) (out : List EisRequest) (old new : Option Piece) (readings : Option (List ℕ)) → Stands setup [] [] s → Replied setup [] old new → Running setup 0 s (around left out old readings) (around left out new readings)
+starts setup s left out old new readings stands r = record {
   pieces = [];
+  times = [];
   count = refl;
   stands = stands;
   took = λ told e. record { within = omega arith; left_is = e; are = refl };
-  gives = gives_none setup [] (accepted setup (stream [])) out (λ readings. ap (framed setup readings) (none_accepted setup));
+  gives = gives_none setup [] (accepted setup (stream [])) [] out (λ given. ap (framed setup given) (none_accepted setup));
   replied = subst (λ (m : List Raw). Replied setup m old new) (sym (none_accepted setup)) r;
+  drawn = λ told is. refl;
+  leaves = λ told is. is;
+  frames = omega (arith, ap (λ (m : List Raw). frames_made (each (slot setup) m)) (none_accepted setup));
 }

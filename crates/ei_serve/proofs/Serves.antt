@@ -1,44 +1,85 @@
 -- A whole session, turn by turn.
-use Rattle.std.proofs.Common.{◌≡◌, ℕ, ◌+◌, ◌-◌, ◌≤◌, ◌<◌, inl, inr, Bool, true, false, cond, List, [], ◌∷◌, ◌++◌, length, take, drop, Option, Some, None}
+use Rattle.std.proofs.Common.{◌≡◌, ℕ, zero, suc, ◌+◌, ◌-◌, ◌≤◌, ◌<◌, inl, inr, Bool, true, false, cond, List, [], ◌∷◌, ◌++◌, length, take, drop, get_or, Option, Some, None}
 use Rattle.std.proofs.Common.{Result, Ok, Err, refl, ap, sym, subst, ◌∙◌, append_assoc, arith}
 use Rattle.std.specs.Prelude.{map, OnOk, IfErr, IsErrOf, IsSome}
 use Rattle.std.proofs.lemmas.Bool.{cases_lt, lt-ltb}
-use Rattle.std.proofs.lemmas.List.{append-nil, take_all, take-append-drop}
+use Rattle.std.proofs.lemmas.List.{append-nil, length-append, take_all, take-append-drop}
 use Rattle.std.proofs.lemmas.Grind.{flat_map-append}
 use Rattle.std.proofs.Math.Seq.{take-append-add}
 use Rattle.ei_spec.specs.Message.{Raw, bytes_of, all_bytes}
 use Rattle.ei_spec.specs.Piece.{Piece, stream, handle_count}
 use Rattle.ei_spec.specs.Stream.{Stop, Waiting, Ended, HeaderLength, Refusal}
-use Rattle.ei_spec.specs.History.{each, joined}
-use Rattle.ei_spec.specs.Groups.{grouped}
+use Rattle.ei_spec.specs.History.{each, joined, total}
+use Rattle.ei_spec.specs.Groups.{Item, Input, Frame, Other, Free, Given, Plain, Slot, group, with_frame, gives, grouped, frames_made}
 use Rattle.ei_session.specs.Setup.{Setup}
-use Rattle.ei_session.specs.Handshake.{connected}
+use Rattle.ei_session.specs.Handshake.{connected, version}
 use Rattle.ei_session.specs.Refusals.{Refusal as Cause}
-use Rattle.ei_session.specs.Requests.{Request, framed}
+use Rattle.ei_session.specs.Requests.{Request, slot, framed}
 use Rattle.ei_session.specs.Replies.{greeting}
 use Rattle.ei_session.specs.Events.{replies}
-use Rattle.ei_session.specs.Served.{Answer, Disconnect, End, UnexpectedEof, PieceLimit, HandleLimit, Refused, Outcome, answer_at, at_end, is_waiting, is_over_by, IsGood}
-use Rattle.ei_session.specs.Guard.{session, is_over, reading_of, accepted, IsValid}
+use Rattle.ei_session.specs.Served.{Answer, Disconnect, End, UnexpectedEof, IdsExhausted, PieceLimit, HandleLimit, Refused, Outcome, answer_at, at_end, is_waiting, is_over_by, IsGood}
+use Rattle.ei_session.specs.Served.{session, is_over, reading_of, accepted, IsValid}
+use Rattle.ei_session.specs.Complete.{AreComplete}
 use Rattle.ei_session.proofs.AllParts.{replies_prefix}
+use Rattle.ei_session.proofs.Completing.{complete_ends}
 use Rattle.ei_backend.specs.Outside.{with_more}
-use Rattle.ei_request.specs.Converter.{asked_of}
 use Rattle.ei_request.specs.declared.event.EisRequest.{EisRequest}
+use Rattle.ei_standing.specs.Standing.{request_in_code}
 use Rattle.ei_types.specs.declared.error.Error.{Error}
 use Rattle.ei_types.specs.declared.error.Error.TheVariants as error
 use Rattle.ei_serve.specs.declared.session.Ended.{Ended as HowEnded}
 use Rattle.ei_serve.specs.declared.session.Ended.TheVariants as ended
 use Rattle.ei_serve.specs.declared.session.Session.{Session}
+use Rattle.ei_serve.specs.Around.{Around, around, first_readings, AreDrawn, LeavesReadings}
 use Rattle.ei_serve.specs.Causes.{Greeted, GreetedInPart, RefusesToStart}
 use Rattle.ei_serve.specs.Steps.{Gives, Replies, RepliesInPart, Goes}
 use Rattle.ei_serve.specs.Taking.{Hands, HasNone, with_next}
 use Rattle.ei_serve.specs.Refusing.{refusal_of, IsRefused}
 use Rattle.ei_serve.specs.Turning.{Closes, ClosesRefused, Finds, Stays, BreaksOff, Turns, IsAtEnd}
-use Rattle.ei_serve.specs.Serving.{AnswersAs, IsDecided, IsCutShort, IsOfSession, IsSourceEnd, TookPieces, AreReadings, HandsOut, Replied, RepliedInPart}
-use Rattle.ei_serve.specs.Serving.{RepliedAtLeast, ReadValid, Handled, HandledInPart, OwesLast}
-use Rattle.ei_serve.proofs.Going.{none_more, more_more, gives_none, gives_then, goes_none}
+use Rattle.ei_serve.specs.Serving.{AnswersAs, IsDecided, IsCutShort, IsOfSession, IsSourceEnd, TookPieces, HandsOut, LeftReadings, Replied, RepliedInPart}
+use Rattle.ei_serve.specs.Serving.{RepliedAtLeast, ReadValid, Handled, TookToTheEnd, TookToPiece, TookAllOf, CutShort}
+use Rattle.ei_serve.proofs.Going.{drop_none, none_more, more_more, gives_none, gives_then, drawn_then, leaves_then}
 use Rattle.ei_serve.proofs.Histories.{GoesOn as GoingOn, IsEarly, IsStopped, end_is_no_stop, goes_on_more, going, stopped, too_many_pieces, too_many_handles_come, session_front}
-use Rattle.ei_serve.proofs.Histories.{front_same, accepted_front, handled_front, handled_next}
+use Rattle.ei_serve.proofs.Histories.{over_early, front_same, accepted_front, handled_front, handled_next}
 use Rattle.ei_serve.proofs.Running.{Running, Took, took_more, replied_then}
+
+-- ---- readings
+
+-- the same readings at each place
+abbrev Alike : List ℕ → List ℕ → Type 0
+Alike a b = (k : ℕ) → get_or a k 0 ≡ get_or b k 0
+
+module _ {X Y : Type 0} (a b : List ℕ) (same : Alike a b) where
+  gives_alike_at : (before : List (Slot X Y)) (item : Option (Item X Y)) (serial : ℕ) → gives a before (record { item = item; serial = serial }) ≡ gives b before (record { item = item; serial = serial })
+  unfolding gives
+  gives_alike_at before None serial = refl
+  gives_alike_at before (Some (Input d x)) serial = refl
+  gives_alike_at before (Some (Frame d s t)) serial = refl
+  gives_alike_at before (Some (Other d y)) serial = ap (λ (t : ℕ). with_frame (group d before) d serial t ++ (Plain y ∷ [])) (same (frames_made before))
+  gives_alike_at before (Some (Free y)) serial = refl
+
+  grouped_alike : (slots : List (Slot X Y)) → grouped a slots ≡ grouped b slots
+  unfolding grouped joined
+  grouped_alike [] = refl
+  grouped_alike (s ∷ before) =
+      ap (λ (x : List (Given ℕ X Y)). x ++ gives a before s) (grouped_alike before)
+      ∙ ap (λ (x : List (Given ℕ X Y)). grouped b before ++ x) (gives_alike_at before s.item s.serial)
+
+framed_alike : (setup : Setup) (a b : List ℕ) (messages : List Raw) → Alike a b → framed setup a messages ≡ framed setup b messages
+unfolding framed
+framed_alike setup a b messages same = grouped_alike a b same (each (slot setup) messages)
+
+none_at : (k : ℕ) → get_or {A = ℕ} [] k 0 ≡ 0
+none_at zero = refl
+none_at (suc k) = refl
+
+-- readings that were told, the first n of them apart
+told_apart : (n : ℕ) (told : List ℕ) → Alike (first_readings n told ++ drop n told) told
+told_apart zero told k = refl
+told_apart (suc n) [] zero = refl
+told_apart (suc n) [] (suc k) = ap (λ (l : List ℕ). get_or (first_readings n [] ++ l) k 0) (sym (drop_none n)) ∙ told_apart n [] k ∙ none_at k
+told_apart (suc n) (t ∷ told) zero = refl
+told_apart (suc n) (t ∷ told) (suc k) = told_apart n told k
 
 -- ---- requests
 
@@ -46,24 +87,37 @@ framed_none : (setup : Setup) (readings : List ℕ) → framed setup readings []
 unfolding framed each grouped joined
 framed_none setup readings = refl
 
--- the readings that a clock told, or none
-abbrev readings_of : Option (List ℕ) → List ℕ
-readings_of None = []
-readings_of (Some told) = told
+all_framed : (setup : Setup) (messages : List Raw) (used later : List ℕ) (old new : List EisRequest) (g : Gives setup [] messages [] used old new) → framed setup (used ++ later) messages ≡ g.more
+all_framed setup messages used later old new g = g.framed_is later ∙ ap (λ (x : List Request). x ++ g.more) (framed_none setup (used ++ later))
 
-are_readings : (told : Option (List ℕ)) → AreReadings told (readings_of told)
-are_readings None = tt
-are_readings (Some told) = refl
+grown_so : (setup : Setup) (messages : List Raw) (used readings : List ℕ) (old new : List EisRequest) (g : Gives setup [] messages [] used old new) → framed setup readings messages ≡ g.more → new ≡ old ++ map (request_in_code messages) (framed setup readings messages)
+grown_so setup messages used readings old new g e =
+    g.grown (version messages) (λ on interface. refl) ∙ ap (λ (x : List Request). old ++ map (request_in_code messages) x) (sym e)
 
 -- all requests since the start
-pub hands_out : (setup : Setup) (messages : List Raw) (told : Option (List ℕ)) (old new : List EisRequest) → Gives setup [] messages old new → HandsOut setup messages told old new
-hands_out setup messages told old new g = record {
-  more = g.0;
-  grown = g.1;
-  readings = readings_of told;
-  told_so = are_readings told;
-  framed_is = sym (g.2 (readings_of told) ∙ ap (λ (x : List Request). x ++ map asked_of g.0) (framed_none setup (readings_of told)));
+pub hands_out : (setup : Setup) (messages : List Raw) (used : List ℕ) (told : Option (List ℕ)) (old new : List EisRequest) → Gives setup [] messages [] used old new → AreDrawn used told → HandsOut setup messages told old new
+hands_out setup messages used None old new g d = record {
+  readings = used ++ [];
+  told_so = tt;
+  grown = grown_so setup messages used (used ++ []) old new g (all_framed setup messages used [] old new g);
 }
+hands_out setup messages used (Some told) old new g d = record {
+  readings = told;
+  told_so = refl;
+  grown = grown_so setup messages used told old new g
+      (sym (ap (λ (u : List ℕ). framed setup (u ++ drop (length used) told) messages) (d told refl) ∙ framed_alike setup (first_readings (length used) told ++ drop (length used) told) told messages (told_apart (length used) told))
+      ∙ all_framed setup messages used (drop (length used) told) old new g);
+}
+
+no_frames : (setup : Setup) → frames_made (each (slot setup) []) ≡ 0
+unfolding frames_made each total
+no_frames setup = refl
+
+-- all readings since the start
+left_readings : (setup : Setup) (messages : List Raw) (used : List ℕ) (old new : Option (List ℕ)) → length used + frames_made (each (slot setup) []) ≡ frames_made (each (slot setup) messages) → LeavesReadings used old new → LeftReadings setup messages old new
+left_readings setup messages used old new frames l told is =
+    let count : length used ≡ frames_made (each (slot setup) messages) = omega (arith, frames, no_frames setup) in
+    l told is ∙ ap (λ (n : ℕ). Some (drop n told)) count
 
 -- ---- replies
 
@@ -88,22 +142,20 @@ not_replied setup took held told = (0, told ∙ ap (λ (x : Piece). Some x) (non
 
 -- ---- before the first piece
 
-pub none_taken : (told : List Piece) (left : Option (List Piece)) → left ≡ Some told → TookPieces told left 0
+none_taken : (told : List Piece) (left : Option (List Piece)) → left ≡ Some told → TookPieces told left 0
 none_taken told left e = record { within = omega arith; left_is = e }
 
-pub none_handled : (setup : Setup) (messages : List Raw) (readings : Option (List ℕ)) (out : List EisRequest) (old new : Option Piece) → RepliedInPart setup [] old new → HandledInPart setup messages readings out out old new
-none_handled setup messages readings out old new r = record {
+none_handled : (setup : Setup) (told : List Piece) (left : Option (List Piece)) (readings : Option (List ℕ)) (out : List EisRequest) (old new : Option Piece) → left ≡ Some told → RepliedInPart setup [] old new → CutShort setup told left readings out out old new
+none_handled setup told left readings out old new e r = record {
+  k = 0;
+  took = none_taken told left e;
   reached = [];
-  ahead = (messages, sym (append-nil messages));
-  requests = hands_out setup [] readings out out (gives_none setup [] [] out (λ _. refl));
+  ahead = ((session setup told).handled, sym (append-nil (session setup told).handled));
+  owed = λ lt. absurd (omega (arith, lt));
+  requests = hands_out setup [] [] readings out out (gives_none setup [] [] [] out (λ given. refl)) (λ given is. refl);
   replies = r;
+  replied = λ lt. absurd (omega (arith, lt));
 }
-
-pub none_owed : (setup : Setup) (told : List Piece) (left : Option (List Piece)) (old new : Option Piece) → left ≡ Some told → OwesLast setup told left old new
-none_owed setup told left old new e = record { k = 0; took = none_taken told left e; replies = λ lt. absurd (omega (arith, lt)) }
-
-pub at_most : (told : List Piece) (left : Option (List Piece)) (n : ℕ) → left ≡ Some told → (k : ℕ) × (k ≤ n) × TookPieces told left k
-at_most told left n e = (0, omega arith, none_taken told left e)
 
 -- ---- the stop
 
@@ -179,15 +231,16 @@ at_least_front setup before messages x y more e r held told =
 
 -- ---- all that is said of a session over pieces that were told
 
-pub record Serves (setup : Setup) (told : List Piece) (result : Result HowEnded Error) (left : Option (List Piece)) (readings : Option (List ℕ)) (out_old out_new : List EisRequest) (took_old took_new : Option Piece) : Type 0 where
+pub record Serves (setup : Setup) (told : List Piece) (result : Result HowEnded Error) (old new : Around) : Type 0 where
   pub answer : AnswersAs (session setup told).answer result
-  pub requests : IsDecided result → HandsOut setup (session setup told).handled readings out_old out_new
-  pub replies : IsDecided result → Replied setup (session setup told).handled took_old took_new
-  pub valid : OnOk result (ReadValid setup told left (session setup told).handled)
-  pub pieces : (k : ℕ) × (k ≤ setup.pieces + 1) × TookPieces told left k
-  pub handled : IsErrOf result error.ReadFault → Handled setup told left readings out_old out_new took_old took_new
-  pub handled_in_part : IsCutShort result → HandledInPart setup (session setup told).handled readings out_old out_new took_old took_new
-  pub owes : IsCutShort result → OwesLast setup told left took_old took_new
+  pub requests : IsDecided result → HandsOut setup (session setup told).handled old.readings old.out new.out
+  pub replies : IsDecided result → Replied setup (session setup told).handled old.took new.took
+  pub readings : IsDecided result → LeftReadings setup (session setup told).handled old.readings new.readings
+  pub valid : OnOk result (ReadValid setup told new.left (session setup told).handled)
+  pub taken : IsDecided result → TookAllOf setup told new.left result
+  pub pieces : (k : ℕ) × (k ≤ setup.pieces + 1) × TookPieces told new.left k
+  pub handled : IsErrOf result error.ReadFault → Handled setup told new.left old.readings old.out new.out old.took new.took
+  pub cut_short : IsCutShort result → CutShort setup told new.left old.readings old.out new.out old.took new.took
 
 no_fault : (r : Result HowEnded Error) → IsDecided r → IsErrOf r error.ReadFault → ⊥
 no_fault (Err error.ReadFault) d e = d
@@ -201,93 +254,163 @@ not_cut (Err error.WriteFault) d c = d
 not_cut (Err error.NoMemory) d c = d
 not_cut r d c = c
 
+-- not of the source's end
+abbrev IsNoEnd : Result HowEnded Error → Type 0
+IsNoEnd (Ok ended.End) = ⊥
+IsNoEnd (Err error.UnexpectedEof) = ⊥
+IsNoEnd r = Unit {0}
+
+took_to_piece : (setup : Setup) (told : List Piece) (left : Option (List Piece)) (r : Result HowEnded Error) → IsNoEnd r → TookToPiece setup told left → TookAllOf setup told left r
+took_to_piece setup told left (Ok ended.End) n t = absurd n
+took_to_piece setup told left (Err error.UnexpectedEof) n t = absurd n
+took_to_piece setup told left r n t = t
+
+took_to_end : (setup : Setup) (told : List Piece) (left : Option (List Piece)) (r : Result HowEnded Error) → IsSourceEnd r → TookToTheEnd setup told left → TookAllOf setup told left r
+took_to_end setup told left (Ok ended.End) n t = t
+took_to_end setup told left (Err error.UnexpectedEof) n t = t
+took_to_end setup told left r n t = absurd n
+
 took_of : (told : List Piece) (left : Option (List Piece)) (n : ℕ) (pieces : List Piece) → Took told left n pieces → TookPieces told left n
 took_of told left n pieces t = record { within = t.within; left_is = t.left_is }
 
-module _ (setup : Setup) (n : ℕ) (s : Session) (left left_now left_new : Option (List Piece)) (x y z : List EisRequest) (a b c : Option Piece) (run : Running setup n s left left_now x y a b) (few : n ≤ setup.pieces) (told : List Piece) (left_is : left ≡ Some told) (readings : Option (List ℕ)) where
-  took_now : Took told left_now n run.pieces
+cut_so : (setup : Setup) (told : List Piece) (x z : Around) (e : Error) (k : ℕ) → IsCutShort {T = HowEnded} (Err e) → k ≤ setup.pieces + 1 → TookPieces told z.left k → CutShort setup told z.left x.readings x.out z.out x.took z.took → Serves setup told (Err e) x z
+cut_so setup told x z error.WriteFault k is most took h = record { answer = tt; requests = λ d. absurd d; replies = λ d. absurd d; readings = λ d. absurd d; valid = tt; taken = λ d. absurd d; pieces = (k, most, took); handled = λ e. absurd cc; cut_short = λ _. h }
+cut_so setup told x z error.NoMemory k is most took h = record { answer = tt; requests = λ d. absurd d; replies = λ d. absurd d; readings = λ d. absurd d; valid = tt; taken = λ d. absurd d; pieces = (k, most, took); handled = λ e. absurd cc; cut_short = λ _. h }
+cut_so setup told x z e k is most took h = absurd is
+
+start_cut : (e : Error) → RefusesToStart e → IsCutShort {T = HowEnded} (Err e)
+start_cut error.WriteFault h = tt
+start_cut error.NoMemory h = tt
+start_cut e h = absurd h
+
+pub no_start_read : (e : Error) → RefusesToStart e → e ≡ error.ReadFault → ⊥
+no_start_read e h same = subst RefusesToStart same h
+
+-- a session that didn't start
+pub not_started : (setup : Setup) (told : List Piece) (left : Option (List Piece)) (out : List EisRequest) (old new : Option Piece) (readings : Option (List ℕ)) (e : Error) (r : Result HowEnded Error) → r ≡ Err e → RefusesToStart e → left ≡ Some told → RepliedInPart setup [] old new → Serves setup told r (around left out old readings) (around left out new readings)
+not_started setup told left out old new readings e r same h is replied =
+    subst (λ (q : Result HowEnded Error). Serves setup told q (around left out old readings) (around left out new readings)) (sym same)
+    (cut_so setup told (around left out old readings) (around left out new readings) e 0 (start_cut e h) (omega arith) (none_taken told left is) (none_handled setup told left readings out old new is replied))
+
+module _ (setup : Setup) (n : ℕ) (s : Session) (x y z : Around) (run : Running setup n s x y) (few : n ≤ setup.pieces) (told : List Piece) (left_is : x.left ≡ Some told) where
+  took_now : Took told y.left n run.pieces
   took_now = run.took told left_is
 
   abbrev past : List Raw
   past = accepted setup (stream run.pieces)
 
-  -- what the session gave and replied, up to these messages
-  gives_to : (messages : List Raw) → Gives setup past messages y z → HandsOut setup messages readings x z
-  gives_to messages g = hands_out setup messages readings x z (gives_then setup [] past messages x y z run.gives g)
+  -- what the session gave and replied, and the readings that it took, up to these messages
+  gives_to : (messages : List Raw) (used : List ℕ) → ((done : List Raw) × (messages ≡ done ++ past)) → Gives setup past messages run.times used y.out z.out → AreDrawn used y.readings → HandsOut setup messages x.readings x.out z.out
+  gives_to messages used behind g d =
+      hands_out setup messages (run.times ++ used) x.readings x.out z.out (gives_then setup [] past messages [] run.times used x.out y.out z.out behind run.gives g)
+      (drawn_then run.times used x.readings y.readings run.drawn run.leaves d)
 
-  replies_to : (messages : List Raw) → Replies setup past messages b c → Replied setup messages a c
-  replies_to messages r = replied_then setup past messages a b c run.replied r
+  replies_to : (messages : List Raw) → Replies setup past messages y.took z.took → Replied setup messages x.took z.took
+  replies_to messages r = replied_then setup past messages x.took y.took z.took run.replied r
 
-  decided : (r : Result HowEnded Error) (k : ℕ) → IsDecided r → k ≤ setup.pieces + 1 → AnswersAs (session setup told).answer r → TookPieces told left_new k →
-      Goes setup past (session setup told).handled y z b c → OnOk r (ReadValid setup told left_new (session setup told).handled) → Serves setup told r left_new readings x z a c
-  decided r k d most answers took g valid = record {
+  leaves_to : (messages : List Raw) (used : List ℕ) → Goes setup past messages run.times used y z → LeftReadings setup messages x.readings z.readings
+  leaves_to messages used g =
+      left_readings setup messages (run.times ++ used) x.readings z.readings (omega (arith, run.frames, g.frames, length-append run.times used)) (leaves_then run.times used x.readings y.readings z.readings run.leaves g.leaves)
+
+  decided : (r : Result HowEnded Error) (k : ℕ) (used : List ℕ) → IsDecided r → k ≤ setup.pieces + 1 → AnswersAs (session setup told).answer r → TookPieces told z.left k → TookAllOf setup told z.left r →
+      Goes setup past (session setup told).handled run.times used y z → OnOk r (ReadValid setup told z.left (session setup told).handled) → Serves setup told r x z
+  decided r k used d most answers took all g valid = record {
     answer = answers;
-    requests = λ _. gives_to (session setup told).handled g.gives;
+    requests = λ _. gives_to (session setup told).handled used g.behind g.gives g.drawn;
     replies = λ _. replies_to (session setup told).handled g.replies;
+    readings = λ _. leaves_to (session setup told).handled used g;
     valid = valid;
+    taken = λ _. all;
     pieces = (k, most, took);
     handled = λ e. absurd (no_fault r d e);
-    handled_in_part = λ e. absurd (not_cut r d e);
-    owes = λ e. absurd (not_cut r d e);
+    cut_short = λ e. absurd (not_cut r d e);
   }
+
+  goes_on_told : (j : ℕ) → 1 ≤ j → j ≤ n → is_over setup told j ≡ false
+  goes_on_told j low high = sym (front_same setup told n j high) ∙ ap (λ (p : List Piece). is_over setup p j) took_now.are ∙ run.stands.goes_on j low (omega (arith, high, run.count))
 
   -- ---- the last piece came
 
-  took_next : (piece : Piece) → Hands left_now piece left_new → Took told left_new (n + 1) (with_next run.pieces piece)
-  took_next piece hands = took_more told left_now left_new n run.pieces piece took_now hands
+  took_next : (piece : Piece) → Hands y.left piece z.left → Took told z.left (n + 1) (with_next run.pieces piece)
+  took_next piece hands = took_more told y.left z.left n run.pieces piece took_now hands
 
-  session_is : (piece : Piece) → Hands left_now piece left_new → IsEarly (session setup (with_next run.pieces piece)).answer → session setup told ≡ session setup (with_next run.pieces piece)
+  session_is : (piece : Piece) → Hands y.left piece z.left → IsEarly (session setup (with_next run.pieces piece)).answer → session setup told ≡ session setup (with_next run.pieces piece)
   session_is piece hands early =
       let are = (took_next piece hands).are in
       session_front setup told (n + 1) (subst (λ (p : List Piece). IsEarly (session setup p).answer) (sym are) early) ∙ ap (session setup) are
 
-  closed : (r : Result HowEnded Error) (answer : Answer) → IsDecided r → IsEarly answer → AnswersAs answer r → (h : Closes setup run.pieces answer left_now left_new y z b c) →
-      OnOk r (ReadValid setup told left_new (session setup (with_next run.pieces h.piece)).handled) → Serves setup told r left_new readings x z a c
-  closed r answer d early answers h valid =
-      let is = session_is h.piece h.hands (subst (λ (t : Answer). IsEarly t) (sym h.answer_is) early) in
-      let took = took_next h.piece h.hands in
-      decided r (n + 1) d (omega (arith, few))
-      (subst (λ (t : Answer). AnswersAs t r) (sym (ap (λ (o : Outcome). o.answer) is ∙ h.answer_is)) answers)
-      (took_of told left_new (n + 1) (with_next run.pieces h.piece) took)
-      (subst (λ (o : Outcome). Goes setup past o.handled y z b c) (sym is) h.goes)
-      (subst (λ (o : Outcome). OnOk r (ReadValid setup told left_new o.handled)) (sym is) valid)
+  -- the session is over with it
+  took_last : (piece : Piece) → Hands y.left piece z.left → IsEarly (session setup (with_next run.pieces piece)).answer → TookToPiece setup told z.left
+  took_last piece hands early =
+      let took = took_next piece hands in
+      record {
+        k = n + 1;
+        took = took_of told z.left (n + 1) (with_next run.pieces piece) took;
+        some = omega arith;
+        goes_on = λ j low lt. goes_on_told j low (omega (arith, lt));
+        over = sym (front_same setup told (n + 1) (n + 1) (omega arith)) ∙ ap (λ (p : List Piece). is_over setup p (n + 1)) took.are ∙ ap (λ (k : ℕ). is_over setup (with_next run.pieces piece) (k + 1)) (sym run.count)
+            ∙ over_early setup run.pieces piece run.stands.goes_on early;
+      }
 
-  pub disconnects : Closes setup run.pieces Disconnect left_now left_new y z b c → Serves setup told (Ok ended.Disconnect) left_new readings x z a c
+  closed : (r : Result HowEnded Error) (answer : Answer) → IsDecided r → IsNoEnd r → IsEarly answer → AnswersAs answer r → (h : Closes setup run.pieces run.times answer y z) →
+      OnOk r (ReadValid setup told z.left (session setup (with_next run.pieces h.piece)).handled) → Serves setup told r x z
+  closed r answer d no_end early answers h valid =
+      let soon = subst (λ (t : Answer). IsEarly t) (sym h.answer_is) early in
+      let is = session_is h.piece h.hands soon in
+      let took = took_next h.piece h.hands in
+      decided r (n + 1) h.used d (omega (arith, few))
+      (subst (λ (t : Answer). AnswersAs t r) (sym (ap (λ (o : Outcome). o.answer) is ∙ h.answer_is)) answers)
+      (took_of told z.left (n + 1) (with_next run.pieces h.piece) took)
+      (took_to_piece setup told z.left r no_end (took_last h.piece h.hands soon))
+      (subst (λ (o : Outcome). Goes setup past o.handled run.times h.used y z) (sym is) h.goes)
+      (subst (λ (o : Outcome). OnOk r (ReadValid setup told z.left o.handled)) (sym is) valid)
+
+  pub disconnects : Closes setup run.pieces run.times Disconnect y z → Serves setup told (Ok ended.Disconnect) x z
   disconnects h =
       let took = took_next h.piece h.hands in
       let stop = stopped_at setup run.pieces h.piece run.stands.goes_on h.answer_is in
-      closed (Ok ended.Disconnect) Disconnect tt tt refl h (record {
+      closed (Ok ended.Disconnect) Disconnect tt tt tt refl h (record {
         k = n + 1;
-        took = took_of told left_new (n + 1) (with_next run.pieces h.piece) took;
+        took = took_of told z.left (n + 1) (with_next run.pieces h.piece) took;
         valid = subst (λ (p : List Piece). IsValid setup (stream p)) (sym took.are) (valid_ended setup (stream (with_next run.pieces h.piece)) stop.0);
         messages_are = ap (λ (p : List Piece). accepted setup (stream p)) took.are ∙ sym stop.1;
       })
 
   -- ---- the source ended
 
-  all_taken : HasNone left_now left_new → (drop n told ≡ []) × (left_new ≡ Some [])
+  all_taken : HasNone y.left z.left → (drop n told ≡ []) × (z.left ≡ Some [])
   all_taken none = none (drop n told) took_now.left_is
 
-  pieces_are : HasNone left_now left_new → run.pieces ≡ told
+  pieces_are : HasNone y.left z.left → run.pieces ≡ told
   pieces_are none = sym took_now.are ∙ sym (append-nil (take n told)) ∙ ap (λ (p : List Piece). take n told ++ p) (sym (all_taken none).0) ∙ take-append-drop n told
 
-  took_end : HasNone left_now left_new → TookPieces told left_new n
+  took_end : HasNone y.left z.left → TookPieces told z.left n
   took_end none = record { within = took_now.within; left_is = (all_taken none).1 ∙ ap (λ (p : List Piece). Some p) (sym (all_taken none).0) }
 
-  found : (r : Result HowEnded Error) (answer : Answer) → IsDecided r → AnswersAs answer r → (h : Finds setup run.pieces answer left_now left_new y z b c) →
-      OnOk r (ReadValid setup told left_new (session setup run.pieces).handled) → Serves setup told r left_new readings x z a c
-  found r answer d answers h valid =
+  -- every piece that was told was taken
+  took_every : HasNone y.left z.left → TookToTheEnd setup told z.left
+  took_every none =
+      let count : length told ≡ n = omega (arith, took_now.within, ap (λ (p : List Piece). length p) (pieces_are none), run.count) in
+      record {
+        took = subst (λ (k : ℕ). TookPieces told z.left k) (sym count) (took_end none);
+        goes_on = λ j low high. goes_on_told j low (omega (arith, high, count));
+      }
+
+  found : (r : Result HowEnded Error) (answer : Answer) → IsDecided r → IsSourceEnd r → AnswersAs answer r → (h : Finds setup run.pieces run.times answer y z) →
+      OnOk r (ReadValid setup told z.left (session setup run.pieces).handled) → Serves setup told r x z
+  found r answer d at answers h valid =
       let is = pieces_are h.none in
-      decided r n d (omega (arith, few))
+      decided r n [] d (omega (arith, few))
       (subst (λ (p : List Piece). AnswersAs (session setup p).answer r) is (subst (λ (t : Answer). AnswersAs t r) (sym h.answer_is) answers))
       (took_end h.none)
-      (subst (λ (p : List Piece). Goes setup past (session setup p).handled y z b c) is h.goes)
-      (subst (λ (p : List Piece). OnOk r (ReadValid setup told left_new (session setup p).handled)) is valid)
+      (took_to_end setup told z.left r at (took_every h.none))
+      (subst (λ (p : List Piece). Goes setup past (session setup p).handled run.times [] y z) is h.goes)
+      (subst (λ (p : List Piece). OnOk r (ReadValid setup told z.left (session setup p).handled)) is valid)
 
-  pub ends : Finds setup run.pieces End left_now left_new y z b c → Serves setup told (Ok ended.End) left_new readings x z a c
+  pub ends : Finds setup run.pieces run.times End y z → Serves setup told (Ok ended.End) x z
   ends h =
       let at = going setup run.pieces run.stands.goes_on in
-      found (Ok ended.End) End tt refl h (record {
+      found (Ok ended.End) End tt tt refl h (record {
         k = n;
         took = took_end h.none;
         valid = subst (λ (p : List Piece). IsValid setup (stream p)) (sym took_now.are) (valid_waiting setup (stream run.pieces) run.stands.waits (end_connected past _ refl (sym (ap (λ (o : Outcome). o.answer) at) ∙ h.answer_is)));
@@ -296,101 +419,122 @@ module _ (setup : Setup) (n : ℕ) (s : Session) (left left_now left_new : Optio
 
   -- ---- faults, and want of memory
 
-  goes_on_told : (j : ℕ) → 1 ≤ j → j ≤ n → is_over setup told j ≡ false
-  goes_on_told j low high = sym (front_same setup told n j high) ∙ ap (λ (p : List Piece). is_over setup p j) took_now.are ∙ run.stands.goes_on j low (omega (arith, high, run.count))
-
   goes_on_front : GoingOn setup (take n told)
   goes_on_front = subst (λ (p : List Piece). GoingOn setup p) (sym took_now.are) run.stands.goes_on
 
-  stays_took : Stays setup run.pieces left_now left_new y z b c → TookPieces told left_new n
+  stays_took : Stays y z → TookPieces told z.left n
   stays_took h = record { within = took_now.within; left_is = h.keeps (drop n told) took_now.left_is }
 
-  here : Stays setup run.pieces left_now left_new y z b c → Goes setup past past y z b c
-  here h = subst (λ (t : Option Piece). Goes setup past past y z b t) (sym h.took) (subst (λ (o : List EisRequest). Goes setup past past y o b b) (sym h.out) (goes_none setup past y b))
+  -- the requests and the replies are as they were
+  hands_here : Stays y z → HandsOut setup past x.readings x.out z.out
+  hands_here h = subst (λ (o : List EisRequest). HandsOut setup past x.readings x.out o) (sym h.out) (hands_out setup past run.times x.readings x.out y.out run.gives run.drawn)
+
+  replied_here : Stays y z → Replied setup past x.took z.took
+  replied_here h = subst (λ (t : Option Piece). Replied setup past x.took t) (sym h.took) run.replied
 
   accepted_is : accepted setup (stream (take n told)) ≡ past
   accepted_is = ap (λ (p : List Piece). accepted setup (stream p)) took_now.are
 
-  pub read_fault : Stays setup run.pieces left_now left_new y z b c → Serves setup told (Err error.ReadFault) left_new readings x z a c
-  read_fault h =
-      let g = here h in
-      record {
-        answer = tt;
-        requests = λ d. absurd d;
-        replies = λ d. absurd d;
-        valid = tt;
-        pieces = (n, omega (arith, few), stays_took h);
-        handled = λ e. record {
-          k = n;
-          took = stays_took h;
-          goes_on = goes_on_told;
-          requests = subst (λ (m : List Raw). HandsOut setup m readings x z) (sym accepted_is) (gives_to past g.gives);
-          replies = subst (λ (m : List Raw). Replied setup m a c) (sym accepted_is) (replies_to past g.replies);
-        };
-        handled_in_part = λ e. absurd e;
-        owes = λ e. absurd e;
-      }
+  pub read_fault : Stays y z → Serves setup told (Err error.ReadFault) x z
+  read_fault h = record {
+    answer = tt;
+    requests = λ d. absurd d;
+    replies = λ d. absurd d;
+    readings = λ d. absurd d;
+    valid = tt;
+    taken = λ d. absurd d;
+    pieces = (n, omega (arith, few), stays_took h);
+    handled = λ e. record {
+      k = n;
+      took = stays_took h;
+      goes_on = goes_on_told;
+      requests = subst (λ (m : List Raw). HandsOut setup m x.readings x.out z.out) (sym accepted_is) (hands_here h);
+      replies = subst (λ (m : List Raw). Replied setup m x.took z.took) (sym accepted_is) (replied_here h);
+    };
+    cut_short = λ e. absurd e;
+  }
 
-  cut_short : (e : Error) (k : ℕ) → IsCutShort {T = HowEnded} (Err e) → k ≤ setup.pieces + 1 → TookPieces told left_new k → HandledInPart setup (session setup told).handled readings x z a c → OwesLast setup told left_new a c → Serves setup told (Err e) left_new readings x z a c
-  cut_short error.WriteFault k is most took h o = record { answer = tt; requests = λ d. absurd d; replies = λ d. absurd d; valid = tt; pieces = (k, most, took); handled = λ e. absurd cc; handled_in_part = λ _. h; owes = λ _. o }
-  cut_short error.NoMemory k is most took h o = record { answer = tt; requests = λ d. absurd d; replies = λ d. absurd d; valid = tt; pieces = (k, most, took); handled = λ e. absurd cc; handled_in_part = λ _. h; owes = λ _. o }
-  cut_short e k is most took h o = absurd is
+  cut_by : (e : Error) (k : ℕ) → IsCutShort {T = HowEnded} (Err e) → k ≤ setup.pieces + 1 → TookPieces told z.left k → CutShort setup told z.left x.readings x.out z.out x.took z.took → Serves setup told (Err e) x z
+  cut_by e k is most took h = cut_so setup told x z e k is most took h
 
-  pub breaks_off : (e : Error) → IsCutShort {T = HowEnded} (Err e) → BreaksOff setup run.pieces left_now left_new y z b c → Serves setup told (Err e) left_new readings x z a c
+  pub breaks_off : (e : Error) → IsCutShort {T = HowEnded} (Err e) → BreaksOff setup run.pieces run.times y z → Serves setup told (Err e) x z
   breaks_off e is h =
       let took = took_next h.piece h.hands in
       let next = handled_next setup told n (omega (arith, took.within)) goes_on_front (omega (arith, h.room, run.count)) (subst (λ (p : List Piece). handle_count p ≤ 4096) (sym took.are) h.few) in
       let last : accepted setup (stream (take (n + 1) told)) ≡ accepted setup (stream (with_next run.pieces h.piece)) = ap (λ (p : List Piece). accepted setup (stream p)) took.are in
       let less : n + 1 - 1 ≡ n = omega arith in
-      cut_short e (n + 1) is (omega (arith, few)) (took_of told left_new (n + 1) (with_next run.pieces h.piece) took)
-      (record {
-        reached = h.goes.reached;
-        ahead = (next.0 ++ h.goes.ahead.0, next.1 ∙ ap (λ (m : List Raw). next.0 ++ m) (last ∙ h.goes.ahead.1) ∙ sym (append_assoc next.0 h.goes.ahead.0 h.goes.reached));
-        requests = gives_to h.goes.reached h.goes.gives;
-        replies = replied_then_part setup past h.goes.reached a b c run.replied h.goes.replies;
-      })
+      let before : accepted setup (stream (take (n + 1 - 1) told)) ≡ past = ap (λ (k : ℕ). accepted setup (stream (take k told))) less ∙ accepted_is in
+      cut_by e (n + 1) is (omega (arith, few)) (took_of told z.left (n + 1) (with_next run.pieces h.piece) took)
       (record {
         k = n + 1;
-        took = took_of told left_new (n + 1) (with_next run.pieces h.piece) took;
-        replies = λ _. subst (λ (m : List Raw). RepliedAtLeast setup m a c) (sym (ap (λ (k : ℕ). accepted setup (stream (take k told))) less ∙ accepted_is)) (at_least setup past h.goes.reached a b c run.replied h.goes.replies);
+        took = took_of told z.left (n + 1) (with_next run.pieces h.piece) took;
+        reached = h.goes.reached;
+        ahead = (next.0 ++ h.goes.ahead.0, next.1 ∙ ap (λ (m : List Raw). next.0 ++ m) (last ∙ h.goes.ahead.1) ∙ sym (append_assoc next.0 h.goes.ahead.0 h.goes.reached));
+        owed = λ _. (h.goes.behind.0, h.goes.behind.1 ∙ ap (λ (m : List Raw). h.goes.behind.0 ++ m) (sym before));
+        requests = gives_to h.goes.reached h.goes.used h.goes.behind h.goes.gives h.goes.drawn;
+        replies = replied_then_part setup past h.goes.reached x.took y.took z.took run.replied h.goes.replies;
+        replied = λ _. subst (λ (m : List Raw). RepliedAtLeast setup m x.took z.took) (sym before) (at_least setup past h.goes.reached x.took y.took z.took run.replied h.goes.replies);
       })
 
-  stays_short : (e : Error) → IsCutShort {T = HowEnded} (Err e) → Stays setup run.pieces left_now left_new y z b c → Serves setup told (Err e) left_new readings x z a c
+  stays_short : (e : Error) → IsCutShort {T = HowEnded} (Err e) → Stays y z → Serves setup told (Err e) x z
   stays_short e is h =
-      let g = here h in
       let front = handled_front setup told n took_now.within goes_on_front in
       let owed = accepted_front setup told (n - 1) n (omega arith) in
-      cut_short e n is (omega (arith, few)) (stays_took h)
-      (record {
-        reached = past;
-        ahead = (front.0, front.1 ∙ ap (λ (m : List Raw). front.0 ++ m) accepted_is);
-        requests = gives_to past g.gives;
-        replies = all_in_part setup past a c (replies_to past g.replies);
-      })
+      let behind : past ≡ owed.0 ++ accepted setup (stream (take (n - 1) told)) = sym accepted_is ∙ owed.1 in
+      cut_by e n is (omega (arith, few)) (stays_took h)
       (record {
         k = n;
         took = stays_took h;
-        replies = λ _. at_least_front setup (accepted setup (stream (take (n - 1) told))) past a c owed.0 (sym accepted_is ∙ owed.1) (replies_to past g.replies);
+        reached = past;
+        ahead = (front.0, front.1 ∙ ap (λ (m : List Raw). front.0 ++ m) accepted_is);
+        owed = λ _. (owed.0, behind);
+        requests = hands_here h;
+        replies = all_in_part setup past x.took z.took (replied_here h);
+        replied = λ _. at_least_front setup (accepted setup (stream (take (n - 1) told))) past x.took z.took owed.0 behind (replied_here h);
       })
 
   -- ---- by the error
 
-  refused : (e : Error) (refusal : Option Cause) → IsDecided {T = HowEnded} (Err e) → ((a : Answer) → IsRefused refusal a → AnswersAs a (Err e)) → ClosesRefused setup run.pieces refusal left_now left_new y z b c → Serves setup told (Err e) left_new readings x z a c
-  refused e None d answers h = absurd h
-  refused e (Some r) d answers h = closed (Err e) (Refused r) d tt (answers (Refused r) refl) h tt
+  refused : (e : Error) (refusal : Option Cause) → IsDecided {T = HowEnded} (Err e) → IsNoEnd (Err e) → ((a : Answer) → IsRefused refusal a → AnswersAs a (Err e)) → ClosesRefused setup run.pieces run.times refusal y z → Serves setup told (Err e) x z
+  refused e None d no_end answers h = absurd h
+  refused e (Some r) d no_end answers h = closed (Err e) (Refused r) d no_end tt (answers (Refused r) refl) h tt
 
-  pub fails : (e : Error) (t : Session) → Turns setup run.pieces (Err e) t left_now left_new y z b c → Serves setup told (Err e) left_new readings x z a c
-  fails error.UnexpectedEof t h = found (Err error.UnexpectedEof) UnexpectedEof tt refl h tt
-  fails error.PieceLimit t h = closed (Err error.PieceLimit) PieceLimit tt tt refl h tt
-  fails error.HandleLimit t h = closed (Err error.HandleLimit) HandleLimit tt tt refl h tt
+  pub fails : (e : Error) (t : Session) → Turns setup run.pieces run.times (Err e) t y z → Serves setup told (Err e) x z
+  fails error.UnexpectedEof t h = found (Err error.UnexpectedEof) UnexpectedEof tt tt refl h tt
+  fails error.PieceLimit t h = closed (Err error.PieceLimit) PieceLimit tt tt tt refl h tt
+  fails error.HandleLimit t h = closed (Err error.HandleLimit) HandleLimit tt tt tt refl h tt
+  fails error.IdsExhausted t h = closed (Err error.IdsExhausted) IdsExhausted tt tt tt refl h tt
   fails error.ReadFault t h = read_fault h
   fails error.WriteFault t h = breaks_off error.WriteFault tt h
   fails error.NoMemory t (inl h) = stays_short error.NoMemory tt h
   fails error.NoMemory t (inr h) = breaks_off error.NoMemory tt h
-  fails e t h = refused e (refusal_of e) tt (λ a r. r) h
+  fails e t h = refused e (refusal_of e) tt tt (λ a r. r) h
 
-  pub failed : (t : Session) (e : Error) (r : Result HowEnded Error) → r ≡ Err e → Turns setup run.pieces (Err e) t left_now left_new y z b c → Serves setup told r left_new readings x z a c
-  failed t e r same h = subst (λ (q : Result HowEnded Error). Serves setup told q left_new readings x z a c) (sym same) (fails e t h)
+  pub failed : (t : Session) (e : Error) (r : Result HowEnded Error) → r ≡ Err e → Turns setup run.pieces run.times (Err e) t y z → Serves setup told r x z
+  failed t e r same h = subst (λ (q : Result HowEnded Error). Serves setup told q x z) (sym same) (fails e t h)
+
+-- ---- a good end that is sure
+
+-- an error that is a good end is none of the pieces
+no_good : (a : Answer) (e : Error) (refusal : Option Cause) → IsGood a → IsRefused refusal a → ⊥
+no_good a e None g h = h
+no_good a e (Some r) g h = subst IsGood h g
+
+sure_by : (a : Answer) (e : Error) → IsGood a → AnswersAs a (Err e) → (e ≡ error.ReadFault → ⊥) → (e ≡ error.WriteFault → ⊥) → e ≡ error.NoMemory
+sure_by a error.NoMemory g h r w = refl
+sure_by a error.ReadFault g h r w = absurd (r refl)
+sure_by a error.WriteFault g h r w = absurd (w refl)
+sure_by a error.UnexpectedEof g h r w = absurd (subst IsGood h g)
+sure_by a error.PieceLimit g h r w = absurd (subst IsGood h g)
+sure_by a error.HandleLimit g h r w = absurd (subst IsGood h g)
+sure_by a error.IdsExhausted g h r w = absurd (subst IsGood h g)
+sure_by a e g h r w = absurd (no_good a e (refusal_of e) g h)
+
+-- over complete pieces, and an outside without faults, an error is want of memory
+pub sure : (setup : Setup) (told : List Piece) (e : Error) (r : Result HowEnded Error) (x z : Around) → r ≡ Err e → AreComplete setup told → Serves setup told r x z → (e ≡ error.ReadFault → ⊥) → (e ≡ error.WriteFault → ⊥) → IfErr r (λ q. q ≡ error.NoMemory)
+sure setup told e r x z same c serves rf wf =
+    subst (λ (q : Result HowEnded Error). IfErr q (λ q. q ≡ error.NoMemory)) (sym same)
+    (sure_by (session setup told).answer e (complete_ends setup told c).good (subst (λ (q : Result HowEnded Error). AnswersAs (session setup told).answer q) same serves.answer) rf wf)
 
 -- an error of the source's end is that of the turn
 no_end_by : (e : Error) → IsSourceEnd (Err e) → IsAtEnd (Err e)
@@ -405,8 +549,8 @@ unfolding is_over_by
 over_limit setup pieces k lt = rw (lt-ltb setup.pieces k lt) refl
 
 -- no session goes on after more turns than pieces may be taken
-pub too_many_turns : (setup : Setup) (n : ℕ) (s : Session) (left left_now : Option (List Piece)) (x y : List EisRequest) (a b : Option Piece) → Running setup n s left left_now x y a b → setup.pieces < n → ⊥
-too_many_turns setup n s left left_now x y a b r lt =
+pub too_many_turns : (setup : Setup) (n : ℕ) (s : Session) (x y : Around) → Running setup n s x y → setup.pieces < n → ⊥
+too_many_turns setup n s x y r lt =
     let g : true ≡ false = sym (over_limit setup r.pieces n lt) ∙ r.stands.goes_on n (omega (arith, lt)) (omega (arith, r.count)) in
     absurd cc
 
@@ -418,18 +562,19 @@ start_only e h = absurd h
 pub start_is_of_session : (e : Error) (r : Result HowEnded Error) → r ≡ Err e → RefusesToStart e → IfErr r IsOfSession
 start_is_of_session e r same h = rw same (start_only e h)
 
-closed_so : (setup : Setup) (pieces : List Piece) (refusal : Option Cause) (left left_new : Option (List Piece)) (x y : List EisRequest) (a b : Option Piece) → ClosesRefused setup pieces refusal left left_new x y a b → IsSome refusal
-closed_so setup pieces None left left_new x y a b h = absurd h
-closed_so setup pieces (Some r) left left_new x y a b h = refl
+closed_so : (setup : Setup) (pieces : List Piece) (times : List ℕ) (refusal : Option Cause) (x y : Around) → ClosesRefused setup pieces times refusal x y → IsSome refusal
+closed_so setup pieces times None x y h = absurd h
+closed_so setup pieces times (Some r) x y h = refl
 
-turn_only : (setup : Setup) (pieces : List Piece) (e : Error) (t : Session) (left left_new : Option (List Piece)) (x y : List EisRequest) (a b : Option Piece) → Turns setup pieces (Err e) t left left_new x y a b → IsOfSession e
-turn_only setup pieces error.UnexpectedEof t left left_new x y a b h = tt
-turn_only setup pieces error.PieceLimit t left left_new x y a b h = tt
-turn_only setup pieces error.HandleLimit t left left_new x y a b h = tt
-turn_only setup pieces error.ReadFault t left left_new x y a b h = tt
-turn_only setup pieces error.WriteFault t left left_new x y a b h = tt
-turn_only setup pieces error.NoMemory t left left_new x y a b h = tt
-turn_only setup pieces e t left left_new x y a b h = closed_so setup pieces (refusal_of e) left left_new x y a b h
+turn_only : (setup : Setup) (pieces : List Piece) (times : List ℕ) (e : Error) (t : Session) (x y : Around) → Turns setup pieces times (Err e) t x y → IsOfSession e
+turn_only setup pieces times error.UnexpectedEof t x y h = tt
+turn_only setup pieces times error.PieceLimit t x y h = tt
+turn_only setup pieces times error.HandleLimit t x y h = tt
+turn_only setup pieces times error.IdsExhausted t x y h = tt
+turn_only setup pieces times error.ReadFault t x y h = tt
+turn_only setup pieces times error.WriteFault t x y h = tt
+turn_only setup pieces times error.NoMemory t x y h = tt
+turn_only setup pieces times e t x y h = closed_so setup pieces times (refusal_of e) x y h
 
-pub turn_is_of_session : (setup : Setup) (pieces : List Piece) (e : Error) (r : Result HowEnded Error) (t : Session) (left left_new : Option (List Piece)) (x y : List EisRequest) (a b : Option Piece) → r ≡ Err e → Turns setup pieces (Err e) t left left_new x y a b → IfErr r IsOfSession
-turn_is_of_session setup pieces e r t left left_new x y a b same h = rw same (turn_only setup pieces e t left left_new x y a b h)
+pub turn_is_of_session : (setup : Setup) (pieces : List Piece) (times : List ℕ) (e : Error) (r : Result HowEnded Error) (t : Session) (x y : Around) → r ≡ Err e → Turns setup pieces times (Err e) t x y → IfErr r IsOfSession
+turn_is_of_session setup pieces times e r t x y same h = rw same (turn_only setup pieces times e t x y h)

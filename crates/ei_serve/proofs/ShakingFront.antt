@@ -33,13 +33,12 @@ use Rattle.ei_session.specs.Meaning as rows
 use Rattle.ei_session.specs.ByMeaning.{tells_name, tells_context, shake_refusal}
 use Rattle.ei_session.specs.Objects.{object}
 use Rattle.ei_session.specs.Touches.{input}
+use Rattle.ei_session.specs.Devices.{is_past, next_id, exhausts}
 use Rattle.ei_session.specs.Refusals.{Refusal, Parse, Handshake, Arguments, arguments, no_row, stuck, announced_id, bad_id, left_over, came, verdict, refusal}
-use Rattle.ei_session.specs.Refusals.{bad_handshake, bad_sync, bad_capabilities, bad_touch, bad_text}
-use Rattle.ei_session.specs.Guard.{judge}
+use Rattle.ei_session.specs.Refusals.{bad_handshake, bad_sync, bad_capabilities, bad_touch, bad_text, is_disconnect, judge}
 use Rattle.ei_session.proofs.AskedMeans.{name_asked, context_asked}
 use Rattle.ei_session.proofs.BeforeTheFinish.{came_more}
-use Rattle.ei_session.proofs.FirstObjects.{the_handshake, object_first}
-use Rattle.ei_session.proofs.GuardLaws.{by_refusal}
+use Rattle.ei_session.proofs.FirstObjects.{the_handshake, object_first, shut_makes_nothing}
 use Rattle.ei_session.proofs.RefusalLaws.{refused_known, refused_early}
 use Rattle.ei_session.proofs.RefusedMeans.{refusal_asked}
 use Rattle.ei_session.proofs.RowsMean.{asks_means}
@@ -49,6 +48,24 @@ use Rattle.ei_serve.specs.Steps.{RefusesFront}
 use Rattle.ei_serve.proofs.Endpoints.{Memory, quiet_with}
 use Rattle.ei_serve.proofs.Standing.{found_first}
 use Rattle.ei_serve.proofs.Taking.{IsPlain, plain_rows}
+
+-- ---- before the connection no message is the last
+
+off_end : (past : List Raw) (m : Raw) → connected past ≡ false → is_disconnect past m ≡ false
+unfolding is_disconnect
+off_end past m off = rw off refl
+
+off_ids : (past : List Raw) (m : Raw) → connected past ≡ false → exhausts past m ≡ false
+unfolding exhausts
+off_ids past m off = ap (is_past (next_id past)) (shut_makes_nothing past m off)
+
+goes_on : (past : List Raw) (m : Raw) → connected past ≡ false → (is_disconnect past m || exhausts past m) ≡ false
+goes_on past m off = rw (off_end past m off, off_ids past m off) refl
+
+-- it is refused, or accepted
+pub by_refusal : (setup : Setup) (past : List Raw) (m : Raw) (o : Option Refusal) → connected past ≡ false → refusal setup past m ≡ o → judge setup past m ≡ verdict o false
+unfolding judge
+by_refusal setup past m o off r = ap (verdict (refusal setup past m)) (goes_on past m off) ∙ ap (λ (x : Option Refusal). verdict x false) r
 
 -- ---- object 0 alone is in the table
 

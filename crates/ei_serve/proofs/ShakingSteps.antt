@@ -1,5 +1,5 @@
 -- What becomes of the message at the front during the handshake.
-use Rattle.std.proofs.Common.{◌≡◌, ◌==◌, ◌≤◌, ℕ, Bool, true, false, cond, ◌||◌, List, [], ◌∷◌, ◌++◌, Option, Some, None, Result, Ok, Err, refl, sym, ap, ◌∙◌, subst}
+use Rattle.std.proofs.Common.{◌≡◌, ◌==◌, ◌≤◌, ℕ, Bool, true, false, ◌||◌, List, [], ◌∷◌, ◌++◌, Option, Some, None, Result, Ok, Err, refl, sym, ap, ◌∙◌, subst}
 use Rattle.std.proofs.Common.{arith}
 use Rattle.std.specs.Prelude.{is_some, codes}
 use Rattle.ei_spec.specs.declared.handle.Handle.{Handle}
@@ -27,25 +27,24 @@ use Rattle.ei_server.specs.declared.handshake.Request.TheVariants as asked
 use Rattle.ei_server.specs.Handshake as handshake
 use Rattle.ei_server.specs.Request.{target_of, code_of, values_of}
 use Rattle.ei_session.specs.Setup.{Setup, connection_id}
-use Rattle.ei_session.specs.Handshake.{Announced, announced, connected, is_finish, settled, all_settled}
+use Rattle.ei_session.specs.Handshake.{connected, is_finish, settled, all_settled}
 use Rattle.ei_session.specs.SettledMap.{settled_map}
-use Rattle.ei_session.specs.Refusals.{Refusal, Handshake, came}
+use Rattle.ei_session.specs.Refusals.{Refusal, Handshake, came, judge}
 use Rattle.ei_session.specs.ByMeaning.{shake_refusal}
 use Rattle.ei_session.specs.Replies.{connection_event, settled_events}
-use Rattle.ei_session.specs.Guard.{judge}
 use Rattle.ei_session.proofs.OneMore.{connected_more}
 use Rattle.ei_session.proofs.SettledMapLaws.{other_map}
-use Rattle.ei_handshake.specs.Handshaker.{Handles, HandshakerView, IsSecond, RefusesFinish, RefusesTold, Completes, told, is_repeated, with_version, has_required, hands_over, kept_events, sends}
+use Rattle.ei_handshake.specs.Handshaker.{Handles, HandshakerView, IsSecond, RefusesFinish, RefusesTold, told, is_repeated, with_version, has_required, hands_over, kept_events, sends}
 use Rattle.ei_handshake.specs.Versions.{VersionMap}
 use Rattle.ei_handshake.specs.Pending.{ResultOf}
 use Rattle.ei_handshake.specs.declared.server.EisHandshakeResp.{EisHandshakeResp}
 use Rattle.ei_handshake.proofs.Sending.{sends-append}
 use Rattle.ei_handshake.proofs.SettledLaws.{announced_kept, required_kept, events_kept}
 use Rattle.ei_serve.specs.declared.shaking.Shaken.{Shaken}
-use Rattle.ei_serve.specs.Asking.{AllKnown, SaysOfFront, SaysWhy}
+use Rattle.ei_serve.specs.Asking.{SaysOfFront, SaysWhy}
 use Rattle.ei_serve.specs.Standing.{ShakesHands, connection_table, handshake_table, most_capacity, quiet}
-use Rattle.ei_serve.specs.Steps.{HandsOver, Refuses, RefusesFront, Shakes, with_unsent}
-use Rattle.ei_serve.proofs.Asked.{says_of_front}
+use Rattle.ei_serve.specs.Steps.{HandsOver, Refuses, RefusesFront, Shakes}
+use Rattle.ei_serve.proofs.ShakingAsked.{says_of_front}
 use Rattle.ei_serve.proofs.Endpoints.{Memory, memory_of, quiet_with, backend_is}
 use Rattle.ei_serve.proofs.ShakingFront.{Front, all_known, announced_none, announced_this, context_came, finishes, front_of, gone_refused, judged, name_came, only_shaking, shake_of}
 use Rattle.ei_serve.proofs.ShakingFront.{unread_refused}
@@ -157,6 +156,7 @@ module _ (setup : Setup) (past : List Raw) (rest : List ℕ) (handles : List Han
   shakes_on : (a : Asked) (f : Front rest handles (memory_of first) a b) → (handshake.code_of a == 1) ≡ false → ShakesHands setup (f.m ∷ past) f.after handles b (told h a)
   shakes_on a f other = record {
     unfinished = connected_more past f.m ∙ ap (λ (x : Bool). x || connected past) (finishes a f ∙ other) ∙ s.unfinished;
+    lawful = s.lawful;
     in_range = s.in_range;
     ring = subst (λ (x : BackendView). x.capacity ≤ most_capacity) (sym f.new_is) s.ring;
     endpoint = ap endpoint_of f.new_is;
@@ -236,7 +236,9 @@ module _ (setup : Setup) (past : List Raw) (rest : List ℕ) (handles : List Han
         finishes asked.Finish front_here,
         record {
           connection = d.connection ∙ ap (λ (x : BackendView). own x.table (Known known.Connection) 1) front_here.new_is;
+          name = ap is_some d.name ∙ s.name;
           versions = d.versions ∙ s.versions;
+          lawful = s.lawful;
           in_range = s.in_range;
           ring = subst (λ (n : ℕ). n ≤ most_capacity) (sym (same ∙ ap (λ (x : BackendView). x.capacity) front_here.new_is)) s.ring;
           endpoint = d.events ∙ ap endpoint_of (sent_is front_here.after (memory_of first) proxy.id front_here.new_is f.0);

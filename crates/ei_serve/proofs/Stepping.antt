@@ -1,75 +1,78 @@
 -- One message, in either phase.
-use Rattle.std.proofs.Common.{◌≡◌, ℕ, Bool, true, false, List, [], ◌∷◌, ◌++◌, Option, Some, None, Result, Ok, Err, refl, ap, sym, ◌∙◌}
+use Rattle.std.proofs.Common.{◌≡◌, ℕ, Bool, true, false, List, [], ◌∷◌, ◌++◌, Option, None, Result, Err, refl, ap, ◌∙◌, arith}
 use Rattle.std.proofs.lemmas.List.{append-nil}
 use Rattle.ei_spec.specs.declared.handle.Handle.{Handle}
 use Rattle.ei_spec.specs.Piece.{Piece}
 use Rattle.ei_spec.specs.Message.{Raw, Whole, front}
-use Rattle.ei_spec.specs.Stream.{Accepted, Final, Refused}
-use Rattle.ei_spec.specs.Groups.{Given, Plain, Free}
+use Rattle.ei_spec.specs.Stream.{Reading, Accepted}
 use Rattle.ei_spec.proofs.GoesOn.{read_accepted}
 use Rattle.ei_session.specs.Setup.{Setup}
 use Rattle.ei_session.specs.Handshake.{connected, is_finish, is_the_finish}
-use Rattle.ei_session.specs.Requests.{Request, Disconnect, item, framed}
+use Rattle.ei_session.specs.Requests.{Request as Asked, item, framed}
 use Rattle.ei_session.specs.Replies.{finish_events}
 use Rattle.ei_session.specs.Events.{reply, replies}
-use Rattle.ei_session.specs.Guard.{judge}
+use Rattle.ei_session.specs.Refusals.{Refusal, judge}
 use Rattle.ei_session.proofs.AllParts.{framed_more, replies_more}
 use Rattle.ei_session.proofs.BeforeTheFinish.{early_item, early_reply}
-use Rattle.ei_session.proofs.GivenByItem.{gives_free, gives_none}
+use Rattle.ei_session.proofs.GivenByItem.{gives_none, frames_none}
 use Rattle.ei_session.proofs.ReplyLaws.{reply_finish}
 use Rattle.ei_request.specs.declared.event.EisRequest.{EisRequest}
-use Rattle.ei_request.specs.declared.event.EisRequest.TheVariants as asked
 use Rattle.ei_types.specs.declared.error.Error.{Error}
 use Rattle.ei_types.specs.declared.error.Error.TheVariants as error
 use Rattle.ei_serve.specs.declared.phase.Phase.{Phase}
 use Rattle.ei_serve.specs.declared.phase.Step.{Step}
+use Rattle.ei_serve.specs.Around.{Around, around}
 use Rattle.ei_serve.specs.Steps.{Refuses, RefusesStep, IsTold, IsToldInPart, Goes, Breaks, TellsFinish, TellsFinishInPart, IsCutOff, ConnectsPhase, Steps}
 use Rattle.ei_serve.proofs.Going.{goes_none, gives_none as gave_none, replies_none, breaks_here, extends}
 
-pub refused_step : (setup : Setup) (past : List Raw) (rest : List ℕ) (e : Error) (out : List EisRequest) (took : Option Piece) → Refuses setup past rest e → RefusesStep setup past rest e out out took took
-refused_step setup past rest error.WriteFault out took h = absurd h
-refused_step setup past rest error.NoMemory out took h = breaks_here setup past rest out took
-refused_step setup past rest e out took h = (h, goes_none setup past out took)
+pub refused_step : (setup : Setup) (past : List Raw) (times rest : List ℕ) (e : Error) (x : Around) → Refuses setup past rest e → RefusesStep setup past times rest e x x
+refused_step setup past times rest error.WriteFault x h = absurd h
+refused_step setup past times rest error.IdsExhausted x h = absurd h
+refused_step setup past times rest error.NoMemory x h = breaks_here setup past times rest x
+refused_step setup past times rest e x h = (h, goes_none setup past times x)
 
 -- ---- what a message gives
 
 framed_quiet : (setup : Setup) (readings : List ℕ) (past : List Raw) (m : Raw) → item past m ≡ None → framed setup readings (m ∷ past) ≡ framed setup readings past
 framed_quiet setup readings past m i =
     framed_more setup readings past m
-    ∙ ap (λ (x : List Request). framed setup readings past ++ x) (gives_none setup readings past m i)
+    ∙ ap (λ (x : List Asked). framed setup readings past ++ x) (gives_none setup readings past m i)
     ∙ append-nil (framed setup readings past)
 
-framed_last : (setup : Setup) (readings : List ℕ) (past : List Raw) (m : Raw) → item past m ≡ Some (Free Disconnect) → framed setup readings (m ∷ past) ≡ framed setup readings past ++ (Plain Disconnect ∷ [])
-framed_last setup readings past m i =
-    framed_more setup readings past m ∙ ap (λ (x : List Request). framed setup readings past ++ x) (gives_free setup readings past m Disconnect i)
-
-replied : (setup : Setup) (past : List Raw) (m : Raw) (events : List Raw) → reply setup past m ≡ events → replies setup (m ∷ past) ≡ replies setup past ++ events
+pub replied : (setup : Setup) (past : List Raw) (m : Raw) (events : List Raw) → reply setup past m ≡ events → replies setup (m ∷ past) ≡ replies setup past ++ events
 replied setup past m events e = replies_more setup past m ∙ ap (λ (x : List Raw). replies setup past ++ x) e
 
--- a message that gives nothing, and whose answer was told
-pub goes_told : (setup : Setup) (past : List Raw) (m : Raw) (events : List Raw) (out : List EisRequest) (old new : Option Piece) → item past m ≡ None → reply setup past m ≡ events → IsTold events old new → Goes setup past (m ∷ past) out out old new
-goes_told setup past m events out old new i r told = record {
-  gives = gave_none setup past (m ∷ past) out (λ readings. framed_quiet setup readings past m i);
-  replies = λ held h. (events, replied setup past m events r, told held h);
-}
+module _ (setup : Setup) (past : List Raw) (m : Raw) (events : List Raw) (times : List ℕ) (out : List EisRequest) (readings : Option (List ℕ)) (old new : Option Piece) (i : item past m ≡ None) (r : reply setup past m ≡ events) where
+  -- a message that gives nothing, and whose answer was told
+  pub goes_told : IsTold events old new → Goes setup past (m ∷ past) times [] (around None out old readings) (around None out new readings)
+  goes_told told = record {
+    behind = (m ∷ [], refl);
+    gives = gave_none setup past (m ∷ past) times out (λ given. framed_quiet setup given past m i);
+    replies = λ held h. (events, replied setup past m events r, told held h);
+    drawn = λ told is. refl;
+    leaves = λ told is. is;
+    frames = omega (arith, frames_none setup past m i);
+  }
 
--- or only in part
-pub breaks_told : (setup : Setup) (past : List Raw) (rest : List ℕ) (m : Raw) (after : List ℕ) (events : List Raw) (out : List EisRequest) (old new : Option Piece) → front rest ≡ Whole m after → judge setup past m ≡ Accepted → item past m ≡ None → reply setup past m ≡ events → IsToldInPart events old new → Breaks setup past rest out out old new
-breaks_told setup past rest m after events out old new w j i r told =
-    let on = extends (judge setup) (m ∷ past) after in
-    record {
-      reached = m ∷ past;
-      behind = (m ∷ [], refl);
-      ahead = (on.0, ap (λ u. u.past) (read_accepted (judge setup) past rest m after w j) ∙ on.1);
-      gives = gave_none setup past (m ∷ past) out (λ readings. framed_quiet setup readings past m i);
-      replies = λ held h. let t = told held h in (events, t.0, replied setup past m events r, t.1);
-    }
+  -- or only in part
+  pub breaks_told : (rest after : List ℕ) → front rest ≡ Whole m after → judge setup past m ≡ Accepted → IsToldInPart events old new → Breaks setup past times rest (around None out old readings) (around None out new readings)
+  breaks_told rest after w j told =
+      let on = extends (judge setup) (m ∷ past) after in
+      record {
+        reached = m ∷ past;
+        used = [];
+        behind = (m ∷ [], refl);
+        ahead = (on.0, ap (λ (u : Reading Refusal). u.past) (read_accepted (judge setup) past rest m after w j) ∙ on.1);
+        gives = gave_none setup past (m ∷ past) times out (λ given. framed_quiet setup given past m i);
+        replies = λ held h. let t = told held h in (events, t.0, replied setup past m events r, t.1);
+        drawn = λ told is. refl;
+      }
 
--- the sink was cut off while it was told
-pub cut_off : (setup : Setup) (past : List Raw) (rest : List ℕ) (m : Raw) (after : List ℕ) (events : List Raw) (e : Error) (out : List EisRequest) (old new : Option Piece) → front rest ≡ Whole m after → judge setup past m ≡ Accepted → item past m ≡ None → reply setup past m ≡ events → IsCutOff e → IsToldInPart events old new → RefusesStep setup past rest e out out old new
-cut_off setup past rest m after events error.WriteFault out old new w j i r c told = breaks_told setup past rest m after events out old new w j i r told
-cut_off setup past rest m after events error.NoMemory out old new w j i r c told = breaks_told setup past rest m after events out old new w j i r told
-cut_off setup past rest m after events e out old new w j i r c told = absurd c
+  -- the sink was cut off while it was told
+  pub cut_off : (rest after : List ℕ) (e : Error) → front rest ≡ Whole m after → judge setup past m ≡ Accepted → IsCutOff e → IsToldInPart events old new → RefusesStep setup past times rest e (around None out old readings) (around None out new readings)
+  cut_off rest after error.WriteFault w j c told = breaks_told rest after w j told
+  cut_off rest after error.NoMemory w j c told = breaks_told rest after w j told
+  cut_off rest after e w j c told = absurd c
 
 -- ---- during the handshake
 
@@ -79,35 +82,31 @@ finish_is past m true e f = rw (e, f) refl
 finish_is past m false e f = rw (e, f) refl
 
 -- all but the finish is answered by nothing
-pub goes_quiet : (setup : Setup) (past : List Raw) (m : Raw) (out : List EisRequest) (took : Option Piece) → connected past ≡ false → is_finish m ≡ false → Goes setup past (m ∷ past) out out took took
-goes_quiet setup past m out took e f = record {
-  gives = gave_none setup past (m ∷ past) out (λ readings. framed_quiet setup readings past m (early_item past m e));
-  replies = replies_none setup past (m ∷ past) took (replied setup past m [] (early_reply past m e setup (finish_is past m false e f)) ∙ append-nil (replies setup past));
+pub goes_quiet : (setup : Setup) (past : List Raw) (m : Raw) (times : List ℕ) (x : Around) → connected past ≡ false → is_finish m ≡ false → Goes setup past (m ∷ past) times [] x x
+goes_quiet setup past m times x e f = record {
+  behind = (m ∷ [], refl);
+  gives = gave_none setup past (m ∷ past) times x.out (λ given. framed_quiet setup given past m (early_item past m e));
+  replies = replies_none setup past (m ∷ past) x.took (replied setup past m [] (early_reply past m e setup (finish_is past m false e f)) ∙ append-nil (replies setup past));
+  drawn = λ told is. refl;
+  leaves = λ told is. is;
+  frames = omega (arith, frames_none setup past m (early_item past m e));
 }
 
 finish_reply : (setup : Setup) (past : List Raw) (m : Raw) → connected past ≡ false → is_finish m ≡ true → reply setup past m ≡ finish_events setup past
 finish_reply setup past m e f = reply_finish setup past m (finish_is past m true e f)
 
 -- the finish is answered by its events
-pub goes_finish : (setup : Setup) (past : List Raw) (m : Raw) (out : List EisRequest) (old new : Option Piece) → connected past ≡ false → is_finish m ≡ true → TellsFinish setup past old new → Goes setup past (m ∷ past) out out old new
-goes_finish setup past m out old new e f told = goes_told setup past m (finish_events setup past) out old new (early_item past m e) (finish_reply setup past m e f) told
-
--- ---- after it
-
--- a disconnect is handed out
-pub goes_last : (setup : Setup) (past : List Raw) (m : Raw) (old new : List EisRequest) (took : Option Piece) → item past m ≡ Some (Free Disconnect) → reply setup past m ≡ [] → new ≡ old ++ asked.Disconnect ∷ [] → Goes setup past (m ∷ past) old new took took
-goes_last setup past m old new took i r e = record {
-  gives = (asked.Disconnect ∷ [], e, λ readings. framed_last setup readings past m i);
-  replies = replies_none setup past (m ∷ past) took (replied setup past m [] r ∙ append-nil (replies setup past));
-}
+pub goes_finish : (setup : Setup) (past : List Raw) (m : Raw) (times : List ℕ) (out : List EisRequest) (readings : Option (List ℕ)) (old new : Option Piece) → connected past ≡ false → is_finish m ≡ true → TellsFinish setup past old new → Goes setup past (m ∷ past) times [] (around None out old readings) (around None out new readings)
+goes_finish setup past m times out readings old new e f told = goes_told setup past m (finish_events setup past) times out readings old new (early_item past m e) (finish_reply setup past m e f) told
 
 -- ---- the answers of a step
 
-pub steps_refused : (setup : Setup) (past : List Raw) (rest : List ℕ) (handles : List Handle) (r : Result Step Error) (p : Phase) (e : Error) (out : List EisRequest) (took : Option Piece) → r ≡ Err e → Refuses setup past rest e → Steps setup past rest handles r p out out took took
-steps_refused setup past rest handles r p e out took same h = rw same (refused_step setup past rest e out took h)
+pub steps_refused : (setup : Setup) (past : List Raw) (times rest : List ℕ) (handles : List Handle) (r : Result Step Error) (p : Phase) (e : Error) (x : Around) → r ≡ Err e → Refuses setup past rest e → Steps setup past times rest handles r p x x
+steps_refused setup past times rest handles r p e x same h = rw same (refused_step setup past times rest e x h)
 
-pub steps_cut_off : (setup : Setup) (past : List Raw) (rest : List ℕ) (handles : List Handle) (r : Result Step Error) (p : Phase) (m : Raw) (after : List ℕ) (e : Error) (out : List EisRequest) (old new : Option Piece) → r ≡ Err e → connected past ≡ false → front rest ≡ Whole m after → judge setup past m ≡ Accepted → is_finish m ≡ true → IsCutOff e × TellsFinishInPart setup past old new → Steps setup past rest handles r p out out old new
-steps_cut_off setup past rest handles r p m after e out old new same u w j f c = rw same (cut_off setup past rest m after (finish_events setup past) e out old new w j (early_item past m u) (finish_reply setup past m u f) c.0 c.1)
+pub steps_cut_off : (setup : Setup) (past : List Raw) (times rest : List ℕ) (handles : List Handle) (r : Result Step Error) (p : Phase) (m : Raw) (after : List ℕ) (e : Error) (out : List EisRequest) (readings : Option (List ℕ)) (old new : Option Piece) → r ≡ Err e → connected past ≡ false → front rest ≡ Whole m after → judge setup past m ≡ Accepted → is_finish m ≡ true → IsCutOff e × TellsFinishInPart setup past old new → Steps setup past times rest handles r p (around None out old readings) (around None out new readings)
+steps_cut_off setup past times rest handles r p m after e out readings old new same u w j f c =
+    rw same (cut_off setup past m (finish_events setup past) times out readings old new (early_item past m u) (finish_reply setup past m u f) rest after e w j c.0 c.1)
 
 pub connect_cut_off : (setup : Setup) (before : List Raw) (finish : Raw) (after : List ℕ) (handles : List Handle) (r : Result Unit Error) (p : Phase) (e : Error) (old new : Option Piece) → r ≡ Err e → IsCutOff e × TellsFinishInPart setup before old new → ConnectsPhase setup before finish after handles r p old new
 connect_cut_off setup before finish after handles r p e old new same h = rw same h

@@ -1,5 +1,6 @@
 -- The message at the front of what a server has not read, as asking for it tells it.
 use Rattle.std.specs.Prelude.{◌≡◌, ◌⊎◌, ◌==◌, ℕ, Bool, true, false, List, [], ◌∷◌, Option, Some, None}
+use Rattle.ei_spec.specs.declared.handle.Handle.{Handle}
 use Rattle.ei_spec.specs.declared.interface.KnownInterface.{KnownInterface}
 use Rattle.ei_spec.specs.declared.interface.KnownInterface.TheVariants as known
 use Rattle.ei_spec.specs.Value.{Value}
@@ -8,19 +9,20 @@ use Rattle.ei_spec.specs.Rows.{Row, row_at}
 use Rattle.ei_spec.specs.Table.{table}
 use Rattle.ei_spec.specs.Interface.{Known, ObjectView}
 use Rattle.ei_spec.specs.Message.{Raw, Short, Unlawful, Whole, front}
-use Rattle.ei_backend.specs.Table.{TableView, found}
+use Rattle.ei_backend.specs.Table.{TableView, Announced, found}
 use Rattle.ei_backend.specs.Backend.{BackendView}
 use Rattle.ei_backend.specs.declared.message.PendingRequestResult.{PendingRequestResult}
 use Rattle.ei_backend.specs.declared.message.PendingRequestResult.TheVariants as pending
 use Rattle.ei_wire.specs.Gives.{fault_of}
-use Rattle.ei_wire.specs.declared.error.ParseError.{ParseError}
-use Rattle.ei_wire.specs.declared.error.ParseError.TheVariants as parse_error
-use Rattle.ei_types.specs.declared.error.Error.{Error}
-use Rattle.ei_types.specs.declared.error.Error.TheVariants as error
 use Rattle.ei_server.specs.declared.request.Request.{Request}
-use Rattle.ei_server.specs.Request.{target_of, code_of, values_of}
+use Rattle.ei_server.specs.Request.{target_of, code_of, values_of, announced_of}
+use Rattle.ei_session.specs.Setup.{Setup}
 use Rattle.ei_session.specs.Arguments.{request_args}
 use Rattle.ei_session.specs.Asked.{first}
+use Rattle.ei_session.specs.Objects.{Entry, object}
+use Rattle.ei_request.specs.Converter.{ConverterView}
+use Rattle.ei_standing.specs.Standing.{object_of, with_table}
+use Rattle.ei_serve.specs.Standing.{IsConnected}
 use Rattle.ei_session.specs.Refusals.{Refusal, Parse, Arguments, arguments, no_row, stuck, left_over}
 
 -- each object of the table is of a known interface
@@ -85,12 +87,21 @@ SaysOfFront b (Some (pending.Request r)) new = Takes b (target_of r) (code_of r)
 SaysOfFront b (Some (pending.ParseError e)) new = SaysWhy b (fault_of e)
 SaysOfFront b (Some (pending.InvalidObject id)) new = IsGone b id new
 
--- the length of a header, where that is what is wrong
-abbrev pub header_length_of : ParseError → Option ℕ
-header_length_of (parse_error.HeaderLength n) = Some n
-header_length_of e = None
+-- ---- on a connection
 
--- why a message to the connection or its seat that can't be read is refused
-abbrev pub unreadable_as : ParseError → Error
-unreadable_as (parse_error.HeaderLength n) = error.Parse (parse_error.HeaderLength n)
-unreadable_as e = error.NotBuilt
+-- A request stands at the front: it is this message, to an object that is there. It was taken out of a converter that
+-- stands for the messages before it, and the table has the object that it announces.
+pub record IsAsked (setup : Setup) (past : List Raw) (times rest : List ℕ) (handles : List Handle) (r : Request) (c : ConverterView) : Type 0 where
+  pub m : Raw
+  pub after : List ℕ
+  pub e : Entry
+  pub front_is : front rest ≡ Whole m after
+  pub there : object past m.id ≡ Some e
+  pub target : target_of r ≡ object_of m.id e
+  pub opcode : m.opcode ≡ code_of r
+  pub args : request_args e.interface m ≡ Some (values_of r)
+  pub stood : ConverterView
+  pub stands : IsConnected setup past times after handles stood
+  pub table : TableView
+  pub announced : Announced (announced_of r) stood.handle.ctx.table table
+  pub now : c ≡ with_table stood table

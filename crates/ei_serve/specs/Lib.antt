@@ -1,8 +1,10 @@
 pub mod Asking
 pub mod Causes
 pub mod Refusing
+pub mod Around
 pub mod Standing
 pub mod Steps
 pub mod Taking
 pub mod Turning
 pub mod Serving
+pub mod Policy

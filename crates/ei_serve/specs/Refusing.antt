@@ -1,7 +1,7 @@
 -- The refusals of a session, as its errors tell them.
 use Rattle.std.specs.Prelude.{◌≡◌, Option, Some, None}
 use Rattle.std.specs.Option.{option_map}
-use Rattle.ei_session.specs.Refusals.{Refusal, Parse, Handshake, NotBuilt}
+use Rattle.ei_session.specs.Refusals.{Refusal, Parse, Handshake, InvalidInterfaceVersion, Request}
 use Rattle.ei_session.specs.Served.{Answer, Refused}
 use Rattle.ei_types.specs.declared.error.Error.{Error}
 use Rattle.ei_types.specs.declared.error.Error.TheVariants as error
@@ -18,7 +18,8 @@ handshake_refusal e = Some (Handshake e)
 abbrev pub refusal_of : Error → Option Refusal
 refusal_of (error.Parse e) = option_map Parse (fault_of e)
 refusal_of (error.Handshake e) = handshake_refusal e
-refusal_of error.NotBuilt = Some NotBuilt
+refusal_of (error.InvalidInterfaceVersion interface version) = Some (InvalidInterfaceVersion interface.now version)
+refusal_of (error.Request e) = Some (Request e)
 refusal_of e = None
 
 -- the session's answer is this refusal, where there is one

@@ -1,14 +1,15 @@
 -- What a whole session answers, gives and replies.
-use Rattle.std.specs.Prelude.{◌≡◌, ◌≤◌, ◌<◌, ℕ, ◌-◌, false, List, [], ◌++◌, take, drop, length, map, Option, Some, None, IsSome, Result, Ok, Err}
+use Rattle.std.specs.Prelude.{◌≡◌, ◌≤◌, ◌<◌, ℕ, ◌-◌, true, false, List, [], ◌++◌, take, drop, length, map, Option, Some, None, IsSome, Result, Ok, Err}
 use Rattle.ei_spec.specs.Message.{Raw, all_bytes}
 use Rattle.ei_spec.specs.Piece.{Piece, stream}
 use Rattle.ei_session.specs.Setup.{Setup}
-use Rattle.ei_session.specs.Requests.{framed}
+use Rattle.ei_session.specs.Requests.{slot, framed}
 use Rattle.ei_session.specs.Events.{replies}
-use Rattle.ei_session.specs.Served.{Answer, Disconnect, End, UnexpectedEof, PieceLimit, HandleLimit}
-use Rattle.ei_session.specs.Guard.{is_over, accepted, IsValid}
+use Rattle.ei_session.specs.Served.{Answer, Disconnect, End, UnexpectedEof, IdsExhausted, PieceLimit, HandleLimit, is_over, accepted, session, IsValid}
 use Rattle.ei_backend.specs.Outside.{with_more}
-use Rattle.ei_request.specs.Converter.{asked_of}
+use Rattle.ei_spec.specs.History.{each}
+use Rattle.ei_spec.specs.Groups.{frames_made}
+use Rattle.ei_standing.specs.Standing.{request_in_code}
 use Rattle.ei_request.specs.declared.event.EisRequest.{EisRequest}
 use Rattle.ei_types.specs.declared.error.Error.{Error}
 use Rattle.ei_types.specs.declared.error.Error.TheVariants as error
@@ -24,6 +25,7 @@ AnswersAs a (Ok ended.End) = a ≡ End
 AnswersAs a (Err error.UnexpectedEof) = a ≡ UnexpectedEof
 AnswersAs a (Err error.PieceLimit) = a ≡ PieceLimit
 AnswersAs a (Err error.HandleLimit) = a ≡ HandleLimit
+AnswersAs a (Err error.IdsExhausted) = a ≡ IdsExhausted
 AnswersAs a (Err error.ReadFault) = Unit {0}
 AnswersAs a (Err error.WriteFault) = Unit {0}
 AnswersAs a (Err error.NoMemory) = Unit {0}
@@ -34,6 +36,7 @@ abbrev pub IsOfSession : Error → Type 0
 IsOfSession error.UnexpectedEof = Unit {0}
 IsOfSession error.PieceLimit = Unit {0}
 IsOfSession error.HandleLimit = Unit {0}
+IsOfSession error.IdsExhausted = Unit {0}
 IsOfSession error.ReadFault = Unit {0}
 IsOfSession error.WriteFault = Unit {0}
 IsOfSession error.NoMemory = Unit {0}
@@ -70,11 +73,13 @@ AreReadings (Some told) readings = readings ≡ told
 
 -- the requests grew by those that the messages give
 pub record HandsOut (setup : Setup) (messages : List Raw) (told : Option (List ℕ)) (old new : List EisRequest) : Type 0 where
-  pub more : List EisRequest
-  pub grown : new ≡ old ++ more
   pub readings : List ℕ
   pub told_so : AreReadings told readings
-  pub framed_is : map asked_of more ≡ framed setup readings messages
+  pub grown : new ≡ old ++ map (request_in_code messages) (framed setup readings messages)
+
+-- a clock that told its readings has those left that no made frame of the messages took
+abbrev pub LeftReadings : Setup → List Raw → Option (List ℕ) → Option (List ℕ) → Type 0
+LeftReadings setup messages before after = (told : List ℕ) → before ≡ Some told → after ≡ Some (drop (frames_made (each (slot setup) messages)) told)
 
 -- a sink that told what it held has the replies to the messages behind that
 abbrev pub Replied : Setup → List Raw → Option Piece → Option Piece → Type 0
@@ -103,15 +108,33 @@ pub record Handled (setup : Setup) (told : List Piece) (left : Option (List Piec
   pub requests : HandsOut setup (accepted setup (stream (take k told))) readings out_old out_new
   pub replies : Replied setup (accepted setup (stream (take k told))) took_old took_new
 
--- cut short, the first messages of the session were handled, and a front of the replies to them went out
-pub record HandledInPart (setup : Setup) (messages : List Raw) (readings : Option (List ℕ)) (out_old out_new : List EisRequest) (took_old took_new : Option Piece) : Type 0 where
-  pub reached : List Raw
-  pub ahead : (more : List Raw) × (messages ≡ more ++ reached)
-  pub requests : HandsOut setup reached readings out_old out_new
-  pub replies : RepliedInPart setup reached took_old took_new
+-- all pieces that were told were taken, and the session is over with none of them
+pub record TookToTheEnd (setup : Setup) (told : List Piece) (left : Option (List Piece)) : Type 0 where
+  pub took : TookPieces told left (length told)
+  pub goes_on : (j : ℕ) → 1 ≤ j → j ≤ length told → is_over setup told j ≡ false
 
--- the replies to the messages of each piece went out before the next was asked for
-pub record OwesLast (setup : Setup) (told : List Piece) (left : Option (List Piece)) (took_old took_new : Option Piece) : Type 0 where
+-- or the pieces up to the one with which the session is over
+pub record TookToPiece (setup : Setup) (told : List Piece) (left : Option (List Piece)) : Type 0 where
   pub k : ℕ
   pub took : TookPieces told left k
-  pub replies : 0 < k → RepliedAtLeast setup (accepted setup (stream (take (k - 1) told))) took_old took_new
+  pub some : 1 ≤ k
+  pub goes_on : (j : ℕ) → 1 ≤ j → j < k → is_over setup told j ≡ false
+  pub over : is_over setup told k ≡ true
+
+-- which pieces a session took that was decided: all of them where it came to the source's end
+abbrev pub TookAllOf : Setup → List Piece → Option (List Piece) → Result HowEnded Error → Type 0
+TookAllOf setup told left (Ok ended.End) = TookToTheEnd setup told left
+TookAllOf setup told left (Err error.UnexpectedEof) = TookToTheEnd setup told left
+TookAllOf setup told left r = TookToPiece setup told left
+
+-- Cut short, with so many pieces taken, the first messages of the session were handled, among them all of the pieces before the
+-- last; and a front of the replies to them went out, among them all those to the messages of the pieces before the last.
+pub record CutShort (setup : Setup) (told : List Piece) (left : Option (List Piece)) (readings : Option (List ℕ)) (out_old out_new : List EisRequest) (took_old took_new : Option Piece) : Type 0 where
+  pub k : ℕ
+  pub took : TookPieces told left k
+  pub reached : List Raw
+  pub ahead : (more : List Raw) × ((session setup told).handled ≡ more ++ reached)
+  pub owed : 0 < k → (done : List Raw) × (reached ≡ done ++ accepted setup (stream (take (k - 1) told)))
+  pub requests : HandsOut setup reached readings out_old out_new
+  pub replies : RepliedInPart setup reached took_old took_new
+  pub replied : 0 < k → RepliedAtLeast setup (accepted setup (stream (take (k - 1) told))) took_old took_new

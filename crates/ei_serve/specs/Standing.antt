@@ -1,24 +1,23 @@
 -- What a session stands for: the pieces that it took.
-use Rattle.std.specs.Prelude.{◌≡◌, ℕ, ◌≤◌, ◌<◌, ◌^◌, true, false, List, [], length, is_some, codes}
+use Rattle.std.specs.Prelude.{◌≡◌, ℕ, ◌≤◌, ◌<◌, ◌^◌, false, List, [], length, is_some, codes}
 use Rattle.ei_spec.specs.declared.handle.Handle.{Handle}
 use Rattle.ei_spec.specs.declared.interface.KnownInterface.TheVariants as known
 use Rattle.ei_spec.specs.Interface.{Known, ObjectView}
 use Rattle.ei_spec.specs.Message.{Raw}
 use Rattle.ei_spec.specs.Piece.{Piece, stream, handle_count}
 use Rattle.ei_spec.specs.Stream.{Waiting}
-use Rattle.ei_types.specs.Capability.{bits_of}
+use Rattle.ei_types.specs.Capability.{bits_of, all_bits}
 use Rattle.ei_session.specs.Setup.{Setup}
-use Rattle.ei_session.specs.Handshake.{connected, version}
+use Rattle.ei_session.specs.Handshake.{connected}
 use Rattle.ei_session.specs.SettledMap.{settled_map}
-use Rattle.ei_session.specs.Objects.{object, handed_over}
-use Rattle.ei_session.specs.Serial.{serial}
 use Rattle.ei_session.specs.Refusals.{came}
-use Rattle.ei_session.specs.Guard.{reading_of, accepted, is_over}
+use Rattle.ei_session.specs.Served.{reading_of, accepted, is_over}
 use Rattle.ei_backend.specs.Table.{TableView, new_table, first_server_id, own, with_own, without}
 use Rattle.ei_backend.specs.Endpoint.{Endpoint, endpoint_of}
 use Rattle.ei_backend.specs.Backend.{BackendView, new_backend}
 use Rattle.ei_handshake.specs.Handshaker.{HandshakerView}
 use Rattle.ei_request.specs.Converter.{ConverterView}
+use Rattle.ei_standing.specs.Standing.{IsHeld}
 use Rattle.ei_serve.specs.declared.phase.Phase.{Phase}
 use Rattle.ei_serve.specs.declared.phase.Phase.TheVariants as phase
 use Rattle.ei_serve.specs.declared.session.Setup.{Setup as Started}
@@ -58,6 +57,7 @@ quiet table unread handles = record (endpoint_of (new_backend table)) { unread =
 -- after these messages, with these bytes and handles unread, it shakes hands
 pub record ShakesHands (setup : Setup) (past : List Raw) (rest : List ℕ) (handles : List Handle) (b : BackendView) (h : HandshakerView) : Type 0 where
   pub unfinished : connected past ≡ false
+  pub lawful : setup.capabilities ≤ all_bits
   pub in_range : setup.serial < 2 ^ 32
   pub ring : b.capacity ≤ most_capacity
   pub endpoint : endpoint_of b ≡ quiet handshake_table rest handles
@@ -66,21 +66,20 @@ pub record ShakesHands (setup : Setup) (past : List Raw) (rest : List ℕ) (hand
   pub name : is_some h.name ≡ came (codes "name") past
   pub context_type : is_some h.context_type ≡ came (codes "context_type") past
 
--- or the connection stands
-pub record IsConnected (setup : Setup) (past : List Raw) (rest : List ℕ) (handles : List Handle) (c : ConverterView) : Type 0 where
-  pub finished : connected past ≡ true
-  pub objects : (id : ℕ) → object past id ≡ handed_over past id
+-- or the connection stands: it holds what these messages left, with these readings, and nothing is queued or waits to be sent
+pub record IsConnected (setup : Setup) (past : List Raw) (times rest : List ℕ) (handles : List Handle) (c : ConverterView) : Type 0 where
+  pub held : IsHeld setup past times c
   pub ring : c.handle.ctx.capacity ≤ most_capacity
-  pub endpoint : endpoint_of c.handle.ctx ≡ quiet (seat_table (version past known.Seat)) rest handles
-  pub proxy : c.handle.proxy ≡ connection_object
-  pub versions : c.handle.negotiated ≡ settled_map past
-  pub serial : c.handle.last_serial ≡ serial setup past
+  pub unread : c.handle.ctx.unread ≡ rest
+  pub unread_handles : c.handle.ctx.handles ≡ handles
+  pub unsent : c.handle.ctx.unsent ≡ []
   pub queue : c.queue ≡ []
 
-abbrev pub StandsAt : Setup → List Raw → List ℕ → List Handle → Phase → Type 0
-StandsAt setup past rest handles (phase.Handshake b h) = ShakesHands setup past rest handles b h
-StandsAt setup past rest handles (phase.Connected c) = IsConnected setup past rest handles c
-StandsAt setup past rest handles phase.Over = ⊥
+-- before the connection no reading is used
+abbrev pub StandsAt : Setup → List Raw → List ℕ → List ℕ → List Handle → Phase → Type 0
+StandsAt setup past times rest handles (phase.Handshake b h) = (times ≡ []) × ShakesHands setup past rest handles b h
+StandsAt setup past times rest handles (phase.Connected c) = IsConnected setup past times rest handles c
+StandsAt setup past times rest handles phase.Over = ⊥
 
 -- how many bytes the ring of a phase holds
 abbrev pub capacity_in : Phase → ℕ
@@ -90,14 +89,14 @@ capacity_in phase.Over = 0
 
 -- ---- the session
 
--- The session was started with the setup, took these pieces, and goes on: it handled the messages of their
--- stream, and what follows them is unread.
-pub record Stands (setup : Setup) (pieces : List Piece) (s : Session) : Type 0 where
+-- The session was started with the setup, took these pieces and used these readings, and goes on: it handled the
+-- messages of their stream, and what follows them is unread.
+pub record Stands (setup : Setup) (pieces : List Piece) (times : List ℕ) (s : Session) : Type 0 where
   pub started : setup_of s.setup ≡ setup
   pub goes_on : (k : ℕ) → 1 ≤ k → k ≤ length pieces → is_over setup pieces k ≡ false
   pub waits : (reading_of setup (stream pieces)).stop ≡ Waiting
   pub unread : List Handle
-  pub phase : StandsAt setup (accepted setup (stream pieces)) (reading_of setup (stream pieces)).rest unread s.phase
+  pub phase : StandsAt setup (accepted setup (stream pieces)) times (reading_of setup (stream pieces)).rest unread s.phase
   pub handles : length unread ≡ handle_count pieces
   pub taken : s.taken ≡ length pieces
 

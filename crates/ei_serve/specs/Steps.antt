@@ -1,28 +1,29 @@
 -- What becomes of the message at the front.
-use Rattle.std.specs.Prelude.{◌≡◌, ℕ, true, false, ◌<◌, ◌≤◌, ◌^◌, List, [], ◌∷◌, ◌++◌, take, map, Option, Some, None, Result, Ok, Err}
+use Rattle.std.specs.Prelude.{◌≡◌, ℕ, ◌+◌, Bool, true, false, ◌<◌, ◌≤◌, ◌^◌, List, [], ◌∷◌, ◌++◌, take, map, length, codes, is_some, Option, Some, None, Result, Ok, Err}
 use Rattle.ei_spec.specs.declared.handle.Handle.{Handle}
 use Rattle.ei_spec.specs.Message.{Raw, Short, Unlawful, Whole, front, all_bytes}
+use Rattle.ei_types.specs.Capability.{all_bits}
 use Rattle.ei_spec.specs.Piece.{Piece}
+use Rattle.ei_spec.specs.History.{each}
+use Rattle.ei_spec.specs.Groups.{frames_made}
+use Rattle.ei_spec.specs.declared.interface.KnownInterface.{KnownInterface}
 use Rattle.ei_spec.specs.Stream.{Accepted, Final, Refused, read}
 use Rattle.ei_session.specs.Setup.{Setup, connection_id}
-use Rattle.ei_session.specs.Handshake.{is_finish, settled}
+use Rattle.ei_session.specs.Handshake.{connected, version, is_finish, settled}
+use Rattle.ei_session.specs.Devices.{exhausts}
 use Rattle.ei_session.specs.SettledMap.{settled_map}
-use Rattle.ei_session.specs.Refusals.{Refusal}
-use Rattle.ei_session.specs.Requests.{framed}
+use Rattle.ei_session.specs.Refusals.{Refusal, came, judge}
+use Rattle.ei_session.specs.Requests.{framed, slot, Request as Asked}
 use Rattle.ei_session.specs.Replies.{finish_events, settled_events, connection_event}
 use Rattle.ei_session.specs.Events.{replies}
-use Rattle.ei_session.specs.Guard.{judge}
 use Rattle.ei_backend.specs.Outside.{with_more}
 use Rattle.ei_backend.specs.Endpoint.{Endpoint, endpoint_of}
 use Rattle.ei_backend.specs.Backend.{BackendView}
 use Rattle.ei_handshake.specs.Handshaker.{HandshakerView}
 use Rattle.ei_handshake.specs.declared.server.EisHandshakeResp.{EisHandshakeResp}
-use Rattle.ei_request.specs.Connection.{ConnectionView, no_object_event}
-use Rattle.ei_request.specs.Converter.{ConverterView, asked_of, is_last}
-use Rattle.ei_request.specs.Converter as converter
-use Rattle.ei_request.specs.declared.event.EisRequest.TheVariants as asked
-use Rattle.ei_server.specs.declared.request.Request.{Request}
+use Rattle.ei_request.specs.Converter.{ConverterView}
 use Rattle.ei_request.specs.declared.event.EisRequest.{EisRequest}
+use Rattle.ei_standing.specs.Standing.{handed_as}
 use Rattle.ei_types.specs.declared.error.Error.{Error}
 use Rattle.ei_types.specs.declared.error.Error.TheVariants as error
 use Rattle.ei_wire.specs.declared.error.ParseError.TheVariants as parse_error
@@ -33,13 +34,20 @@ use Rattle.ei_serve.specs.declared.phase.Phase.TheVariants as phase
 use Rattle.ei_serve.specs.declared.phase.Step.{Step}
 use Rattle.ei_serve.specs.declared.phase.Step.TheVariants as step
 use Rattle.ei_serve.specs.Refusing.{refusal_of}
+use Rattle.ei_serve.specs.Around.{Around, AreDrawn, LeavesReadings}
 use Rattle.ei_serve.specs.Standing.{StandsAt, ShakesHands, IsConnected, most_capacity, quiet, connection_object, connection_table}
 
 -- ---- what a session gives and answers
 
--- the requests grew by those that the messages reached give beyond those before
-abbrev pub Gives : Setup → List Raw → List Raw → List EisRequest → List EisRequest → Type 0
-Gives setup before reached old new = (more : List EisRequest) × (new ≡ old ++ more) × ((readings : List ℕ) → framed setup readings reached ≡ framed setup readings before ++ map asked_of more)
+-- the versions of these messages, once the connection stands
+abbrev pub AreVersions : List Raw → (KnownInterface → ℕ) → Type 0
+AreVersions reached versions = connected reached ≡ true → (interface : KnownInterface) → version reached interface ≡ versions interface
+
+-- The requests grew by those that the messages reached give beyond those before, with these readings and any that follow them.
+pub record Gives (setup : Setup) (before reached : List Raw) (times used : List ℕ) (old new : List EisRequest) : Type 0 where
+  pub more : List Asked
+  pub grown : (versions : KnownInterface → ℕ) → AreVersions reached versions → new ≡ old ++ map (handed_as versions) more
+  pub framed_is : (later : List ℕ) → framed setup ((times ++ used) ++ later) reached ≡ framed setup ((times ++ used) ++ later) before ++ more
 
 -- a sink that told what it held has these messages behind that
 abbrev pub IsTold : List Raw → Option Piece → Option Piece → Type 0
@@ -57,23 +65,29 @@ Replies setup before reached old new = (held : Piece) → old ≡ Some held → 
 abbrev pub RepliesInPart : Setup → List Raw → List Raw → Option Piece → Option Piece → Type 0
 RepliesInPart setup before reached old new = (held : Piece) → old ≡ Some held → (more : List Raw) × (n : ℕ) × (replies setup reached ≡ replies setup before ++ more) × (new ≡ Some (with_more (take n (all_bytes more)) [] held))
 
--- what was given and answered on the way from some messages to others
-pub record Goes (setup : Setup) (before reached : List Raw) (out_old out_new : List EisRequest) (took_old took_new : Option Piece) : Type 0 where
-  pub gives : Gives setup before reached out_old out_new
-  pub replies : Replies setup before reached took_old took_new
+-- what was given and answered on the way from some messages to others, and the readings used
+pub record Goes (setup : Setup) (before reached : List Raw) (times used : List ℕ) (old new : Around) : Type 0 where
+  pub behind : (done : List Raw) × (reached ≡ done ++ before)
+  pub gives : Gives setup before reached times used old.out new.out
+  pub replies : Replies setup before reached old.took new.took
+  pub drawn : AreDrawn used old.readings
+  pub leaves : LeavesReadings used old.readings new.readings
+  pub frames : length used + frames_made (each (slot setup) before) ≡ frames_made (each (slot setup) reached)
 
 -- The same, broken off: the messages reached lie between those before and the last ones, and the sink may
 -- have taken only a front of the further replies.
-pub record GoesInPart (setup : Setup) (before last : List Raw) (out_old out_new : List EisRequest) (took_old took_new : Option Piece) : Type 0 where
+pub record GoesInPart (setup : Setup) (before last : List Raw) (times : List ℕ) (old new : Around) : Type 0 where
   pub reached : List Raw
+  pub used : List ℕ
   pub behind : (done : List Raw) × (reached ≡ done ++ before)
   pub ahead : (more : List Raw) × (last ≡ more ++ reached)
-  pub gives : Gives setup before reached out_old out_new
-  pub replies : RepliesInPart setup before reached took_old took_new
+  pub gives : Gives setup before reached times used old.out new.out
+  pub replies : RepliesInPart setup before reached old.took new.took
+  pub drawn : AreDrawn used old.readings
 
 -- broken off on the way to the last message of these bytes that can be handled
-abbrev pub Breaks : Setup → List Raw → List ℕ → List EisRequest → List EisRequest → Option Piece → Option Piece → Type 0
-Breaks setup before rest out_old out_new took_old took_new = GoesInPart setup before (read (judge setup) before rest).past out_old out_new took_old took_new
+abbrev pub Breaks : Setup → List Raw → List ℕ → List ℕ → Around → Around → Type 0
+Breaks setup before times rest old new = GoesInPart setup before (read (judge setup) before rest).past times old new
 
 -- ---- one message
 
@@ -95,7 +109,9 @@ with_unsent messages e = record e { unsent = all_bytes messages }
 -- what the handshake answers at a finish that is taken: the connection, and the events that hand it over
 pub record HandsOver (setup : Setup) (before : List Raw) (after : List ℕ) (handles : List Handle) (resp : EisHandshakeResp) (b : BackendView) : Type 0 where
   pub connection : resp.connection ≡ connection_object
+  pub name : is_some resp.name ≡ came (codes "name") before
   pub versions : resp.negotiated_interfaces ≡ settled_map before
+  pub lawful : setup.capabilities ≤ all_bits
   pub in_range : setup.serial < 2 ^ 32
   pub ring : b.capacity ≤ most_capacity
   pub endpoint : endpoint_of b ≡ with_unsent (settled_events 0 (settled before) ++ connection_event 0 setup.serial connection_id ∷ []) (quiet connection_table after handles)
@@ -122,20 +138,8 @@ IsCutOff e = ⊥
 
 -- the connection stands and the sink was told, or it was cut off
 abbrev pub Connects : Setup → List Raw → Raw → List ℕ → List Handle → Result ConverterView Error → Option Piece → Option Piece → Type 0
-Connects setup before finish after handles (Ok c) old new = IsConnected setup (finish ∷ before) after handles c × TellsFinish setup before old new
+Connects setup before finish after handles (Ok c) old new = IsConnected setup (finish ∷ before) [] after handles c × TellsFinish setup before old new
 Connects setup before finish after handles (Err e) old new = IsCutOff e × TellsFinishInPart setup before old new
-
--- a connection that had nothing to send told the sink that no object has the id, or was cut off
-abbrev pub TellsNoObject : ConnectionView → ℕ → Result Unit Error → ConnectionView → Option Piece → Option Piece → Type 0
-TellsNoObject c id (Ok x) new old_took new_took = (new ≡ c) × IsTold (no_object_event c id ∷ []) old_took new_took
-TellsNoObject c id (Err e) new old_took new_took = IsCutOff e × IsToldInPart (no_object_event c id ∷ []) old_took new_took
-
--- a disconnect was taken and handed out; any other request is refused
-abbrev pub TakesRequest : Request → Result Step Error → List EisRequest → List EisRequest → Type 0
-TakesRequest r (Ok step.Waiting) old new = ⊥
-TakesRequest r (Ok step.Handled) old new = ⊥
-TakesRequest r (Ok step.Disconnect) old new = (is_last r ≡ true) × (new ≡ old ++ asked.Disconnect ∷ [])
-TakesRequest r (Err e) old new = converter.Refuses r e × (new ≡ old)
 
 -- the same of a phase that shakes hands still
 abbrev pub HandsOverIn : Setup → List Raw → List ℕ → List Handle → EisHandshakeResp → Phase → Type 0
@@ -144,18 +148,46 @@ HandsOverIn setup before after handles resp (phase.Connected c) = ⊥
 HandsOverIn setup before after handles resp phase.Over = ⊥
 
 abbrev pub ConnectsPhase : Setup → List Raw → Raw → List ℕ → List Handle → Result Unit Error → Phase → Option Piece → Option Piece → Type 0
-ConnectsPhase setup before finish after handles (Ok x) p old new = StandsAt setup (finish ∷ before) after handles p × TellsFinish setup before old new
+ConnectsPhase setup before finish after handles (Ok x) p old new = StandsAt setup (finish ∷ before) [] after handles p × TellsFinish setup before old new
 ConnectsPhase setup before finish after handles (Err e) p old new = IsCutOff e × TellsFinishInPart setup before old new
 
--- how a step is refused
-abbrev pub RefusesStep : Setup → List Raw → List ℕ → Error → List EisRequest → List EisRequest → Option Piece → Option Piece → Type 0
-RefusesStep setup past rest error.WriteFault out_old out_new took_old took_new = Breaks setup past rest out_old out_new took_old took_new
-RefusesStep setup past rest error.NoMemory out_old out_new took_old took_new = Breaks setup past rest out_old out_new took_old took_new
-RefusesStep setup past rest e out_old out_new took_old took_new = Refuses setup past rest e × Goes setup past past out_old out_new took_old took_new
+-- ---- a step, in either phase
 
--- what becomes of the message at the front, in either phase
-abbrev pub Steps : Setup → List Raw → List ℕ → List Handle → Result Step Error → Phase → List EisRequest → List EisRequest → Option Piece → Option Piece → Type 0
-Steps setup past rest handles (Ok step.Waiting) p out_old out_new took_old took_new = (front rest ≡ Short) × StandsAt setup past rest handles p × Goes setup past past out_old out_new took_old took_new
-Steps setup past rest handles (Ok step.Handled) p out_old out_new took_old took_new = (m : Raw) × (after : List ℕ) × (front rest ≡ Whole m after) × (judge setup past m ≡ Accepted) × StandsAt setup (m ∷ past) after handles p × Goes setup past (m ∷ past) out_old out_new took_old took_new
-Steps setup past rest handles (Ok step.Disconnect) p out_old out_new took_old took_new = (m : Raw) × (after : List ℕ) × (front rest ≡ Whole m after) × (judge setup past m ≡ Final) × Goes setup past (m ∷ past) out_old out_new took_old took_new
-Steps setup past rest handles (Err e) p out_old out_new took_old took_new = RefusesStep setup past rest e out_old out_new took_old took_new
+-- there was no whole message
+pub record Waits (setup : Setup) (past : List Raw) (times rest : List ℕ) (handles : List Handle) (p : Phase) (old new : Around) : Type 0 where
+  pub short : front rest ≡ Short
+  pub stands : StandsAt setup past times rest handles p
+  pub goes : Goes setup past past times [] old new
+
+-- the message at the front was handled, and the phase stands for it
+pub record HandlesOne (setup : Setup) (past : List Raw) (times rest : List ℕ) (handles : List Handle) (p : Phase) (old new : Around) : Type 0 where
+  pub m : Raw
+  pub after : List ℕ
+  pub front_is : front rest ≡ Whole m after
+  pub accepted : judge setup past m ≡ Accepted
+  pub used : List ℕ
+  pub stands : StandsAt setup (m ∷ past) (times ++ used) after handles p
+  pub goes : Goes setup past (m ∷ past) times used old new
+
+-- the message at the front is the last: the client disconnected, or the ids ran out
+pub record EndsWith (setup : Setup) (past : List Raw) (times rest : List ℕ) (exhausted : Bool) (old new : Around) : Type 0 where
+  pub m : Raw
+  pub after : List ℕ
+  pub front_is : front rest ≡ Whole m after
+  pub final : judge setup past m ≡ Final
+  pub exhausts_is : exhausts past m ≡ exhausted
+  pub goes : Goes setup past (m ∷ past) times [] old new
+
+-- how a step is refused
+abbrev pub RefusesStep : Setup → List Raw → List ℕ → List ℕ → Error → Around → Around → Type 0
+RefusesStep setup past times rest error.WriteFault old new = Breaks setup past times rest old new
+RefusesStep setup past times rest error.NoMemory old new = Breaks setup past times rest old new
+RefusesStep setup past times rest error.IdsExhausted old new = EndsWith setup past times rest true old new
+RefusesStep setup past times rest e old new = Refuses setup past rest e × Goes setup past past times [] old new
+
+-- what becomes of the message at the front
+abbrev pub Steps : Setup → List Raw → List ℕ → List ℕ → List Handle → Result Step Error → Phase → Around → Around → Type 0
+Steps setup past times rest handles (Ok step.Waiting) p old new = Waits setup past times rest handles p old new
+Steps setup past times rest handles (Ok step.Handled) p old new = HandlesOne setup past times rest handles p old new
+Steps setup past times rest handles (Ok step.Disconnect) p old new = EndsWith setup past times rest false old new
+Steps setup past times rest handles (Err e) p old new = RefusesStep setup past times rest e old new

@@ -4,7 +4,7 @@ use Rattle.ei_spec.specs.declared.handle.Handle.{Handle}
 use Rattle.ei_spec.specs.Message.{Raw}
 use Rattle.ei_spec.specs.Piece.{Piece, stream, handle_count}
 use Rattle.ei_session.specs.Setup.{Setup}
-use Rattle.ei_session.specs.Guard.{reading_of, accepted}
+use Rattle.ei_session.specs.Served.{reading_of, accepted}
 use Rattle.ei_backend.specs.Incoming.{IsFirst, Fits, Overflows}
 use Rattle.ei_types.specs.Errors.{error_of_read}
 use Rattle.ei_types.specs.declared.error.Error.{Error}
@@ -29,23 +29,23 @@ abbrev pub Keeps : Option (List Piece) → Option (List Piece) → Type 0
 Keeps old new = (pieces : List Piece) → old ≡ Some pieces → new ≡ Some pieces
 
 -- what reading a piece does to a phase
-abbrev pub ReadsPhase : Setup → List Raw → List ℕ → List Handle → Result ℕ ReadError → Phase → Option (List Piece) → Option (List Piece) → Type 0
-ReadsPhase setup past rest handles (Ok n) p old new = (piece : Piece) × Hands old piece new × Fits n handles piece × StandsAt setup past (rest ++ piece.bytes) (handles ++ piece.handles) p
-ReadsPhase setup past rest handles (Err read_error.HandleLimit) p old new = (piece : Piece) × Hands old piece new × Overflows handles piece
-ReadsPhase setup past rest handles (Err read_error.UnexpectedEof) p old new = HasNone old new × StandsAt setup past rest handles p
-ReadsPhase setup past rest handles (Err read_error.ReadFault) p old new = Keeps old new
-ReadsPhase setup past rest handles (Err read_error.NoMemory) p old new = Keeps old new
+abbrev pub ReadsPhase : Setup → List Raw → List ℕ → List ℕ → List Handle → Result ℕ ReadError → Phase → Option (List Piece) → Option (List Piece) → Type 0
+ReadsPhase setup past times rest handles (Ok n) p old new = (piece : Piece) × Hands old piece new × Fits n handles piece × StandsAt setup past times (rest ++ piece.bytes) (handles ++ piece.handles) p
+ReadsPhase setup past times rest handles (Err read_error.HandleLimit) p old new = (piece : Piece) × Hands old piece new × Overflows handles piece
+ReadsPhase setup past times rest handles (Err read_error.UnexpectedEof) p old new = HasNone old new × StandsAt setup past times rest handles p
+ReadsPhase setup past times rest handles (Err read_error.ReadFault) p old new = Keeps old new
+ReadsPhase setup past times rest handles (Err read_error.NoMemory) p old new = Keeps old new
 
 -- the pieces taken so far, and one more behind them
 abbrev pub with_next : List Piece → Piece → List Piece
 with_next pieces piece = pieces ++ piece ∷ []
 
 -- the session took one more piece and has not looked at it
-pub record Holds (setup : Setup) (pieces : List Piece) (piece : Piece) (s : Session) : Type 0 where
+pub record Holds (setup : Setup) (pieces : List Piece) (times : List ℕ) (piece : Piece) (s : Session) : Type 0 where
   pub started : setup_of s.setup ≡ setup
   pub room : length pieces < setup.pieces
   pub unread : List Handle
-  pub phase : StandsAt setup (accepted setup (stream pieces)) ((reading_of setup (stream pieces)).rest ++ piece.bytes) unread s.phase
+  pub phase : StandsAt setup (accepted setup (stream pieces)) times ((reading_of setup (stream pieces)).rest ++ piece.bytes) unread s.phase
   pub handles : length unread ≡ handle_count (with_next pieces piece)
   pub few : handle_count (with_next pieces piece) ≤ MOST_UNREAD_HANDLES
   pub taken : s.taken ≡ length pieces + 1
@@ -59,11 +59,11 @@ piece_came full (Err read_error.UnexpectedEof) = Ok false
 piece_came full (Err e) = Err (error_of_read e)
 
 -- what taking a piece answers
-abbrev pub TakesPiece : Setup → List Piece → Session → Result Bool Error → Session → Option (List Piece) → Option (List Piece) → Type 0
-TakesPiece setup pieces s (Ok true) t old new = (piece : Piece) × Hands old piece new × Holds setup pieces piece t
-TakesPiece setup pieces s (Ok false) t old new = HasNone old new × Stands setup pieces t
-TakesPiece setup pieces s (Err error.PieceLimit) t old new = (piece : Piece) × Hands old piece new × (setup.pieces ≤ length pieces)
-TakesPiece setup pieces s (Err error.HandleLimit) t old new = (piece : Piece) × Hands old piece new × (length pieces < setup.pieces) × (MOST_UNREAD_HANDLES < handle_count (with_next pieces piece))
-TakesPiece setup pieces s (Err error.ReadFault) t old new = Keeps old new
-TakesPiece setup pieces s (Err error.NoMemory) t old new = Keeps old new
-TakesPiece setup pieces s (Err e) t old new = ⊥
+abbrev pub TakesPiece : Setup → List Piece → List ℕ → Session → Result Bool Error → Session → Option (List Piece) → Option (List Piece) → Type 0
+TakesPiece setup pieces times s (Ok true) t old new = (piece : Piece) × Hands old piece new × Holds setup pieces times piece t
+TakesPiece setup pieces times s (Ok false) t old new = HasNone old new × Stands setup pieces times t
+TakesPiece setup pieces times s (Err error.PieceLimit) t old new = (piece : Piece) × Hands old piece new × (setup.pieces ≤ length pieces)
+TakesPiece setup pieces times s (Err error.HandleLimit) t old new = (piece : Piece) × Hands old piece new × (length pieces < setup.pieces) × (MOST_UNREAD_HANDLES < handle_count (with_next pieces piece))
+TakesPiece setup pieces times s (Err error.ReadFault) t old new = Keeps old new
+TakesPiece setup pieces times s (Err error.NoMemory) t old new = Keeps old new
+TakesPiece setup pieces times s (Err e) t old new = ⊥

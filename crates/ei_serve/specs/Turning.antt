@@ -1,21 +1,20 @@
 -- What a turn, and a whole session, answers.
-use Rattle.std.specs.Prelude.{◌≡◌, ◌≤◌, ◌<◌, ◌⊎◌, ℕ, Bool, true, false, List, length, Option, Some, None, Result, Ok, Err}
+use Rattle.std.specs.Prelude.{◌≡◌, ◌≤◌, ◌<◌, ◌⊎◌, ℕ, Bool, true, false, List, [], ◌++◌, length, Option, Some, None, Result, Ok, Err}
 use Rattle.ei_spec.specs.declared.handle.Handle.{Handle}
 use Rattle.ei_spec.specs.Message.{Raw}
 use Rattle.ei_spec.specs.Piece.{Piece, stream, handle_count}
 use Rattle.ei_spec.specs.Stream.{Waiting, Reading, read}
 use Rattle.ei_session.specs.Setup.{Setup}
-use Rattle.ei_session.specs.Refusals.{Refusal}
-use Rattle.ei_session.specs.Served.{Answer, Disconnect, End, UnexpectedEof, PieceLimit, HandleLimit, Refused, answer_at}
-use Rattle.ei_session.specs.Guard.{judge, session, accepted}
-use Rattle.ei_request.specs.declared.event.EisRequest.{EisRequest}
+use Rattle.ei_session.specs.Refusals.{Refusal, judge}
+use Rattle.ei_session.specs.Served.{Answer, Disconnect, End, UnexpectedEof, IdsExhausted, PieceLimit, HandleLimit, Refused, answer_at, session, accepted}
 use Rattle.ei_types.specs.declared.error.Error.{Error}
 use Rattle.ei_types.specs.declared.error.Error.TheVariants as error
 use Rattle.ei_serve.specs.declared.phase.Phase.{Phase}
 use Rattle.ei_serve.specs.declared.session.Session.{Session}
 use Rattle.ei_serve.specs.declared.session.Turn.{Turn}
 use Rattle.ei_serve.specs.declared.session.Turn.TheVariants as turn
-use Rattle.ei_serve.specs.Refusing.{refusal_of, IsRefused}
+use Rattle.ei_serve.specs.Refusing.{refusal_of}
+use Rattle.ei_serve.specs.Around.{Around}
 use Rattle.ei_serve.specs.Standing.{Stands, StandsAt}
 use Rattle.ei_serve.specs.Steps.{Goes, GoesInPart, Breaks}
 use Rattle.ei_serve.specs.Taking.{Hands, HasNone, Keeps, with_next}
@@ -24,76 +23,98 @@ use Rattle.ei_spec.specs.declared.limits.TheConstants.{MOST_UNREAD_HANDLES}
 -- ---- the messages that are whole
 
 -- the phase stands where the reading stopped
-pub record StandsAfter (setup : Setup) (r : Reading Refusal) (handles : List Handle) (p : Phase) : Type 0 where
+pub record StandsAfter (setup : Setup) (r : Reading Refusal) (times : List ℕ) (handles : List Handle) (p : Phase) : Type 0 where
   pub waits : r.stop ≡ Waiting
-  pub phase : StandsAt setup r.past r.rest handles p
+  pub phase : StandsAt setup r.past times r.rest handles p
+
+-- every whole message was handled, and the phase goes on
+pub record HandlesOn (setup : Setup) (past : List Raw) (times rest : List ℕ) (handles : List Handle) (p : Phase) (old new : Around) : Type 0 where
+  pub used : List ℕ
+  pub stands : StandsAfter setup (read (judge setup) past rest) (times ++ used) handles p
+  pub goes : Goes setup past (read (judge setup) past rest).past times used old new
+
+-- the messages up to one with which reading ends so were handled
+pub record HandlesTo (setup : Setup) (past : List Raw) (times rest : List ℕ) (answer : Answer) (old new : Around) : Type 0 where
+  pub used : List ℕ
+  pub answer_is : answer_at (read (judge setup) past rest) ≡ answer
+  pub goes : Goes setup past (read (judge setup) past rest).past times used old new
+
+-- up to one that is refused so, where there is such a refusal
+abbrev pub HandlesToRefusal : Setup → List Raw → List ℕ → List ℕ → Option Refusal → Around → Around → Type 0
+HandlesToRefusal setup past times rest None old new = ⊥
+HandlesToRefusal setup past times rest (Some refusal) old new = HandlesTo setup past times rest (Refused refusal) old new
 
 -- how handling every whole message is refused
-abbrev pub RefusesAll : Setup → List Raw → List ℕ → Error → List EisRequest → List EisRequest → Option Piece → Option Piece → Type 0
-RefusesAll setup past rest error.WriteFault out_old out_new took_old took_new = Breaks setup past rest out_old out_new took_old took_new
-RefusesAll setup past rest error.NoMemory out_old out_new took_old took_new = Breaks setup past rest out_old out_new took_old took_new
-RefusesAll setup past rest e out_old out_new took_old took_new = IsRefused (refusal_of e) (answer_at (read (judge setup) past rest)) × Goes setup past (read (judge setup) past rest).past out_old out_new took_old took_new
+abbrev pub RefusesAll : Setup → List Raw → List ℕ → List ℕ → Error → Around → Around → Type 0
+RefusesAll setup past times rest error.WriteFault old new = Breaks setup past times rest old new
+RefusesAll setup past times rest error.NoMemory old new = Breaks setup past times rest old new
+RefusesAll setup past times rest error.IdsExhausted old new = HandlesTo setup past times rest IdsExhausted old new
+RefusesAll setup past times rest e old new = HandlesToRefusal setup past times rest (refusal_of e) old new
 
 -- what handling every whole message answers
-abbrev pub HandlesAll : Setup → List Raw → List ℕ → List Handle → Result Turn Error → Phase → List EisRequest → List EisRequest → Option Piece → Option Piece → Type 0
-HandlesAll setup past rest handles (Ok turn.GoOn) p out_old out_new took_old took_new = StandsAfter setup (read (judge setup) past rest) handles p × Goes setup past (read (judge setup) past rest).past out_old out_new took_old took_new
-HandlesAll setup past rest handles (Ok turn.Disconnect) p out_old out_new took_old took_new = (answer_at (read (judge setup) past rest) ≡ Disconnect) × Goes setup past (read (judge setup) past rest).past out_old out_new took_old took_new
-HandlesAll setup past rest handles (Ok turn.End) p out_old out_new took_old took_new = ⊥
-HandlesAll setup past rest handles (Err e) p out_old out_new took_old took_new = RefusesAll setup past rest e out_old out_new took_old took_new
+abbrev pub HandlesAll : Setup → List Raw → List ℕ → List ℕ → List Handle → Result Turn Error → Phase → Around → Around → Type 0
+HandlesAll setup past times rest handles (Ok turn.GoOn) p old new = HandlesOn setup past times rest handles p old new
+HandlesAll setup past times rest handles (Ok turn.Disconnect) p old new = HandlesTo setup past times rest Disconnect old new
+HandlesAll setup past times rest handles (Ok turn.End) p old new = ⊥
+HandlesAll setup past times rest handles (Err e) p old new = RefusesAll setup past times rest e old new
 
 -- ---- a turn
 
 -- the session is over with one more piece, with this answer
-pub record Closes (setup : Setup) (pieces : List Piece) (answer : Answer) (left_old left_new : Option (List Piece)) (out_old out_new : List EisRequest) (took_old took_new : Option Piece) : Type 0 where
+pub record Closes (setup : Setup) (pieces : List Piece) (times : List ℕ) (answer : Answer) (old new : Around) : Type 0 where
   pub piece : Piece
-  pub hands : Hands left_old piece left_new
+  pub used : List ℕ
+  pub hands : Hands old.left piece new.left
   pub answer_is : (session setup (with_next pieces piece)).answer ≡ answer
-  pub goes : Goes setup (accepted setup (stream pieces)) (session setup (with_next pieces piece)).handled out_old out_new took_old took_new
+  pub goes : Goes setup (accepted setup (stream pieces)) (session setup (with_next pieces piece)).handled times used old new
 
 -- it is over with this refusal, where there is one
-abbrev pub ClosesRefused : Setup → List Piece → Option Refusal → Option (List Piece) → Option (List Piece) → List EisRequest → List EisRequest → Option Piece → Option Piece → Type 0
-ClosesRefused setup pieces None left_old left_new out_old out_new took_old took_new = ⊥
-ClosesRefused setup pieces (Some refusal) left_old left_new out_old out_new took_old took_new = Closes setup pieces (Refused refusal) left_old left_new out_old out_new took_old took_new
+abbrev pub ClosesRefused : Setup → List Piece → List ℕ → Option Refusal → Around → Around → Type 0
+ClosesRefused setup pieces times None old new = ⊥
+ClosesRefused setup pieces times (Some refusal) old new = Closes setup pieces times (Refused refusal) old new
 
 -- the session is over where the source ended
-pub record Finds (setup : Setup) (pieces : List Piece) (answer : Answer) (left_old left_new : Option (List Piece)) (out_old out_new : List EisRequest) (took_old took_new : Option Piece) : Type 0 where
-  pub none : HasNone left_old left_new
+pub record Finds (setup : Setup) (pieces : List Piece) (times : List ℕ) (answer : Answer) (old new : Around) : Type 0 where
+  pub none : HasNone old.left new.left
   pub answer_is : (session setup pieces).answer ≡ answer
-  pub goes : Goes setup (accepted setup (stream pieces)) (session setup pieces).handled out_old out_new took_old took_new
+  pub goes : Goes setup (accepted setup (stream pieces)) (session setup pieces).handled times [] old new
 
 -- the session goes on
-pub record GoesOn (setup : Setup) (pieces : List Piece) (t : Session) (left_old left_new : Option (List Piece)) (out_old out_new : List EisRequest) (took_old took_new : Option Piece) : Type 0 where
+pub record GoesOn (setup : Setup) (pieces : List Piece) (times : List ℕ) (t : Session) (old new : Around) : Type 0 where
   pub piece : Piece
-  pub hands : Hands left_old piece left_new
-  pub stands : Stands setup (with_next pieces piece) t
-  pub goes : Goes setup (accepted setup (stream pieces)) (accepted setup (stream (with_next pieces piece))) out_old out_new took_old took_new
+  pub used : List ℕ
+  pub hands : Hands old.left piece new.left
+  pub stands : Stands setup (with_next pieces piece) (times ++ used) t
+  pub goes : Goes setup (accepted setup (stream pieces)) (accepted setup (stream (with_next pieces piece))) times used old new
 
 -- no piece came, and nothing was given or answered
-pub record Stays (setup : Setup) (pieces : List Piece) (left_old left_new : Option (List Piece)) (out_old out_new : List EisRequest) (took_old took_new : Option Piece) : Type 0 where
-  pub keeps : Keeps left_old left_new
-  pub out : out_new ≡ out_old
-  pub took : took_new ≡ took_old
+pub record Stays (old new : Around) : Type 0 where
+  pub keeps : Keeps old.left new.left
+  pub out : new.out ≡ old.out
+  pub took : new.took ≡ old.took
+  pub readings : new.readings ≡ old.readings
 
 -- one more piece came, and handling its messages broke off
-pub record BreaksOff (setup : Setup) (pieces : List Piece) (left_old left_new : Option (List Piece)) (out_old out_new : List EisRequest) (took_old took_new : Option Piece) : Type 0 where
+pub record BreaksOff (setup : Setup) (pieces : List Piece) (times : List ℕ) (old new : Around) : Type 0 where
   pub piece : Piece
-  pub hands : Hands left_old piece left_new
+  pub hands : Hands old.left piece new.left
   pub room : length pieces < setup.pieces
   pub few : handle_count (with_next pieces piece) ≤ MOST_UNREAD_HANDLES
-  pub goes : GoesInPart setup (accepted setup (stream pieces)) (accepted setup (stream (with_next pieces piece))) out_old out_new took_old took_new
+  pub goes : GoesInPart setup (accepted setup (stream pieces)) (accepted setup (stream (with_next pieces piece))) times old new
 
--- what a turn answers, over a session that stands for these pieces
-abbrev pub Turns : Setup → List Piece → Result Turn Error → Session → Option (List Piece) → Option (List Piece) → List EisRequest → List EisRequest → Option Piece → Option Piece → Type 0
-Turns setup pieces (Ok turn.GoOn) t left_old left_new out_old out_new took_old took_new = GoesOn setup pieces t left_old left_new out_old out_new took_old took_new
-Turns setup pieces (Ok turn.Disconnect) t left_old left_new out_old out_new took_old took_new = Closes setup pieces Disconnect left_old left_new out_old out_new took_old took_new
-Turns setup pieces (Ok turn.End) t left_old left_new out_old out_new took_old took_new = Finds setup pieces End left_old left_new out_old out_new took_old took_new
-Turns setup pieces (Err error.UnexpectedEof) t left_old left_new out_old out_new took_old took_new = Finds setup pieces UnexpectedEof left_old left_new out_old out_new took_old took_new
-Turns setup pieces (Err error.PieceLimit) t left_old left_new out_old out_new took_old took_new = Closes setup pieces PieceLimit left_old left_new out_old out_new took_old took_new
-Turns setup pieces (Err error.HandleLimit) t left_old left_new out_old out_new took_old took_new = Closes setup pieces HandleLimit left_old left_new out_old out_new took_old took_new
-Turns setup pieces (Err error.ReadFault) t left_old left_new out_old out_new took_old took_new = Stays setup pieces left_old left_new out_old out_new took_old took_new
-Turns setup pieces (Err error.WriteFault) t left_old left_new out_old out_new took_old took_new = BreaksOff setup pieces left_old left_new out_old out_new took_old took_new
-Turns setup pieces (Err error.NoMemory) t left_old left_new out_old out_new took_old took_new = Stays setup pieces left_old left_new out_old out_new took_old took_new ⊎ BreaksOff setup pieces left_old left_new out_old out_new took_old took_new
-Turns setup pieces (Err e) t left_old left_new out_old out_new took_old took_new = ClosesRefused setup pieces (refusal_of e) left_old left_new out_old out_new took_old took_new
+-- what a turn answers, over a session that stands for these pieces and readings
+abbrev pub Turns : Setup → List Piece → List ℕ → Result Turn Error → Session → Around → Around → Type 0
+Turns setup pieces times (Ok turn.GoOn) t old new = GoesOn setup pieces times t old new
+Turns setup pieces times (Ok turn.Disconnect) t old new = Closes setup pieces times Disconnect old new
+Turns setup pieces times (Ok turn.End) t old new = Finds setup pieces times End old new
+Turns setup pieces times (Err error.UnexpectedEof) t old new = Finds setup pieces times UnexpectedEof old new
+Turns setup pieces times (Err error.PieceLimit) t old new = Closes setup pieces times PieceLimit old new
+Turns setup pieces times (Err error.HandleLimit) t old new = Closes setup pieces times HandleLimit old new
+Turns setup pieces times (Err error.IdsExhausted) t old new = Closes setup pieces times IdsExhausted old new
+Turns setup pieces times (Err error.ReadFault) t old new = Stays old new
+Turns setup pieces times (Err error.WriteFault) t old new = BreaksOff setup pieces times old new
+Turns setup pieces times (Err error.NoMemory) t old new = Stays old new ⊎ BreaksOff setup pieces times old new
+Turns setup pieces times (Err e) t old new = ClosesRefused setup pieces times (refusal_of e) old new
 
 -- what the source's end means, after the connection or before it
 abbrev pub at_end : Bool → Result Turn Error

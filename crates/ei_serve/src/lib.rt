@@ -5,9 +5,9 @@
 //! whole session, or with `Session`, which takes one piece a turn.
 #![tactic(auto)]
 
-mod asking;
 mod conversing;
 mod phase;
+mod policy;
 mod session;
 mod shaking;
 mod whole;

@@ -1,8 +1,9 @@
 //! The two phases of a session, message by message.
 
-ghost use Rattle.std.specs.Prelude.{◌≡◌, ◌≤◌, ◌<◌, ◌↔◌, List, [], ℕ, true, false, length, Some, IsTrue, IsErrOf, OnOk, OnErr, IfOk, IfErr};
+ghost use Rattle.std.specs.Prelude.{◌≡◌, ◌≤◌, ◌<◌, ◌↔◌, List, [], ℕ, true, false, length, None, Some, IsTrue, IsErrOf, OnOk, OnErr, IfOk, IfErr};
 ghost use Rattle.ei_spec.specs.declared.handle.Handle.{Handle};
 ghost use Rattle.ei_spec.specs.Message.{Raw};
+ghost use Rattle.ei_types.specs.Capability.{all_bits};
 ghost use Rattle.ei_types.specs.declared.error.Error.TheVariants as error;
 ghost use Rattle.ei_wire.specs.declared.error.ReadError.TheVariants as read_error;
 ghost use Rattle.ei_backend.specs.Outside.{Piece, Rose};
@@ -10,7 +11,8 @@ ghost use Rattle.ei_backend.specs.declared.outside.LastAnswer.TheVariants as ans
 ghost use Rattle.ei_session.specs.Setup.{Setup as Started};
 ghost use Rattle.ei_session.specs.Handshake.{connected, is_finish};
 ghost use Rattle.ei_serve.specs.declared.phase.Phase.TheVariants as phases;
-ghost use Rattle.ei_serve.specs.Causes.{Greeted, GreetedInPart, NoFault, RefusesToStart};
+ghost use Rattle.ei_serve.specs.Around.{around};
+ghost use Rattle.ei_serve.specs.Causes.{Greeted, GreetedInPart, RefusesToStart};
 ghost use Rattle.ei_serve.specs.Standing.{capacity_in, most_capacity, StandsAt, setup_of};
 ghost use Rattle.ei_serve.specs.Steps.{Steps, HandsOverIn, ConnectsPhase};
 ghost use Rattle.ei_serve.specs.Taking.{ReadsPhase};
@@ -56,11 +58,13 @@ impl Phase {
         initial_serial: u32,
         sink: &mut K,
     ) -> Result<Phase, Error>
-        ensures stands { (setup : Started) → setup.serial ≡ initial_serial → IfOk result (λ phase. StandsAt setup [] [] [] phase) }
+        ensures stands { (setup : Started) → setup.capabilities ≤ all_bits → setup.serial ≡ initial_serial →
+            IfOk result (λ phase. StandsAt setup [] [] [] [] phase) }
         ensures only { IfErr result RefusesToStart }
         ensures greeted { OnOk result ((held : Piece) → K.taken sink.old ≡ Some held → Greeted held (K.taken sink.new)) }
         ensures greeted_in_part { OnErr result ((held : Piece) → K.taken sink.old ≡ Some held → GreetedInPart held (K.taken sink.new)) }
         ensures write_fault { IsErrOf result error.WriteFault → Rose (K.faults sink.old) (K.faults sink.new) }
+        ensures write_risen { K.faults sink.old < K.faults sink.new → IsErrOf result error.WriteFault }
         ensures write_faults { K.faults sink.old ≤ K.faults sink.new }
         ensures later_sink { K.later sink.old sink.new }
     {
@@ -79,7 +83,7 @@ impl Phase {
 
     /// Whether the connection stands.
     pub(crate) fn is_connected(&self) -> bool
-        ensures { (setup : Started) (past : List Raw) (rest : List ℕ) (handles : List Handle) → StandsAt setup past rest handles self.now
+        ensures { (setup : Started) (past : List Raw) (times rest : List ℕ) (handles : List Handle) → StandsAt setup past times rest handles self.now
             → result ≡ connected past }
     {
         matches!(self, Phase::Connected(_))
@@ -87,7 +91,7 @@ impl Phase {
 
     /// How many bytes came and are not read yet.
     pub(crate) fn unread_len(&self) -> usize
-        ensures { (setup : Started) (past : List Raw) (rest : List ℕ) (handles : List Handle) → StandsAt setup past rest handles self.now
+        ensures { (setup : Started) (past : List Raw) (times rest : List ℕ) (handles : List Handle) → StandsAt setup past times rest handles self.now
             → result ≡ length rest }
     {
         match self {
@@ -101,7 +105,7 @@ impl Phase {
     #[tactic(auto, using(crate::proofs::Ringing::phase_most))]
     pub(crate) fn ring_capacity(&self) -> usize
         ensures value { result ≡ capacity_in self.now }
-        ensures most { (setup : Started) (past : List Raw) (rest : List ℕ) (handles : List Handle) → StandsAt setup past rest handles self.now
+        ensures most { (setup : Started) (past : List Raw) (times rest : List ℕ) (handles : List Handle) → StandsAt setup past times rest handles self.now
             → result ≤ most_capacity }
     {
         match self {
@@ -113,14 +117,15 @@ impl Phase {
 
     /// Takes a piece.
     pub(crate) fn read<S: Source>(&mut self, source: &mut S) -> Result<usize, ReadError>
-        ensures reads { (setup : Started) (past : List Raw) (rest : List ℕ) (handles : List Handle) →
-            length rest < 1048576 → StandsAt setup past rest handles self.old →
-            ReadsPhase setup past rest handles result self.new (S.left source.old) (S.left source.new) }
-        ensures last_end { (setup : Started) (past : List Raw) (rest : List ℕ) (handles : List Handle) →
-            StandsAt setup past rest handles self.old →
+        ensures reads { (setup : Started) (past : List Raw) (times rest : List ℕ) (handles : List Handle) →
+            length rest < 1048576 → StandsAt setup past times rest handles self.old →
+            ReadsPhase setup past times rest handles result self.new (S.left source.old) (S.left source.new) }
+        ensures last_end { (setup : Started) (past : List Raw) (times rest : List ℕ) (handles : List Handle) →
+            StandsAt setup past times rest handles self.old →
             IsErrOf result read_error.UnexpectedEof → S.last source.new ≡ answers.End }
         ensures last_fault { IsErrOf result read_error.ReadFault → S.last source.new ≡ answers.Fault }
         ensures read_fault { IsErrOf result read_error.ReadFault → Rose (S.faults source.old) (S.faults source.new) }
+        ensures read_risen { S.faults source.old < S.faults source.new → IsErrOf result read_error.ReadFault }
         ensures read_faults { S.faults source.old ≤ S.faults source.new }
         ensures later_source { S.later source.old source.new }
     {
@@ -140,10 +145,12 @@ impl Phase {
         clock: &mut C,
         out: &mut Vec<EisRequest>,
     ) -> Result<Step, Error>
-        ensures steps { (past : List Raw) (rest : List ℕ) (handles : List Handle) →
-            StandsAt (setup_of setup) past rest handles self.old →
-            Steps (setup_of setup) past rest handles result self.new out.old.items out.new.items (K.taken sink.old) (K.taken sink.new) }
+        ensures steps { (past : List Raw) (times rest : List ℕ) (handles : List Handle) →
+            StandsAt (setup_of setup) past times rest handles self.old →
+            Steps (setup_of setup) past times rest handles result self.new
+            (around None out.old.items (K.taken sink.old) (C.readings clock.old)) (around None out.new.items (K.taken sink.new) (C.readings clock.new)) }
         ensures write_fault { IsErrOf result error.WriteFault → Rose (K.faults sink.old) (K.faults sink.new) }
+        ensures write_risen { K.faults sink.old < K.faults sink.new → IsErrOf result error.WriteFault }
         ensures write_faults { K.faults sink.old ≤ K.faults sink.new }
         ensures later_sink { K.later sink.old sink.new }
         ensures no_read_fault { IsErrOf result error.ReadFault → ⊥ }
@@ -176,6 +183,7 @@ impl Phase {
             HandsOverIn (setup_of setup) before after handles resp self.old →
             ConnectsPhase (setup_of setup) before finish after handles result self.new (K.taken sink.old) (K.taken sink.new) }
         ensures write_fault { IsErrOf result error.WriteFault → Rose (K.faults sink.old) (K.faults sink.new) }
+        ensures write_risen { K.faults sink.old < K.faults sink.new → IsErrOf result error.WriteFault }
         ensures write_faults { K.faults sink.old ≤ K.faults sink.new }
         ensures later_sink { K.later sink.old sink.new }
         ensures no_read_fault { IsErrOf result error.ReadFault → ⊥ }
@@ -197,10 +205,12 @@ impl Phase {
         clock: &mut C,
         out: &mut Vec<EisRequest>,
     ) -> Result<Turn, Error>
-        ensures handles { (past : List Raw) (rest : List ℕ) (handles : List Handle) →
-            StandsAt (setup_of setup) past rest handles self.old →
-            HandlesAll (setup_of setup) past rest handles result self.new out.old.items out.new.items (K.taken sink.old) (K.taken sink.new) }
+        ensures handles { (past : List Raw) (times rest : List ℕ) (handles : List Handle) →
+            StandsAt (setup_of setup) past times rest handles self.old →
+            HandlesAll (setup_of setup) past times rest handles result self.new
+            (around None out.old.items (K.taken sink.old) (C.readings clock.old)) (around None out.new.items (K.taken sink.new) (C.readings clock.new)) }
         ensures write_fault { IsErrOf result error.WriteFault → Rose (K.faults sink.old) (K.faults sink.new) }
+        ensures write_risen { K.faults sink.old < K.faults sink.new → IsErrOf result error.WriteFault }
         ensures write_faults { K.faults sink.old ≤ K.faults sink.new }
         ensures later_sink { K.later sink.old sink.new }
         ensures no_read_fault { IsErrOf result error.ReadFault → ⊥ }

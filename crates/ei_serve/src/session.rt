@@ -1,14 +1,14 @@
 //! A session, piece by piece.
 
 ghost use Rattle.std.specs.Prelude.{◌≡◌, ◌≤◌, ◌↔◌, List, [], ℕ, ◌<◌, ◌^◌, nat_le, Some, Ok, false, IsTrue, IsErrOf, OnOk, OnErr, IfOk, IfErr};
-ghost use Rattle.ei_spec.specs.declared.handle.Handle.{Handle};
-ghost use Rattle.ei_spec.specs.Message.{Raw};
 ghost use Rattle.ei_session.specs.Setup.{Setup as Started};
+ghost use Rattle.ei_types.specs.Capability.{bits_of, all_bits};
 ghost use Rattle.ei_types.specs.declared.error.Error.TheVariants as error;
 ghost use Rattle.ei_backend.specs.Outside.{Piece, Rose};
+ghost use Rattle.ei_serve.specs.Around.{around};
 ghost use Rattle.ei_serve.specs.Causes.{Greeted, GreetedInPart, RefusesToStart};
 ghost use Rattle.ei_backend.specs.declared.outside.LastAnswer.TheVariants as answers;
-ghost use Rattle.ei_serve.specs.Standing.{Stands, StandsAt, IsOver, setup_of, capacity_in, most_capacity};
+ghost use Rattle.ei_serve.specs.Standing.{Stands, IsOver, setup_of, capacity_in, most_capacity};
 ghost use Rattle.ei_serve.specs.Taking.{TakesPiece, piece_came};
 ghost use Rattle.ei_serve.specs.Turning.{Turns, IsAtEnd, goes_on, at_end};
 
@@ -60,18 +60,20 @@ pub struct Session {
 }
 
 impl Session {
-    /// Starts a session and greets the client.
+    /// Starts a session and greets the client. The capabilities have no bit that stands for none.
     ///
     /// `WriteFault` where the sink failed, `NoMemory` where memory ran out.
     pub fn start<K: Sink>(alloc: Global, setup: Setup, sink: &mut K) -> Result<Session, Error>
+        requires lawful { bits_of setup.capabilities ≤ all_bits }
         // it stands for no pieces
-        ensures stands { IfOk result (λ session. Stands (setup_of setup) [] session) }
+        ensures stands { IfOk result (λ session. Stands (setup_of setup) [] [] session) }
         ensures only { IfErr result RefusesToStart }
         // the greeting goes out first
         ensures greeted { OnOk result ((held : Piece) → K.taken sink.old ≡ Some held → Greeted held (K.taken sink.new)) }
         ensures greeted_in_part { OnErr result ((held : Piece) → K.taken sink.old ≡ Some held → GreetedInPart held (K.taken sink.new)) }
         // what the sink says
         ensures write_fault { IsErrOf result error.WriteFault → Rose (K.faults sink.old) (K.faults sink.new) }
+        ensures write_risen { K.faults sink.old < K.faults sink.new → IsErrOf result error.WriteFault }
         ensures write_faults { K.faults sink.old ≤ K.faults sink.new }
         ensures later_sink { K.later sink.old sink.new }
     {
@@ -96,7 +98,7 @@ impl Session {
     #[tactic(auto, using(crate::proofs::Ringing::session_most))]
     pub fn buffer_capacity(&self) -> usize
         ensures value { result ≡ capacity_in self.now.phase }
-        ensures most { (setup : Started) (pieces : List Piece) → Stands setup pieces self.now → result ≤ most_capacity }
+        ensures most { (setup : Started) (pieces : List Piece) (times : List ℕ) → Stands setup pieces times self.now → result ≤ most_capacity }
     {
         self.phase.ring_capacity()
     }
@@ -106,12 +108,21 @@ impl Session {
     ///
     /// At the source's end it answers `End` after the connection, and `UnexpectedEof` before it.
     /// `PieceLimit` where the setup's number of pieces was taken and one more came, which isn't handled;
-    /// `HandleLimit` where more than 4096 handles would be unread; `ReadFault`, `WriteFault` and `NoMemory`.
-    /// At any time `Parse` of a header of unlawful length. Before the connection `Parse` of what can't be read
-    /// in a message; of `Handshake` `InvalidObject` for a message to another object than 0, `DuplicateEvent` for
-    /// a second name or context type, and `MissingInterface` for a finish without ei_connection, ei_callback
-    /// and ei_pingpong announced. After it `NotBuilt` for a message to the connection or its seat but a
-    /// disconnect. After each of them the session is over.
+    /// `HandleLimit` where more than 4096 handles would be unread; `ReadFault` where the source failed,
+    /// `WriteFault` where the sink failed, and `NoMemory` where memory ran out or the sink wants it.
+    ///
+    /// At any time `Parse` of a header of unlawful length, and of what can't be read in a message: an
+    /// opcode that the interface doesn't have, an argument that isn't spelled, an id that the client may
+    /// not give, bytes that are left over.
+    /// Before the connection, of `Handshake`: `InvalidObject` for a message to another object than 0,
+    /// `DuplicateEvent` for a second name or context type, and `MissingInterface` for a finish without
+    /// ei_connection, ei_callback and ei_pingpong announced. After it `InvalidInterfaceVersion` for a
+    /// callback of another version than 1, and for a touch that a touchscreen of version 1 cancels; and of
+    /// `Request`: `InvalidCapabilities` for a capability that the seat wasn't given, `TooManyTouches` where
+    /// sixteen touches are down and one more goes down, `DuplicatedTouchDown` for a touch that is down
+    /// already, and `InvalidTextLength` for a text of no bytes, or of more than 254. `IdsExhausted` where
+    /// the ids for a new device and its interfaces run out: its request was handed out. After each of them
+    /// the session is over.
     pub fn turn<S: Source, K: Sink, C: Clock>(
         &mut self,
         source: &mut S,
@@ -119,18 +130,22 @@ impl Session {
         clock: &mut C,
         out: &mut Vec<EisRequest>,
     ) -> Result<Turn, Error>
-        // over a session that stands for the pieces taken so far
-        ensures turns { (setup : Started) (pieces : List Piece) → Stands setup pieces self.old →
-            Turns setup pieces result self.new (S.left source.old) (S.left source.new) out.old.items out.new.items (K.taken sink.old) (K.taken sink.new) }
-        ensures last_end { (setup : Started) (pieces : List Piece) → Stands setup pieces self.old → IsAtEnd result → S.last source.new ≡ answers.End }
+        // over a session that stands for the pieces taken, and the readings used, so far
+        ensures turns { (setup : Started) (pieces : List Piece) (times : List ℕ) → Stands setup pieces times self.old →
+            Turns setup pieces times result self.new (around (S.left source.old) out.old.items (K.taken sink.old) (C.readings clock.old))
+            (around (S.left source.new) out.new.items (K.taken sink.new) (C.readings clock.new)) }
+        ensures last_end { (setup : Started) (pieces : List Piece) (times : List ℕ) → Stands setup pieces times self.old → IsAtEnd result
+            → S.last source.new ≡ answers.End }
         ensures last_fault { IsErrOf result error.ReadFault → S.last source.new ≡ answers.Fault }
         ensures over { goes_on result ≡ false → IsOver self.new }
         // what the source says
         ensures read_fault { IsErrOf result error.ReadFault → Rose (S.faults source.old) (S.faults source.new) }
+        ensures read_risen { S.faults source.old < S.faults source.new → IsErrOf result error.ReadFault }
         ensures read_faults { S.faults source.old ≤ S.faults source.new }
         ensures later_source { S.later source.old source.new }
         // what the sink says
         ensures write_fault { IsErrOf result error.WriteFault → Rose (K.faults sink.old) (K.faults sink.new) }
+        ensures write_risen { K.faults sink.old < K.faults sink.new → IsErrOf result error.WriteFault }
         ensures write_faults { K.faults sink.old ≤ K.faults sink.new }
         ensures later_sink { K.later sink.old sink.new }
         // what the clock says
@@ -147,15 +162,19 @@ impl Session {
         clock: &mut C,
         out: &mut Vec<EisRequest>,
     ) -> Result<Turn, Error>
-        ensures turns { (setup : Started) (pieces : List Piece) → Stands setup pieces self.old →
-            Turns setup pieces result self.new (S.left source.old) (S.left source.new) out.old.items out.new.items (K.taken sink.old) (K.taken sink.new) }
-        ensures last_end { (setup : Started) (pieces : List Piece) → Stands setup pieces self.old → IsAtEnd result → S.last source.new ≡ answers.End }
+        ensures turns { (setup : Started) (pieces : List Piece) (times : List ℕ) → Stands setup pieces times self.old →
+            Turns setup pieces times result self.new (around (S.left source.old) out.old.items (K.taken sink.old) (C.readings clock.old))
+            (around (S.left source.new) out.new.items (K.taken sink.new) (C.readings clock.new)) }
+        ensures last_end { (setup : Started) (pieces : List Piece) (times : List ℕ) → Stands setup pieces times self.old → IsAtEnd result
+            → S.last source.new ≡ answers.End }
         ensures last_fault { IsErrOf result error.ReadFault → S.last source.new ≡ answers.Fault }
         ensures over { goes_on result ≡ false → IsOver self.new }
         ensures read_fault { IsErrOf result error.ReadFault → Rose (S.faults source.old) (S.faults source.new) }
+        ensures read_risen { S.faults source.old < S.faults source.new → IsErrOf result error.ReadFault }
         ensures read_faults { S.faults source.old ≤ S.faults source.new }
         ensures later_source { S.later source.old source.new }
         ensures write_fault { IsErrOf result error.WriteFault → Rose (K.faults sink.old) (K.faults sink.new) }
+        ensures write_risen { K.faults sink.old < K.faults sink.new → IsErrOf result error.WriteFault }
         ensures write_faults { K.faults sink.old ≤ K.faults sink.new }
         ensures later_sink { K.later sink.old sink.new }
         ensures later_clock { C.later clock.old clock.new }
@@ -176,14 +195,18 @@ impl Session {
         clock: &mut C,
         out: &mut Vec<EisRequest>,
     ) -> Result<Turn, Error>
-        ensures turns { (setup : Started) (pieces : List Piece) → Stands setup pieces self.old →
-            Turns setup pieces result self.new (S.left source.old) (S.left source.new) out.old.items out.new.items (K.taken sink.old) (K.taken sink.new) }
-        ensures last_end { (setup : Started) (pieces : List Piece) → Stands setup pieces self.old → IsAtEnd result → S.last source.new ≡ answers.End }
+        ensures turns { (setup : Started) (pieces : List Piece) (times : List ℕ) → Stands setup pieces times self.old →
+            Turns setup pieces times result self.new (around (S.left source.old) out.old.items (K.taken sink.old) (C.readings clock.old))
+            (around (S.left source.new) out.new.items (K.taken sink.new) (C.readings clock.new)) }
+        ensures last_end { (setup : Started) (pieces : List Piece) (times : List ℕ) → Stands setup pieces times self.old → IsAtEnd result
+            → S.last source.new ≡ answers.End }
         ensures last_fault { IsErrOf result error.ReadFault → S.last source.new ≡ answers.Fault }
         ensures read_fault { IsErrOf result error.ReadFault → Rose (S.faults source.old) (S.faults source.new) }
+        ensures read_risen { S.faults source.old < S.faults source.new → IsErrOf result error.ReadFault }
         ensures read_faults { S.faults source.old ≤ S.faults source.new }
         ensures later_source { S.later source.old source.new }
         ensures write_fault { IsErrOf result error.WriteFault → Rose (K.faults sink.old) (K.faults sink.new) }
+        ensures write_risen { K.faults sink.old < K.faults sink.new → IsErrOf result error.WriteFault }
         ensures write_faults { K.faults sink.old ≤ K.faults sink.new }
         ensures later_sink { K.later sink.old sink.new }
         ensures later_clock { C.later clock.old clock.new }
@@ -197,13 +220,15 @@ impl Session {
 
     /// Takes a piece; false at the source's end.
     fn take_piece<S: Source>(&mut self, source: &mut S) -> Result<bool, Error>
-        ensures takes { (setup : Started) (pieces : List Piece) → Stands setup pieces self.old →
-            TakesPiece setup pieces self.old result self.new (S.left source.old) (S.left source.new) }
+        ensures takes { (setup : Started) (pieces : List Piece) (times : List ℕ) → Stands setup pieces times self.old →
+            TakesPiece setup pieces times self.old result self.new (S.left source.old) (S.left source.new) }
         ensures read_fault { IsErrOf result error.ReadFault → Rose (S.faults source.old) (S.faults source.new) }
+        ensures read_risen { S.faults source.old < S.faults source.new → IsErrOf result error.ReadFault }
         ensures read_faults { S.faults source.old ≤ S.faults source.new }
         ensures later_source { S.later source.old source.new }
         ensures no_write_fault { IsErrOf result error.WriteFault → ⊥ }
-        ensures last_end { (setup : Started) (pieces : List Piece) → Stands setup pieces self.old → result ≡ Ok false → S.last source.new ≡ answers.End }
+        ensures last_end { (setup : Started) (pieces : List Piece) (times : List ℕ) → Stands setup pieces times self.old → result ≡ Ok false
+            → S.last source.new ≡ answers.End }
         ensures last_fault { IsErrOf result error.ReadFault → S.last source.new ≡ answers.Fault }
     {
         let is_full = is_full(self.taken, self.setup.pieces);

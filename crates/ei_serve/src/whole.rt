@@ -1,13 +1,15 @@
 //! A whole session.
 
-ghost use Rattle.std.specs.Prelude.{◌≡◌, ◌≤◌, ◌+◌, ℕ, List, Some, IsErrOf, IfErr, OnOk};
-ghost use Rattle.ei_session.specs.Guard.{session};
+ghost use Rattle.std.specs.Prelude.{◌≡◌, ◌≤◌, ◌<◌, ◌+◌, ℕ, List, Some, IsErrOf, IfErr, OnOk};
+ghost use Rattle.ei_types.specs.Capability.{bits_of, all_bits};
 ghost use Rattle.ei_types.specs.declared.error.Error.TheVariants as error;
+ghost use Rattle.ei_session.specs.Served.{session};
+ghost use Rattle.ei_session.specs.Complete.{AreComplete};
 ghost use Rattle.ei_backend.specs.Outside.{Piece, Rose};
 ghost use Rattle.ei_backend.specs.declared.outside.LastAnswer.TheVariants as answers;
 ghost use Rattle.ei_serve.specs.Standing.{setup_of};
-ghost use Rattle.ei_serve.specs.Serving.{AnswersAs, IsDecided, IsCutShort, IsOfSession, IsSourceEnd, TookPieces, HandsOut, Replied, ReadValid, Handled};
-ghost use Rattle.ei_serve.specs.Serving.{HandledInPart, OwesLast};
+ghost use Rattle.ei_serve.specs.Serving.{AnswersAs, IsDecided, IsCutShort, IsOfSession, IsSourceEnd, TookPieces, TookAllOf, HandsOut, LeftReadings, Replied};
+ghost use Rattle.ei_serve.specs.Serving.{ReadValid, Handled, CutShort};
 
 use crate::session::{Ended, Session, Setup, Turn};
 use ei_backend::{Clock, Sink, Source};
@@ -18,7 +20,15 @@ use std::alloc::Global;
 /// Serves one client: greets it, shakes hands, announces one seat, and hands out its requests until it
 /// disconnects or the source is at its end.
 ///
-/// It is refused as `Session::start` and `Session::turn` are.
+/// It takes the setup's number of pieces and one more at most, and the capabilities have no bit that stands for none.
+///
+/// It is refused as `Session::start` and `Session::turn` are: `UnexpectedEof` where the source ends before
+/// the connection; `PieceLimit` where more pieces come than are taken; `HandleLimit` where more than 4096
+/// handles would be unread; `ReadFault`, `WriteFault` and `NoMemory`; `Parse` of what can't be read in a
+/// message; before the connection `Handshake` of `InvalidObject`, `DuplicateEvent` and `MissingInterface`;
+/// after it `InvalidInterfaceVersion` of a callback or a touchscreen, `Request` of `InvalidCapabilities`,
+/// `TooManyTouches`, `DuplicatedTouchDown` and `InvalidTextLength`, and `IdsExhausted` where the ids for a
+/// new device run out.
 #[tactic(auto, using(crate::proofs::Causes::rose_since))]
 pub fn serve<S: Source, K: Sink, C: Clock>(
     alloc: Global,
@@ -28,6 +38,7 @@ pub fn serve<S: Source, K: Sink, C: Clock>(
     setup: Setup,
     out: &mut Vec<EisRequest>,
 ) -> Result<Ended, Error>
+    requires lawful { bits_of setup.capabilities ≤ all_bits }
     // over a source that tells its pieces: the session that the definitions say
     ensures answer { (told : List Piece) → S.left source.old ≡ Some told →
         AnswersAs (session (setup_of setup) told).answer result }
@@ -35,28 +46,35 @@ pub fn serve<S: Source, K: Sink, C: Clock>(
         HandsOut (setup_of setup) (session (setup_of setup) told).handled (C.readings clock.old) out.old.items out.new.items }
     ensures replies { (told : List Piece) → S.left source.old ≡ Some told → IsDecided result →
         Replied (setup_of setup) (session (setup_of setup) told).handled (K.taken sink.old) (K.taken sink.new) }
+    ensures readings { (told : List Piece) → S.left source.old ≡ Some told → IsDecided result →
+        LeftReadings (setup_of setup) (session (setup_of setup) told).handled (C.readings clock.old) (C.readings clock.new) }
     ensures valid { (told : List Piece) → S.left source.old ≡ Some told →
         OnOk result (ReadValid (setup_of setup) told (S.left source.new) (session (setup_of setup) told).handled) }
+    ensures taken { (told : List Piece) → S.left source.old ≡ Some told → IsDecided result →
+        TookAllOf (setup_of setup) told (S.left source.new) result }
     ensures pieces { (told : List Piece) → S.left source.old ≡ Some told →
         (k : ℕ) × (k ≤ setup.pieces + 1) × TookPieces told (S.left source.new) k }
     // where the source failed, or the session was cut short
     ensures handled { (told : List Piece) → S.left source.old ≡ Some told → IsErrOf result error.ReadFault →
         Handled (setup_of setup) told (S.left source.new) (C.readings clock.old) out.old.items out.new.items (K.taken sink.old) (K.taken sink.new) }
-    ensures handled_in_part { (told : List Piece) → S.left source.old ≡ Some told → IsCutShort result →
-        HandledInPart (setup_of setup) (session (setup_of setup) told).handled (C.readings clock.old) out.old.items out.new.items (K.taken sink.old)
-        (K.taken sink.new) }
-    ensures owes { (told : List Piece) → S.left source.old ≡ Some told → IsCutShort result →
-        OwesLast (setup_of setup) told (S.left source.new) (K.taken sink.old) (K.taken sink.new) }
+    ensures cut_short { (told : List Piece) → S.left source.old ≡ Some told → IsCutShort result →
+        CutShort (setup_of setup) told (S.left source.new) (C.readings clock.old) out.old.items out.new.items (K.taken sink.old) (K.taken sink.new) }
+    // over pieces that make a good end sure, with no fault of the source and none of the sink
+    ensures complete { (told : List Piece) → S.left source.old ≡ Some told → AreComplete (setup_of setup) told →
+        (Rose (S.faults source.old) (S.faults source.new) → ⊥) → (Rose (K.faults sink.old) (K.faults sink.new) → ⊥) →
+        IfErr result (λ e. e ≡ error.NoMemory) }
     // over any source
     ensures only { IfErr result IsOfSession }
     ensures last_end { IsSourceEnd result → S.last source.new ≡ answers.End }
     ensures last_fault { IsErrOf result error.ReadFault → S.last source.new ≡ answers.Fault }
     // what the source says
     ensures read_fault { IsErrOf result error.ReadFault → Rose (S.faults source.old) (S.faults source.new) }
+    ensures read_risen { S.faults source.old < S.faults source.new → IsErrOf result error.ReadFault }
     ensures read_faults { S.faults source.old ≤ S.faults source.new }
     ensures later_source { S.later source.old source.new }
     // what the sink says
     ensures write_fault { IsErrOf result error.WriteFault → Rose (K.faults sink.old) (K.faults sink.new) }
+    ensures write_risen { K.faults sink.old < K.faults sink.new → IsErrOf result error.WriteFault }
     ensures write_faults { K.faults sink.old ≤ K.faults sink.new }
     ensures later_sink { K.later sink.old sink.new }
     // what the clock says

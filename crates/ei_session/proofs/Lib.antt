@@ -22,7 +22,6 @@ pub mod NewCallbacks
 pub mod WaitingLaws
 pub mod MadeLaws
 pub mod RefusalLaws
-pub mod GuardLaws
 pub mod AskedRows
 pub mod RowsMean
 pub mod ReadsMean

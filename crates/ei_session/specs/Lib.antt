@@ -16,7 +16,6 @@ pub mod Events
 pub mod AnsweredByMeaning
 pub mod Kept
 pub mod Served
-pub mod Guard
 pub mod Told
 pub mod Complete
 pub mod NextIds

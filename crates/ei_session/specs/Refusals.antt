@@ -32,8 +32,6 @@ pub data Refusal : Type 0 where
   Handshake : (error : HandshakeError) → Refusal
   InvalidInterfaceVersion : (interface : List ℕ) → (version : ℕ) → Refusal
   Request : (error : RequestError) → Refusal
-  -- the server isn't built for the message: by the guard alone, never by the judge
-  NotBuilt : Refusal
 
 -- ---- what can't be read
 

@@ -5,9 +5,6 @@
 //! tail of the list. Begin with `specs/Served.antt`, the session over pieces, which stands on `Refusals`,
 //! `Requests` and `Events`; these stand on `Inputs`, `Devices`, `Objects`, `Serial` and `Touches`.
 //!
-//! `Guard` has the same words for a server that isn't built for every request yet: what it isn't built for it
-//! refuses as that, and every other message is judged as in the session of all requests.
-//!
 //! What a request asks is told in `Meaning`, by its row in the table of messages. `ByMeaning` and
 //! `AnsweredByMeaning` have the item, the refusal and the answer by it, a line for each thing asked: what
 //! stands above reads no name and no byte. `Kept` says what a message leaves as it was.
@@ -16,7 +13,6 @@
 mod all_requests;
 mod completeness;
 mod devices_held;
-mod guarded;
 mod kinds_of_messages;
 mod meanings;
 mod next;
@@ -33,7 +29,6 @@ pub use all_requests::{
 };
 pub use completeness::complete_pieces;
 pub use devices_held::{fresh_devices, touch_counts};
-pub use guarded::{guarded_messages, guarded_sessions, guarded_streams};
 pub use kinds_of_messages::{
     finish_message, frames_made_by_item, given_by_item, handshake_messages, ids_run_out,
     other_inputs, plain_requests, seat_released,

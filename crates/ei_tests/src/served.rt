@@ -1,12 +1,14 @@
 //! One session of `serve`, with its outside in memory, and what it told.
 
-use crate::streams::Stream;
-use ei_backend::{Pieces, Readings, Tray};
+ghost use Rattle.std.specs.Prelude.{◌≤◌};
+ghost use Rattle.ei_types.specs.Capability.{bits_of, all_bits};
+
+use ei_backend::{Pieces, Readings, Sink};
 use ei_request::EisRequest;
 use ei_serve::{Ended, Setup, serve};
 use ei_types::{DeviceCapabilities, Error};
 use ei_wire::{Handle, NoMemory};
-use std::alloc::Global;
+use std::alloc::{AllocError, Global};
 use std::test::Fail;
 
 /// The most bytes of a piece.
@@ -16,7 +18,9 @@ pub(crate) const MOST_BYTES: usize = 65536;
 const MOST_HANDLES: usize = 64;
 
 /// What a server is started with: serial 5, all capabilities, and so many pieces.
-pub(crate) fn setup(pieces: u32) -> Setup {
+pub(crate) fn setup(pieces: u32) -> Setup
+    ensures { bits_of result.capabilities ≤ all_bits }
+{
     Setup {
         initial_serial: 5,
         capabilities: DeviceCapabilities::all(),
@@ -24,12 +28,20 @@ pub(crate) fn setup(pieces: u32) -> Setup {
     }
 }
 
-/// The bytes that the client sends.
-pub(crate) fn bytes_of(alloc: Global, stream: &Stream) -> Result<Vec<u8>, Fail> {
+/// All digits of the parts, without the blanks between them.
+pub(crate) fn digits_of(alloc: Global, parts: &[&str]) -> Result<String, AllocError> {
     let mut digits = String::new(alloc);
-    for sent in stream.sent {
-        digits.push_str(sent)?;
+    for part in parts {
+        for word in part.split(' ') {
+            digits.push_str(word)?;
+        }
     }
+    Ok(digits)
+}
+
+/// The bytes that the client sends.
+pub(crate) fn bytes_of(alloc: Global, sent: &[&str]) -> Result<Vec<u8>, Fail> {
+    let digits = digits_of(alloc, sent)?;
     Ok(hex::decode(alloc, digits.as_str())?)
 }
 
@@ -52,7 +64,7 @@ pub(crate) fn pieces_of(
 }
 
 /// Adds a piece of these bytes and so many handles.
-fn push_piece(
+pub(crate) fn push_piece(
     alloc: Global,
     pieces: &mut Pieces,
     bytes: &[u8],
@@ -66,41 +78,60 @@ fn push_piece(
     Ok(())
 }
 
-/// How a session ended, what the client asked for, and what was sent to it.
+/// How a session ended, and what the client asked for, as it is shown.
 #[derive(Debug, Drop)]
 pub(crate) struct Served {
     answer: Result<Ended, Error>,
-    requests: Vec<EisRequest>,
-    reply: String,
+    requests: Vec<String>,
 }
 
 impl Served {
-    /// A session over these pieces, of which so many are taken, and this sink.
-    pub(crate) fn over(
+    /// A session over these pieces and this sink, whose clock has these readings.
+    pub(crate) fn over<K: Sink>(
         alloc: Global,
-        most: u32,
+        setup: Setup,
+        readings: &[u64],
         source: &mut Pieces,
-        sink: &mut Tray,
-    ) -> Result<Served, NoMemory> {
-        let mut clock = Readings::new(alloc, &[7, 9])?;
+        sink: &mut K,
+    ) -> Result<Served, NoMemory>
+        requires { bits_of setup.capabilities ≤ all_bits }
+    {
+        let mut clock = Readings::new(alloc, readings)?;
         let mut requests = Vec::new(alloc);
-        let answer = serve(alloc, source, sink, &mut clock, setup(most), &mut requests);
+        let answer = serve(alloc, source, sink, &mut clock, setup, &mut requests);
         Ok(Served {
             answer,
-            requests,
-            reply: hex::encode(alloc, sink.bytes())?,
+            requests: texts_of(alloc, &requests)?,
         })
     }
 
-    /// Whether it is this that was told.
+    /// Whether it is this that was told, and that was sent.
     pub(crate) fn is(
         &self,
+        alloc: Global,
         answer: &Result<Ended, Error>,
-        requests: &[EisRequest],
-        reply: &str,
-    ) -> bool {
-        self.answer == *answer
-            && self.requests.as_slice() == requests
-            && self.reply.as_str() == reply
+        requests: &[&str],
+        (sent, reply): (&[u8], &[&str]),
+    ) -> Result<bool, AllocError> {
+        let is_sent = hex::encode(alloc, sent)? == digits_of(alloc, reply)?;
+        Ok(self.answer == *answer && are_same(&self.requests, requests) && is_sent)
     }
+}
+
+/// The requests as they are shown.
+fn texts_of(alloc: Global, requests: &[EisRequest]) -> Result<Vec<String>, NoMemory> {
+    let mut texts = Vec::new(alloc);
+    for request in requests {
+        texts.push(format!(in alloc; "{request:?}")?)?;
+    }
+    Ok(texts)
+}
+
+/// Whether the texts are these.
+fn are_same(found: &[String], wanted: &[&str]) -> bool {
+    let mut same = found.len() == wanted.len();
+    for (one, other) in found.iter().zip(wanted) {
+        same = same && one.as_str() == *other;
+    }
+    same
 }

@@ -4,13 +4,12 @@
 //! object in eight bytes, its length and its opcode in four each, the low byte first, and its arguments. A text is
 //! its length with the closing zero byte, its bytes, and zeros up to a multiple of four.
 
-use ei_request::EisRequest;
 use ei_serve::Ended;
 use ei_types::{Error, HandshakeError};
 use ei_wire::ParseError;
 
 /// `interface_version("ei_connection", 1)`: 40 bytes.
-const CONNECTION: &str =
+pub(crate) const CONNECTION: &str =
     "000000000000000028000000040000000e00000065695f636f6e6e656374696f6e00000001000000";
 
 /// `interface_version("ei_connection", 0)`: 40 bytes.
@@ -18,22 +17,24 @@ const CONNECTION_0: &str =
     "000000000000000028000000040000000e00000065695f636f6e6e656374696f6e00000000000000";
 
 /// `interface_version("ei_callback", 1)`: 36 bytes.
-const CALLBACK: &str = "000000000000000024000000040000000c00000065695f63616c6c6261636b0001000000";
+pub(crate) const CALLBACK: &str =
+    "000000000000000024000000040000000c00000065695f63616c6c6261636b0001000000";
 
 /// `interface_version("ei_callback", 7)`: 36 bytes.
 const CALLBACK_7: &str = "000000000000000024000000040000000c00000065695f63616c6c6261636b0007000000";
 
 /// `interface_version("ei_pingpong", 1)`: 36 bytes.
-const PINGPONG: &str = "000000000000000024000000040000000c00000065695f70696e67706f6e670001000000";
+pub(crate) const PINGPONG: &str =
+    "000000000000000024000000040000000c00000065695f70696e67706f6e670001000000";
 
 /// `interface_version("ei_seat", 2)`: 32 bytes.
 const SEAT: &str = "000000000000000020000000040000000800000065695f736561740002000000";
 
 /// `finish()`: 16 bytes.
-const FINISH: &str = "00000000000000001000000001000000";
+pub(crate) const FINISH: &str = "00000000000000001000000001000000";
 
 /// `disconnect()`: 16 bytes.
-const DISCONNECT: &str = "00000000000000ff1000000001000000";
+pub(crate) const DISCONNECT: &str = "00000000000000ff1000000001000000";
 
 /// Fifteen bytes, one fewer than a header has.
 const CUT_HEADER: &str = "000000000000000000000000000000";
@@ -43,7 +44,7 @@ pub(crate) const GREETING: &str = "0000000000000000140000000000000001000000";
 
 /// The greeting and the events that answer the finish: the three interfaces, the connection with serial 5, and a
 /// seat of version 1 that has no capability, since the client has no interface of one.
-const GREETING_AND_EVENTS: &str = concat!(
+pub(crate) const GREETING_AND_EVENTS: &str = concat!(
     "0000000000000000140000000000000001000000",
     "000000000000000028000000010000000e00000065695f636f6e6e656374696f6e00000001000000",
     "000000000000000024000000010000000c00000065695f63616c6c6261636b0001000000",
@@ -116,8 +117,8 @@ pub(crate) struct Stream {
     pub(crate) over_at: usize,
     /// How the session ends.
     pub(crate) answer: Result<Ended, Error>,
-    /// What the client asks for.
-    pub(crate) requests: &'static [EisRequest],
+    /// What the client asks for, as it is shown.
+    pub(crate) requests: &'static [&'static str],
     /// All that is sent to the client, in hexadecimal digits.
     pub(crate) reply: &'static str,
 }
@@ -129,7 +130,7 @@ pub(crate) const DISCONNECTED: Stream = Stream {
     shaken_at: 128,
     over_at: 144,
     answer: Ok(Ended::Disconnect),
-    requests: &[EisRequest::Disconnect],
+    requests: &["Disconnect"],
     reply: GREETING_AND_EVENTS,
 };
 
@@ -211,7 +212,7 @@ pub(crate) const TAKEN: [Stream; 16] = [
         shaken_at: 128,
         over_at: 144,
         answer: Ok(Ended::Disconnect),
-        requests: &[EisRequest::Disconnect],
+        requests: &["Disconnect"],
         reply: GREETING_AND_EVENTS,
     },
     Stream {
@@ -229,7 +230,7 @@ pub(crate) const TAKEN: [Stream; 16] = [
         shaken_at: 128,
         over_at: 144,
         answer: Ok(Ended::Disconnect),
-        requests: &[EisRequest::Disconnect],
+        requests: &["Disconnect"],
         reply: GREETING_AND_EVENTS,
     },
     Stream {
@@ -238,7 +239,7 @@ pub(crate) const TAKEN: [Stream; 16] = [
         shaken_at: 128,
         over_at: 144,
         answer: Ok(Ended::Disconnect),
-        requests: &[EisRequest::Disconnect],
+        requests: &["Disconnect"],
         reply: GREETING_AND_EVENTS,
     },
     Stream {
@@ -255,7 +256,7 @@ pub(crate) const TAKEN: [Stream; 16] = [
         shaken_at: 144,
         over_at: 160,
         answer: Ok(Ended::Disconnect),
-        requests: &[EisRequest::Disconnect],
+        requests: &["Disconnect"],
         reply: GREETING_AND_EVENTS_AND_NO_OBJECT_9,
     },
     Stream {
@@ -264,7 +265,7 @@ pub(crate) const TAKEN: [Stream; 16] = [
         shaken_at: 144,
         over_at: 160,
         answer: Ok(Ended::Disconnect),
-        requests: &[EisRequest::Disconnect],
+        requests: &["Disconnect"],
         reply: GREETING_AND_EVENTS_AND_NO_OBJECT_0,
     },
     Stream {
@@ -275,7 +276,7 @@ pub(crate) const TAKEN: [Stream; 16] = [
         shaken_at: 168,
         over_at: 184,
         answer: Ok(Ended::Disconnect),
-        requests: &[EisRequest::Disconnect],
+        requests: &["Disconnect"],
         reply: GREETING_AND_EVENTS_AND_NO_OBJECT_0,
     },
     Stream {
@@ -406,7 +407,7 @@ pub(crate) const REFUSED: [Stream; 13] = [
         ],
         shaken_at: 128,
         over_at: 145,
-        answer: Err(Error::NotBuilt),
+        answer: Err(Error::Parse(ParseError::MessageLength(18, 17))),
         requests: &[],
         reply: GREETING_AND_EVENTS,
     },

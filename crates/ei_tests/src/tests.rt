@@ -14,6 +14,9 @@ use std::test::Fail;
 /// More pieces than any stream comes in.
 const MANY: u32 = 1000;
 
+/// No request.
+const NONE: &[&str] = &[];
+
 /// A session over the bytes of a stream in pieces of this size, of which so many are taken. It tells what the
 /// stream's row says if its last byte comes in one of these, or the byte with which it is over. Else one piece
 /// too many came: nothing was asked for, and the reply depends on whether the finish had come.
@@ -26,18 +29,19 @@ fn check_cut(
 ) -> Result<(), Fail> {
     let mut source = pieces_of(alloc, bytes, size, 0)?;
     let mut sink = Tray::new(alloc);
-    let served = Served::over(alloc, most, &mut source, &mut sink)?;
+    let served = Served::over(alloc, setup(most), &[], &mut source, &mut sink)?;
     let taken = size.saturating_mul(most as usize);
-    let is_told = if stream.over_at <= taken || bytes.len() <= taken {
-        served.is(&stream.answer, stream.requests, stream.reply)
+    let limit = Err(Error::PieceLimit);
+    let (answer, requests, reply) = if stream.over_at <= taken || bytes.len() <= taken {
+        (&stream.answer, stream.requests, stream.reply)
     } else if stream.shaken_at <= taken {
-        served.is(&Err(Error::PieceLimit), &[], stream.reply)
+        (&limit, NONE, stream.reply)
     } else {
-        served.is(&Err(Error::PieceLimit), &[], GREETING)
+        (&limit, NONE, GREETING)
     };
     let name = stream.name;
     assert!(rt;
-        is_told,
+        served.is(alloc, answer, requests, (sink.bytes(), &[reply]))?,
         "{name} in pieces of {size}, of which {most} are taken: {served:?}"
     );
     assert!(rt; sink.handles().is_empty(), "{name}");
@@ -46,7 +50,7 @@ fn check_cut(
 
 /// A stream in each cut, where none is taken, one, one fewer than come, as many as come, or one more.
 fn check_stream(rt: &impl Abort, alloc: Global, stream: &Stream) -> Result<(), Fail> {
-    let bytes = bytes_of(alloc, stream)?;
+    let bytes = bytes_of(alloc, stream.sent)?;
     for size in [1, 5, 16, MOST_BYTES] {
         let count = u32::try_from(bytes.len().div_ceil(size.max(1)))?;
         for most in [
@@ -83,21 +87,20 @@ fn streams_are_refused_in_any_cut_and_at_any_piece_limit(rt: HostRuntime) -> Res
 #[test]
 fn too_many_handles_end_a_session(rt: HostRuntime) -> Result<(), Fail> {
     let alloc = rt.alloc();
-    let bytes = bytes_of(alloc, &DISCONNECTED)?;
+    let bytes = bytes_of(alloc, DISCONNECTED.sent)?;
     let (requests, reply) = (DISCONNECTED.requests, DISCONNECTED.reply);
-    let none: &[EisRequest] = &[];
     for (handles, most, answer, requests, reply) in [
         (4096, MANY, Ok(Ended::Disconnect), requests, reply),
-        (4097, MANY, Err(Error::HandleLimit), none, GREETING),
-        (4160, MANY, Err(Error::HandleLimit), none, GREETING),
-        (4160, 65, Err(Error::HandleLimit), none, GREETING),
-        (4160, 64, Err(Error::PieceLimit), none, GREETING),
+        (4097, MANY, Err(Error::HandleLimit), NONE, GREETING),
+        (4160, MANY, Err(Error::HandleLimit), NONE, GREETING),
+        (4160, 65, Err(Error::HandleLimit), NONE, GREETING),
+        (4160, 64, Err(Error::PieceLimit), NONE, GREETING),
     ] {
         let mut source = pieces_of(alloc, &bytes, 1, handles)?;
         let mut sink = Tray::new(alloc);
-        let served = Served::over(alloc, most, &mut source, &mut sink)?;
+        let served = Served::over(alloc, setup(most), &[], &mut source, &mut sink)?;
         assert!(rt;
-            served.is(&answer, requests, reply),
+            served.is(alloc, &answer, requests, (sink.bytes(), &[reply]))?,
             "{handles} handles, where {most} pieces are taken: {served:?}"
         );
     }
@@ -109,7 +112,7 @@ fn too_many_handles_end_a_session(rt: HostRuntime) -> Result<(), Fail> {
 #[test]
 fn a_fault_ends_a_session(rt: HostRuntime) -> Result<(), Fail> {
     let alloc = rt.alloc();
-    let bytes = bytes_of(alloc, &SHAKEN)?;
+    let bytes = bytes_of(alloc, SHAKEN.sent)?;
     for (take, put, answer, reply) in [
         (1, 9, Error::ReadFault, GREETING),
         (8, 9, Error::ReadFault, GREETING),
@@ -121,9 +124,9 @@ fn a_fault_ends_a_session(rt: HostRuntime) -> Result<(), Fail> {
         source.fail_at(take)?;
         let mut sink = Tray::new(alloc);
         sink.fail_at(put)?;
-        let served = Served::over(alloc, MANY, &mut source, &mut sink)?;
+        let served = Served::over(alloc, setup(MANY), &[], &mut source, &mut sink)?;
         assert!(rt;
-            served.is(&Err(answer), &[], reply),
+            served.is(alloc, &Err(answer), NONE, (sink.bytes(), &[reply]))?,
             "take {take} and put {put} fail: {served:?}"
         );
     }
@@ -134,7 +137,7 @@ fn a_fault_ends_a_session(rt: HostRuntime) -> Result<(), Fail> {
 #[test]
 fn a_session_is_over_behind_the_disconnect(rt: HostRuntime) -> Result<(), Fail> {
     let alloc = rt.alloc();
-    let bytes = bytes_of(alloc, &DISCONNECTED)?;
+    let bytes = bytes_of(alloc, DISCONNECTED.sent)?;
     let mut source = pieces_of(alloc, &bytes, 50, 0)?;
     let mut sink = Tray::new(alloc);
     let mut clock = Readings::new(alloc, &[])?;
@@ -151,6 +154,6 @@ fn a_session_is_over_behind_the_disconnect(rt: HostRuntime) -> Result<(), Fail> 
         assert_eq!(rt; session.is_over(), is_over, "{turn:?}");
         assert_eq!(rt; session.buffer_capacity(), held, "{turn:?}");
     }
-    assert_eq!(rt; out.as_slice(), DISCONNECTED.requests);
+    assert_eq!(rt; out.as_slice(), [EisRequest::Disconnect].as_slice());
     Ok(())
 }

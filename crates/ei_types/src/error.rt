@@ -84,8 +84,6 @@ pub enum Error {
     PieceLimit,
     /// Memory ran out.
     NoMemory,
-    /// The message is of an interface that isn't served yet.
-    NotBuilt,
 }
 
 impl From<EventError> for Error {
@@ -260,7 +258,6 @@ impl fmt::Display for Error {
             Error::MessageTooLong => f.write_str("message too long"),
             Error::PieceLimit => f.write_str("piece limit reached"),
             Error::NoMemory => f.write_str("out of memory"),
-            Error::NotBuilt => f.write_str("message not built"),
         }
     }
 }

@@ -1,5 +1,5 @@
 -- The session over the pieces of a text, and the report of it.
-use Rattle.std.proofs.Common.{◌≡◌, ◌≤◌, ◌⊎◌, inl, inr, ℕ, Bool, true, List, [], ◌∷◌, ◌++◌, false, length, take, drop, Option, Some, None, Result, Err, refl}
+use Rattle.std.proofs.Common.{◌≡◌, ◌≤◌, ◌<◌, ◌⊎◌, inl, inr, ℕ, Bool, true, List, [], ◌∷◌, ◌++◌, ◌-◌, false, length, take, drop, Option, Some, None, Result, Err, refl}
 use Rattle.std.proofs.Common.{sym, ap, ◌∙◌, subst, arith}
 use Rattle.std.proofs.lemmas.List.{append-nil, length-drop}
 use Rattle.std.specs.Prelude.{map, IsErrOf, IsSome}
@@ -11,15 +11,14 @@ use Rattle.ei_spec.specs.Groups.{grouped}
 use Rattle.ei_session.specs.Setup.{Setup}
 use Rattle.ei_session.specs.Requests.{framed}
 use Rattle.ei_session.specs.Handshake.{connected}
-use Rattle.ei_session.specs.Served.{Outcome, at_end, read_first_by}
-use Rattle.ei_session.specs.Guard.{judge, session, accepted, read_first, is_over}
-use Rattle.ei_session.proofs.AllParts.{session_end_by}
+use Rattle.ei_session.specs.Served.{Outcome, at_end, read_first_by, session, accepted, read_first, is_over}
+use Rattle.ei_session.proofs.AllParts.{session_end}
 use Rattle.ei_backend.specs.Memory.{TrayView}
 use Rattle.ei_backend.specs.Outside.{Rose, with_more}
-use Rattle.ei_request.specs.Converter.{asked_of}
+use Rattle.ei_standing.specs.Standing.{request_in_code}
 use Rattle.ei_request.specs.declared.event.EisRequest.{EisRequest}
 use Rattle.ei_serve.specs.declared.session.Ended.{Ended as HowEnded}
-use Rattle.ei_serve.specs.Serving.{AnswersAs, IsDecided, IsCutShort, AreReadings, HandsOut, Replied, Handled, HandledInPart}
+use Rattle.ei_serve.specs.Serving.{AnswersAs, IsDecided, IsCutShort, AreReadings, HandsOut, Replied, Handled, RepliedAtLeast, CutShort}
 use Rattle.ei_types.specs.declared.error.Error.{Error}
 use Rattle.ei_types.specs.declared.error.Error.TheVariants as error
 use Rattle.ei_backend.specs.declared.outside.LastAnswer.TheVariants as answers
@@ -42,6 +41,11 @@ pub handled_left : {I : Type 0} (text : I → Option (List ℕ)) (r : Reading I)
     after ≡ r.input → Handled setup pieces (left_of text r) readings old new took_old took_new → (unread : List ℕ) × Handled setup pieces (pieces_left unread (text after)) readings old new took_old took_new
 handled_left {I} text r after setup pieces readings old new took_old took_new same h =
     (r.held, subst (λ (i : I). Handled setup pieces (pieces_left r.held (text i)) readings old new took_old took_new) (sym same) h)
+
+pub cut_left : {I : Type 0} (text : I → Option (List ℕ)) (r : Reading I) (after : I) (setup : Setup) (pieces : List Piece) (readings : Option (List ℕ)) (old new : List EisRequest) (took_old took_new : Option Piece) →
+    after ≡ r.input → CutShort setup pieces (left_of text r) readings old new took_old took_new → (unread : List ℕ) × CutShort setup pieces (pieces_left unread (text after)) readings old new took_old took_new
+cut_left {I} text r after setup pieces readings old new took_old took_new same h =
+    (r.held, subst (λ (i : I). CutShort setup pieces (pieces_left r.held (text i)) readings old new took_old took_new) (sym same) h)
 
 none_at_end : (text : List ℕ) → IsAtEnd text → bad_line_of text ≡ None
 unfolding bad_line_of
@@ -81,7 +85,7 @@ all_handled : (setup : Setup) (pieces : List Piece) (k : ℕ) → k ≤ length p
 all_handled setup pieces k within none goes_on =
     let whole : k ≡ length pieces = omega (arith, within, length-drop k pieces, ap length none) in
     ap (λ (n : ℕ). accepted setup (stream (take n pieces))) whole ∙ sym (accepted_first setup pieces (length pieces))
-    ∙ sym (ap (λ (o : Outcome). o.handled) (session_end_by (judge setup) setup pieces (λ j low high. goes_on j low (omega (arith, high, whole)))))
+    ∙ sym (ap (λ (o : Outcome). o.handled) (session_end setup pieces (λ j low high. goes_on j low (omega (arith, high, whole)))))
 
 -- the requests and the replies of some messages
 abbrev pub Both : Setup → List Raw → Option (List ℕ) → List EisRequest → List EisRequest → Option Piece → Option Piece → Type 0
@@ -112,7 +116,7 @@ pieces_end past false c = rw c tt
 ends_first : (setup : Setup) (pieces : List Piece) (k : ℕ) → k ≤ length pieces → drop k pieces ≡ [] → ((j : ℕ) → 1 ≤ j → j ≤ k → is_over setup pieces j ≡ false) → IsPiecesEnd (session setup pieces).answer
 ends_first setup pieces k within none goes_on =
     let whole : k ≡ length pieces = omega (arith, within, length-drop k pieces, ap length none) in
-    subst (λ (o : Outcome). IsPiecesEnd o.answer) (sym (session_end_by (judge setup) setup pieces (λ j low high. goes_on j low (omega (arith, high, whole))))) (pieces_end (read_first setup pieces (length pieces)).past _ refl)
+    subst (λ (o : Outcome). IsPiecesEnd o.answer) (sym (session_end setup pieces (λ j low high. goes_on j low (omega (arith, high, whole))))) (pieces_end (read_first setup pieces (length pieces)).past _ refl)
 
 ended_of_handled : (setup : Setup) (pieces : List Piece) (left : Option (List Piece)) (readings : Option (List ℕ)) (old new : List EisRequest) (took_old took_new : Option Piece) → left ≡ Some [] →
     Handled setup pieces left readings old new took_old took_new → IsPiecesEnd (session setup pieces).answer
@@ -144,18 +148,35 @@ framed_none : (setup : Setup) (readings : List ℕ) → framed setup readings []
 unfolding framed each grouped joined
 framed_none setup readings = refl
 
+none_grown : (setup : Setup) (readings : List ℕ) (out : List EisRequest) → out ≡ out ++ map (request_in_code []) (framed setup readings [])
+none_grown setup readings out = rw (framed_none setup readings) (sym (append-nil out))
+
 none_more : (text : List ℕ) (held : Piece) → with_more (take 0 text) [] held ≡ held
 none_more text held = simp append-nil
 
-pub nothing_handled : (setup : Setup) (messages : List Raw) (readings : Option (List ℕ)) (out : List EisRequest) (took : Option Piece) → HandledInPart setup messages readings out out took took
-nothing_handled setup messages readings out took =
-    let r = readings_of readings in
-    record {
-      reached = [];
-      ahead = (messages, sym (append-nil messages));
-      requests = record { more = []; grown = sym (append-nil out); readings = r.0; told_so = r.1; framed_is = sym (framed_none setup r.0) };
-      replies = λ held told. (0, told ∙ ap (λ (x : Piece). Some x) (sym (none_more (reply_bytes setup []) held)));
-    }
+none_owed : (setup : Setup) (pieces : List Piece) → 0 < 0 → (done : List Raw) × ([] ≡ done ++ accepted setup (stream (take (0 - 1) pieces)))
+none_owed setup pieces lt = absurd (omega arith)
+
+none_replied : (setup : Setup) (pieces : List Piece) (took : Option Piece) → 0 < 0 → RepliedAtLeast setup (accepted setup (stream (take (0 - 1) pieces))) took took
+none_replied setup pieces took lt = absurd (omega arith)
+
+-- no piece was taken, and no message handled
+pub nothing_handled : (setup : Setup) (text : List ℕ) (left readings : Option (List ℕ)) (out : List EisRequest) (took : Option Piece) → left ≡ Some text →
+    (unread : List ℕ) × CutShort setup (pieces_of text) (pieces_left unread left) readings out out took took
+nothing_handled setup text left readings out took told =
+    let r = readings_of readings in (
+      [],
+      record {
+        k = 0;
+        took = record { within = omega arith; left_is = ap (pieces_left []) told };
+        reached = [];
+        ahead = ((session setup (pieces_of text)).handled, sym (append-nil (session setup (pieces_of text)).handled));
+        owed = none_owed setup (pieces_of text);
+        requests = record { readings = r.0; told_so = r.1; grown = none_grown setup r.0 out };
+        replies = λ held is. (0, is ∙ ap (λ (x : Piece). Some x) (sym (none_more (reply_bytes setup []) held)));
+        replied = none_replied setup (pieces_of text) took;
+      },
+    )
 
 -- ---- what is kept of the session
 
@@ -167,7 +188,7 @@ requests_of : (setup : Setup) (messages : List Raw) (readings : Option (List ℕ
 requests_of setup messages readings old new requests h none same = record {
   readings = h.readings;
   told_so = h.told_so;
-  framed_is = ap (map asked_of) (same ∙ h.grown ∙ ap (λ (x : List EisRequest). x ++ h.more) none) ∙ h.framed_is;
+  framed_is = same ∙ h.grown ∙ ap (λ (x : List EisRequest). x ++ map (request_in_code messages) (framed setup h.readings messages)) none;
 }
 
 held_is : (a b : Piece) → Some a ≡ Some b → a.bytes ≡ b.bytes
@@ -202,14 +223,22 @@ are_of_taken setup pieces left readings tray new reply old out requests k w =
       are_of = are_of setup (accepted setup (stream (take h.k pieces))) readings tray new reply old out requests k h.requests h.replies;
     }
 
-are_of_first : (setup : Setup) (messages : List Raw) (readings : Option (List ℕ)) (tray : TrayView) (new : Piece) (reply : List ℕ) (old out requests : List EisRequest) → Kept tray new reply old out requests →
-    HandledInPart setup messages readings old out (Some tray.held) (Some new) → AreOfFirst setup messages readings reply requests
-are_of_first setup messages readings tray new reply old out requests k h =
+are_of_first : (setup : Setup) (pieces : List Piece) (left : Option (List ℕ)) (readings : Option (List ℕ)) (tray : TrayView) (new : Piece) (reply : List ℕ) (old out requests : List EisRequest) → Kept tray new reply old out requests →
+    (unread : List ℕ) × CutShort setup pieces (pieces_left unread left) readings old out (Some tray.held) (Some new) → AreOfFirst setup pieces left readings reply requests
+are_of_first setup pieces left readings tray new reply old out requests k w =
+    let h = w.1 in
     let r = h.replies tray.held refl in
     record {
+      k = h.k;
+      unread = w.0;
+      took = h.took;
       reached = h.reached;
       ahead = h.ahead;
+      owed = h.owed;
       reply_is = (r.0, bytes_are tray new (take r.0 (reply_bytes setup h.reached)) reply r.1 k.empty k.reply_same);
+      replied = λ some.
+          let more = h.replied some tray.held refl in
+          (more.0, bytes_are tray new (reply_bytes setup (accepted setup (stream (take (h.k - 1) pieces))) ++ more.0) reply more.1 k.empty k.reply_same);
       requests_are = requests_of setup h.reached readings old out requests h.requests k.none k.requests_same;
     }
 
@@ -221,7 +250,7 @@ pub record Says (setup : Setup) (pieces : List Piece) (left : Option (List ℕ))
   pub gives : IsDecided answer → HandsOut setup (session setup pieces).handled readings old out
   pub replied : IsDecided answer → Replied setup (session setup pieces).handled (Some tray.held) (Some new)
   pub handled : IsErrOf answer error.ReadFault → (unread : List ℕ) × Handled setup pieces (pieces_left unread left) readings old out (Some tray.held) (Some new)
-  pub in_part : IsCutShort answer → HandledInPart setup (session setup pieces).handled readings old out (Some tray.held) (Some new)
+  pub cut : IsCutShort answer → (unread : List ℕ) × CutShort setup pieces (pieces_left unread left) readings old out (Some tray.held) (Some new)
 
 pub tells_session : (setup : Setup) (pieces : List Piece) (left : Option (List ℕ)) (readings : Option (List ℕ)) (answer : Result HowEnded Error) (tray : TrayView) (new : Piece) (reply : List ℕ) (old out requests : List EisRequest) (held : Piece) (result : ℕ) (now : Option Piece) →
     Says setup pieces left readings answer tray new old out → Kept tray new reply old out requests → Tells (status_of answer) (report_of reply requests answer) held result now → TellsSession setup pieces left readings held result now
@@ -232,7 +261,7 @@ tells_session setup pieces left readings answer tray new reply old out requests 
   answer_is = s.answers;
   decided = λ d. are_of setup (session setup pieces).handled readings tray new reply old out requests k (s.gives d) (s.replied d);
   failed = λ e. are_of_taken setup pieces left readings tray new reply old out requests k (s.handled e);
-  cut_short = λ e. are_of_first setup (session setup pieces).handled readings tray new reply old out requests k (s.in_part e);
+  cut_short = λ e. are_of_first setup pieces left readings tray new reply old out requests k (s.cut e);
   told = told;
 }
 

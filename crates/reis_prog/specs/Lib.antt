@@ -1,3 +1,4 @@
+pub mod Fields
 pub mod Held
 pub mod HexSource
 pub mod LaterReadings

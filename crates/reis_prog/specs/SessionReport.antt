@@ -1,14 +1,13 @@
 -- The report of the session over the pieces of a text, and the statuses that its answer allows.
-use Rattle.std.specs.Prelude.{◌≡◌, ◌≤◌, ◌⊎◌, ℕ, false, List, ◌++◌, take, map, Option, Some, None, Result, Err, IsErrOf}
+use Rattle.std.specs.Prelude.{◌≡◌, ◌≤◌, ◌<◌, ◌-◌, ◌⊎◌, ℕ, false, List, ◌++◌, take, map, Option, Some, None, Result, Err, IsErrOf}
 use Rattle.std.specs.Option.{option_map}
 use Rattle.ei_spec.specs.Message.{Raw, all_bytes}
 use Rattle.ei_spec.specs.Piece.{Piece, stream}
 use Rattle.ei_session.specs.Setup.{Setup}
 use Rattle.ei_session.specs.Requests.{framed}
 use Rattle.ei_session.specs.Events.{replies}
-use Rattle.ei_session.specs.Served.{Answer, Disconnect, End, UnexpectedEof}
-use Rattle.ei_session.specs.Guard.{session, is_over, accepted}
-use Rattle.ei_request.specs.Converter.{asked_of}
+use Rattle.ei_session.specs.Served.{Answer, Disconnect, End, UnexpectedEof, session, is_over, accepted}
+use Rattle.ei_standing.specs.Standing.{request_in_code}
 use Rattle.ei_request.specs.declared.event.EisRequest.{EisRequest}
 use Rattle.ei_serve.specs.declared.session.Ended.{Ended as HowEnded}
 use Rattle.ei_serve.specs.Serving.{AnswersAs, IsDecided, IsCutShort, TookPieces, AreReadings}
@@ -38,7 +37,7 @@ ForSession words told P = (setup : Setup) → setup_asked (command_of words) ≡
 pub record AreRequests (setup : Setup) (messages : List Raw) (told : Option (List ℕ)) (requests : List EisRequest) : Type 0 where
   pub readings : List ℕ
   pub told_so : AreReadings told readings
-  pub framed_is : map asked_of requests ≡ framed setup readings messages
+  pub framed_is : requests ≡ map (request_in_code messages) (framed setup readings messages)
 
 -- the bytes of the replies to messages
 abbrev pub reply_bytes : Setup → List Raw → List ℕ
@@ -61,11 +60,17 @@ pub record AreOfTaken (setup : Setup) (pieces : List Piece) (left : Option (List
   pub goes_on : (j : ℕ) → 1 ≤ j → j ≤ k → is_over setup pieces j ≡ false
   pub are_of : AreOf setup (accepted setup (stream (take k pieces))) readings reply requests
 
--- they are the requests of the first of the messages, and a front of the replies to these
-pub record AreOfFirst (setup : Setup) (messages : List Raw) (readings : Option (List ℕ)) (reply : List ℕ) (requests : List EisRequest) : Type 0 where
+-- They are the requests of the first of the session's messages, and a front of the replies to these. So many pieces were taken, and
+-- the messages of the pieces before the last are among them, and their replies in the front.
+pub record AreOfFirst (setup : Setup) (pieces : List Piece) (left : Option (List ℕ)) (readings : Option (List ℕ)) (reply : List ℕ) (requests : List EisRequest) : Type 0 where
+  pub k : ℕ
+  pub unread : List ℕ
+  pub took : TookPieces pieces (pieces_left unread left) k
   pub reached : List Raw
-  pub ahead : (more : List Raw) × (messages ≡ more ++ reached)
+  pub ahead : (more : List Raw) × ((session setup pieces).handled ≡ more ++ reached)
+  pub owed : 0 < k → (done : List Raw) × (reached ≡ done ++ accepted setup (stream (take (k - 1) pieces)))
   pub reply_is : (n : ℕ) × (reply ≡ take n (reply_bytes setup reached))
+  pub replied : 0 < k → (more : List ℕ) × (reply ≡ reply_bytes setup (accepted setup (stream (take (k - 1) pieces))) ++ more)
   pub requests_are : AreRequests setup reached readings requests
 
 -- The report of the session over these pieces was told, with the status of how it ended.
@@ -77,7 +82,7 @@ pub record TellsSession (setup : Setup) (pieces : List Piece) (left : Option (Li
   pub answer_is : AnswersAs (session setup pieces).answer answer
   pub decided : IsDecided answer → AreOf setup (session setup pieces).handled readings reply requests
   pub failed : IsErrOf answer error.ReadFault → AreOfTaken setup pieces left readings reply requests
-  pub cut_short : IsCutShort answer → AreOfFirst setup (session setup pieces).handled readings reply requests
+  pub cut_short : IsCutShort answer → AreOfFirst setup pieces left readings reply requests
   pub told : Tells (status_of answer) (report_of reply requests answer) held result now
 
 -- the report of the pieces taken was told, where the input failed

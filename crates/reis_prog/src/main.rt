@@ -4,6 +4,11 @@
 //! and `HexSource`, the pieces that a text spells.
 #![tactic(auto)]
 
+#[cfg(test)]
+mod client_tests;
+#[cfg(test)]
+mod device_tests;
+mod fields;
 mod held;
 mod hex_source;
 mod report;

@@ -2,12 +2,12 @@
 
 ghost use Rattle.std.specs.Prelude.{◌≡◌, ◌≤◌, ◌<◌, ◌⊎◌, ◌++◌, ℕ, List, Some, None, IfOk, OnOk, IsErrOf, IsSome};
 ghost use Rattle.std.specs.String.{string_bytes};
-ghost use Rattle.ei_types.specs.Capability.{bits_of};
+ghost use Rattle.ei_types.specs.Capability.{bits_of, all_bits};
 ghost use Rattle.ei_types.specs.declared.error.Error.TheVariants as error;
 ghost use Rattle.ei_backend.specs.Outside.{Piece, Rose};
-ghost use Rattle.ei_session.specs.Guard.{session};
+ghost use Rattle.ei_session.specs.Served.{session};
 ghost use Rattle.ei_serve.specs.Standing.{setup_of};
-ghost use Rattle.ei_serve.specs.Serving.{AnswersAs, IsDecided, IsCutShort, IsSourceEnd, HandsOut, Replied, Handled, HandledInPart};
+ghost use Rattle.ei_serve.specs.Serving.{AnswersAs, IsDecided, IsCutShort, IsSourceEnd, HandsOut, Replied, Handled, CutShort};
 ghost use Rattle.reis_prog.specs.Words.{command_of};
 ghost use Rattle.reis_prog.specs.Run.{end_text, request_lines, report_of, status_of, HasBadLine, Tells, TellsReport};
 ghost use Rattle.reis_prog.specs.SessionReport.{ForPieces, ForSession, TellsSession, TellsTaken, TellsAll, pieces_left, IsDone, IsPiecesEnd, IsStatusFor};
@@ -125,6 +125,7 @@ fn session<I: Input, C: Clock>(
     reply: &mut Tray,
     requests: &mut Vec<EisRequest>,
 ) -> Result<Ended, Error>
+    requires lawful { bits_of setup.capabilities ≤ all_bits }
     ensures answer { ForPieces (I.text input.old) (λ pieces. AnswersAs (session (setup_of setup) pieces).answer result) }
     ensures requests { ForPieces (I.text input.old) (λ pieces. IsDecided result →
         HandsOut (setup_of setup) (session (setup_of setup) pieces).handled (C.readings clock.old) requests.old.items requests.new.items) }
@@ -138,8 +139,8 @@ fn session<I: Input, C: Clock>(
         × Replied (setup_of setup) (session (setup_of setup) pieces).handled (Some reply.old.held) (Some reply.new.held))) }
     ensures pieces_end { ForPieces (I.text input.old) (λ pieces. IsErrOf result error.ReadFault → Rose (I.faults input.old) (I.faults input.new) ⊎
         IsPiecesEnd (session (setup_of setup) pieces).answer) }
-    ensures handled_in_part { ForPieces (I.text input.old) (λ pieces. IsCutShort result →
-        HandledInPart (setup_of setup) (session (setup_of setup) pieces).handled (C.readings clock.old) requests.old.items requests.new.items
+    ensures cut_short { ForPieces (I.text input.old) (λ pieces. IsCutShort result → (unread : List ℕ) ×
+        CutShort (setup_of setup) pieces (pieces_left unread (I.text input.new)) (C.readings clock.old) requests.old.items requests.new.items
         (Some reply.old.held) (Some reply.new.held)) }
     ensures whole { ForPieces (I.text input.old) (λ pieces. HasBadLine (I.text input.old) → IsSourceEnd result → ⊥) }
     ensures read_fault { IsErrOf result error.ReadFault → Rose (I.faults input.old) (I.faults input.new) ⊎ HasBadLine (I.text input.old) }
@@ -183,6 +184,7 @@ fn serve_and_tell<I: Input, O: Sink, C: Clock>(
     output: &mut O,
     clock: &mut C,
 ) -> u8
+    requires lawful { bits_of setup.capabilities ≤ all_bits }
     ensures session { ForPieces (I.text input.old) (λ pieces. (held : Piece) → O.taken output.old ≡ Some held →
         TellsSession (setup_of setup) pieces (I.text input.new) (C.readings clock.old) held result (O.taken output.new)) }
     ensures taken { ForPieces (I.text input.old) (λ pieces. result ≡ 3 → (held : Piece) → O.taken output.old ≡ Some held →

@@ -74,7 +74,7 @@ const PARTS: [Error; 4] = [
 ];
 
 /// Why a session stops, but for these.
-const STOPS: [Error; 11] = [
+const STOPS: [Error; 10] = [
     Error::UnexpectedEof,
     Error::ReadFault,
     Error::WriteFault,
@@ -85,7 +85,6 @@ const STOPS: [Error; 11] = [
     Error::InvalidInterfaceVersion("ei_callback", 7),
     Error::PieceLimit,
     Error::NoMemory,
-    Error::NotBuilt,
 ];
 
 /// The texts of the errors of that kind, with a dash between them; or what errors `become` in a session.

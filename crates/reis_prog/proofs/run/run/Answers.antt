@@ -1,6 +1,6 @@
 use Rattle.std.proofs.Common.{◌⊎◌, rules}
 use Rattle.ei_backend.specs.Outside.{Rose}
-use Rattle.ei_session.specs.Guard.{session}
+use Rattle.ei_session.specs.Served.{session}
 use Rattle.reis_prog.specs.Text.{pieces_of}
 use Rattle.reis_prog.specs.SessionReport.{TellsSession, TellsTaken, TellsAll, IsPiecesEnd}
 use Rattle.reis_prog.proofs.SessionLaws.{of_same}

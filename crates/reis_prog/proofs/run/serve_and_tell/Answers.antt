@@ -5,7 +5,7 @@ pub returns-clause-session : goal.returns-clause-session
 returns-clause-session g c = λ text told held takes.
     let says = c.session-answer.ensures in
     tells_session _ _ _ _ _ c.new-reply.result c.session-answer.new.reply.held c.bytes.result.now c.new-requests.result.items c.session-answer.new.requests.items c.deref.result.now _ _ _
-    (record { answers = says.answer text told; gives = says.requests text told; replied = says.replies text told; handled = says.handled text told; in_part = says.handled_in_part text told })
+    (record { answers = says.answer text told; gives = says.requests text told; replied = says.replies text told; handled = says.handled text told; cut = says.cut_short text told })
     (record { empty = c.new-reply.ensures; reply_same = c.bytes.ensures; none = c.new-requests.ensures.items; requests_same = c.deref.ensures.value })
     (c.tell_report.ensures.told held takes)
 

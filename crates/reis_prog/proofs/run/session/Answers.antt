@@ -2,11 +2,11 @@ use Rattle.std.proofs.Common.{sym, ◌∙◌}
 use Rattle.reis_prog.specs.HexSource.{reading_of}
 use Rattle.reis_prog.specs.Text.{pieces_of}
 use Rattle.reis_prog.proofs.ReadFaults.{read_fault}
-use Rattle.reis_prog.proofs.SessionLaws.{told_at_first, handled_left, rose_or_all, rose_or_ended, no_bad_line, nothing_handled}
+use Rattle.reis_prog.proofs.SessionLaws.{told_at_first, handled_left, cut_left, rose_or_all, rose_or_ended, no_bad_line, nothing_handled}
 use Rattle.reis_prog.proofs.run.session.Goals as goal
 
-pub returns-in_err-held-clause-handled_in_part : goal.returns-in_err-held-clause-handled_in_part
-returns-in_err-held-clause-handled_in_part g c = λ text told e. nothing_handled _ _ _ _ _
+pub returns-in_err-held-clause-cut_short : goal.returns-in_err-held-clause-cut_short
+returns-in_err-held-clause-cut_short g c = λ text told e. nothing_handled _ text _ _ _ _ told
 
 pub returns-clause-read_fault : goal.returns-clause-read_fault
 returns-clause-read_fault g c = λ e.
@@ -19,6 +19,12 @@ returns-clause-handled g c = λ text told e.
     let one_input = sym c.over-source.ensures.same_reference ∙ c.serve-answer.ensures.later_source.same_reference ∙ sym c.close-input.ensures.same_reference in
     handled_left g.I.Input.text (reading_of c.serve-answer.new.source) c.input-1.given.0 _ _ _ _ _ _ _ (c.input-1.given.1 one_input ∙ c.close-input.ensures.same)
     (c.serve-answer.ensures.handled (pieces_of text) (told_at_first g.I.Input.text _ _ text c.over-source.ensures.fresh told) e)
+
+pub returns-clause-cut_short : goal.returns-clause-cut_short
+returns-clause-cut_short g c = λ text told e.
+    let one_input = sym c.over-source.ensures.same_reference ∙ c.serve-answer.ensures.later_source.same_reference ∙ sym c.close-input.ensures.same_reference in
+    cut_left g.I.Input.text (reading_of c.serve-answer.new.source) c.input-1.given.0 _ _ _ _ _ _ _ (c.input-1.given.1 one_input ∙ c.close-input.ensures.same)
+    (c.serve-answer.ensures.cut_short (pieces_of text) (told_at_first g.I.Input.text _ _ text c.over-source.ensures.fresh told) e)
 
 pub returns-clause-whole : goal.returns-clause-whole
 returns-clause-whole g c = λ text told bad e.

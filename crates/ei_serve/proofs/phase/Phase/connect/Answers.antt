@@ -1,6 +1,7 @@
 use Rattle.std.proofs.Common.{◌∙◌, ap, Err}
 use Rattle.std.proofs.lemmas.Result.{err_from_is_err_and}
 use Rattle.ei_types.specs.declared.error.Error.{Error}
+use Rattle.ei_serve.proofs.Causes.{err_as, no_risen}
 use Rattle.ei_serve.proofs.Stepping.{connect_cut_off}
 use Rattle.ei_serve.proofs.phase.Phase.connect.Goals as goal
 
@@ -14,3 +15,11 @@ pub returns-clause-connects : goal.returns-clause-connects
 returns-clause-connects g c = λ before finish after handles u f o.
     let s = rw (← c.in-Handshake.ensures.value) at o in
     c.in_ok-connect.ensures.connects before finish after handles u f s
+
+pub returns-in_err-connect-clause-write_risen : goal.returns-in_err-connect-clause-write_risen
+returns-in_err-connect-clause-write_risen g c = λ lt.
+    let p = err_from_is_err_and c.from_residual.result c.from_residual.ensures.1 in
+    err_as _ _ _ (p.1 ∙ ap (λ (e : Error). Err e) p.2) (c.in_err-connect.ensures.write_risen lt)
+
+pub returns-clause-write_risen : goal.returns-clause-write_risen
+returns-clause-write_risen g c = λ lt. no_risen _ _ (c.in_ok-connect.ensures.write_risen lt)

@@ -1,4 +1,4 @@
-use Rattle.std.proofs.Common.{◌≡◌, Some, arith}
+use Rattle.std.proofs.Common.{◌≡◌, Some, refl, arith}
 use Rattle.ei_backend.specs.Outside.{Piece}
 use Rattle.ei_serve.specs.Causes.{GreetedInPart}
 use Rattle.ei_serve.proofs.Standing.{handshake_there}
@@ -18,4 +18,4 @@ pub returns-clause-greeted : goal.returns-clause-greeted
 returns-clause-greeted g c = λ held told. greeted held _ _ (greets _ _ c.in_ok-context.ensures c.in_ok-handshaker.ensures.greets) (c.in_ok-flush.ensures.took held told)
 
 pub returns-clause-stands : goal.returns-clause-stands
-returns-clause-stands g c = λ setup same. starts setup c.args.initial_serial _ _ _ _ c.in_ok-context.ensures c.in_ok-handshaker.ensures.greets c.in_ok-handshaker.ensures.fresh c.in_ok-flush.ensures.stops c.in_ok-flush.ensures.kept same (omega (arith, c.ranges.initial_serial))
+returns-clause-stands g c = λ setup lawful same. (refl, starts setup c.args.initial_serial _ _ _ _ c.in_ok-context.ensures c.in_ok-handshaker.ensures.greets c.in_ok-handshaker.ensures.fresh c.in_ok-flush.ensures.stops c.in_ok-flush.ensures.kept lawful same (omega (arith, c.ranges.initial_serial)))

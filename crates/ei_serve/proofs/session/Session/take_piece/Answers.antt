@@ -1,28 +1,28 @@
 use Rattle.std.proofs.Common.{◌∙◌, ap, Err, refl}
 use Rattle.std.proofs.lemmas.Result.{err_from_is_err_and}
 use Rattle.ei_types.specs.declared.error.Error.{Error}
-use Rattle.ei_session.specs.Guard.{accepted, reading_of}
+use Rattle.ei_session.specs.Served.{accepted, reading_of}
 use Rattle.ei_spec.specs.Piece.{stream}
 use Rattle.ei_serve.proofs.FewUnread.{unread_few}
 use Rattle.ei_serve.proofs.Turns.{err_takes, none_takes, some_takes, none_is_end}
 use Rattle.ei_serve.proofs.session.Session.take_piece.Goals as goal
 
 pub returns-in_err-piece_came-clause-takes : goal.returns-in_err-piece_came-clause-takes
-returns-in_err-piece_came-clause-takes g c = λ setup pieces s.
+returns-in_err-piece_came-clause-takes g c = λ setup pieces times s.
     let p = err_from_is_err_and c.from_residual.result c.from_residual.ensures.1 in
-    let r = c.read-read.ensures.reads setup (accepted setup (stream pieces)) (reading_of setup (stream pieces)).rest s.unread (unread_few setup (stream pieces) s.waits) s.phase in
-    err_takes setup pieces c.args.self.now s _ _ c.read-read.new.self c.is_full-is_full.result _ _ _ _ c.is_full-is_full.ensures.is r c.in_err-piece_came.ensures (p.1 ∙ ap (λ (e : Error). Err e) p.2)
+    let r = c.read-read.ensures.reads setup (accepted setup (stream pieces)) times (reading_of setup (stream pieces)).rest s.unread (unread_few setup (stream pieces) s.waits) s.phase in
+    err_takes setup pieces times c.args.self.now s _ _ c.read-read.new.self c.is_full-is_full.result _ _ _ _ c.is_full-is_full.ensures.is r c.in_err-piece_came.ensures (p.1 ∙ ap (λ (e : Error). Err e) p.2)
 
 pub returns-then-not-branch-clause-takes : goal.returns-then-not-branch-clause-takes
-returns-then-not-branch-clause-takes g c = λ setup pieces s.
-    let r = c.read-read.ensures.reads setup (accepted setup (stream pieces)) (reading_of setup (stream pieces)).rest s.unread (unread_few setup (stream pieces) s.waits) s.phase in
-    none_takes setup pieces c.args.self.now s _ _ c.read-read.new.self c.is_full-is_full.result _ _ _ r c.in_ok-piece_came.ensures c.if-not-branch.true refl refl refl
+returns-then-not-branch-clause-takes g c = λ setup pieces times s.
+    let r = c.read-read.ensures.reads setup (accepted setup (stream pieces)) times (reading_of setup (stream pieces)).rest s.unread (unread_few setup (stream pieces) s.waits) s.phase in
+    none_takes setup pieces times c.args.self.now s _ _ c.read-read.new.self c.is_full-is_full.result _ _ _ r c.in_ok-piece_came.ensures c.if-not-branch.true refl refl refl
 
 pub returns-clause-takes : goal.returns-clause-takes
-returns-clause-takes g c = λ setup pieces s.
-    let r = c.read-read.ensures.reads setup (accepted setup (stream pieces)) (reading_of setup (stream pieces)).rest s.unread (unread_few setup (stream pieces) s.waits) s.phase in
-    some_takes setup pieces c.args.self.now s _ _ c.read-read.new.self c.is_full-is_full.result _ _ _ c.is_full-is_full.ensures.is c.is_full-is_full.ensures.in_range r c.in_ok-piece_came.ensures c.if-not-branch.false refl refl c.saturating_add-self.ensures
+returns-clause-takes g c = λ setup pieces times s.
+    let r = c.read-read.ensures.reads setup (accepted setup (stream pieces)) times (reading_of setup (stream pieces)).rest s.unread (unread_few setup (stream pieces) s.waits) s.phase in
+    some_takes setup pieces times c.args.self.now s _ _ c.read-read.new.self c.is_full-is_full.result _ _ _ c.is_full-is_full.ensures.is c.is_full-is_full.ensures.in_range r c.in_ok-piece_came.ensures c.if-not-branch.false refl refl c.saturating_add-self.ensures
 
 pub returns-then-not-branch-clause-last_end : goal.returns-then-not-branch-clause-last_end
-returns-then-not-branch-clause-last_end g c = λ setup pieces s is.
-    c.read-read.ensures.last_end setup (accepted setup (stream pieces)) (reading_of setup (stream pieces)).rest s.unread s.phase (none_is_end _ _ _ c.in_ok-piece_came.ensures c.if-not-branch.true)
+returns-then-not-branch-clause-last_end g c = λ setup pieces times s is.
+    c.read-read.ensures.last_end setup (accepted setup (stream pieces)) times (reading_of setup (stream pieces)).rest s.unread s.phase (none_is_end _ _ _ c.in_ok-piece_came.ensures c.if-not-branch.true)

@@ -1,0 +1,81 @@
+-- Requests that close an open group.
+use Rattle.std.proofs.Common.{◌≡◌, ℕ, ◌<◌, ◌≤◌, Bool, true, false, List, [], ◌∷◌, ◌++◌, length, Option, Some, None, Result, Ok, Err, refl, sym, ap, ◌∙◌, subst, arith}
+use Rattle.std.specs.Prelude.{OnOk, OnErr, IfErr, IsSome, nat_lt}
+use Rattle.std.proofs.lemmas.Bool.Decides.{nat_tests}
+use Rattle.ei_types.specs.declared.error.Error.{Error}
+use Rattle.ei_types.specs.declared.error.Error.TheVariants as error
+use Rattle.ei_backend.specs.Outside.{Reads}
+use Rattle.ei_session.specs.Meaning.{Meaning}
+use Rattle.ei_request.specs.Keys.{DeviceKey}
+use Rattle.ei_request.specs.declared.event.EisRequest.{EisRequest}
+use Rattle.ei_request.specs.Held.{DeviceView, group_of, waiting_of}
+use Rattle.ei_request.specs.Connection.{ConnectionView}
+use Rattle.ei_request.specs.Converter.{ConverterView}
+use Rattle.ei_request.specs.Refusing.{refusal, Tells}
+use Rattle.ei_request.specs.Handling.{Times, is_some_waiting, device_in, emptied_at, closes, closes_group, handled, ClosesWith, HandlesTo}
+
+-- ---- when the clock is asked
+
+some_waiting : (o : Option DeviceView) → is_some_waiting o ≡ nat_lt 0 (length (waiting_of o))
+some_waiting None = refl
+some_waiting (Some d) = refl
+
+pub asked_of_clock : (o : Option DeviceView) (time : ℕ) (before after : Option (List ℕ)) → 0 < length (waiting_of o) →
+    ((told : List ℕ) → before ≡ Some told → Reads told after time) → Times true (is_some_waiting o) time before after
+asked_of_clock o time before after some reads =
+    let is : is_some_waiting o ≡ true = some_waiting o ∙ grind (arith, nat_tests) in
+    subst (λ (b : Bool). Times true b time before after) (sym is) reads
+
+pub not_asked_of_clock : (o : Option DeviceView) (time : ℕ) (before after : Option (List ℕ)) → length (waiting_of o) ≤ 0 →
+    after ≡ before → Times true (is_some_waiting o) time before after
+not_asked_of_clock o time before after none same =
+    let is : is_some_waiting o ≡ false = some_waiting o ∙ grind (arith, nat_tests) in
+    subst (λ (b : Bool). Times true b time before after) (sym is) same
+
+-- ---- what is done
+
+does_at : (old : ConverterView) (id time : ℕ) (request : EisRequest) (o : Option DeviceView) (handle : ConnectionView) (queue : List EisRequest) → IsSome o →
+    handle ≡ emptied_at old.handle id → queue ≡ (old.queue ++ group_of o old.handle.last_serial time) ++ request ∷ [] →
+    let new : ConverterView = record { handle = handle; queue = queue } in new ≡ closes old id time (λ device. request) o
+does_at old id time request None handle queue held h q = absurd cc
+does_at old id time request (Some d) handle queue held h q = rw (h, q) refl
+
+-- the open group of a device that is held is handed out, and the request behind it
+pub closed_with : (old : ConverterView) (id time : ℕ) (request : EisRequest) (before after : Option (List ℕ)) (handle : ConnectionView) (queue : List EisRequest) →
+    IsSome (device_in old id) → Times true (is_some_waiting (device_in old id)) time before after →
+    handle ≡ emptied_at old.handle id → queue ≡ (old.queue ++ group_of (device_in old id) old.handle.last_serial time) ++ request ∷ [] →
+    ClosesWith old id request before after (record { handle = handle; queue = queue })
+closed_with old id time request before after handle queue held clock h q = record {
+  time = time;
+  clock = clock;
+  does = does_at old id time request (device_in old id) handle queue held h q;
+}
+
+-- ---- any request that closes a group
+
+closes_same : (c : ConverterView) (id time : ℕ) (make : DeviceKey → EisRequest) (request : EisRequest) (o : Option DeviceView) (d : DeviceView) → o ≡ Some d → request ≡ make d.device →
+    closes c id time (λ device. request) o ≡ closes c id time make o
+closes_same c id time make request None d e r = absurd cc
+closes_same c id time make request (Some x) d e r =
+    let same : x ≡ d = cc in
+    rw (r, same) refl
+
+-- a request to a device that is held, which is made of the device's key
+pub closes_as : {X : Type 0} (readings : X → Option (List ℕ)) (old : ConverterView) (id version : ℕ) (meaning : Meaning) (make : DeviceKey → EisRequest) (request : EisRequest) (d : DeviceView)
+    (result : Result (Unit {0}) Error) (before after : X) (new : ConverterView) →
+    refusal old.handle id version meaning ≡ None → closes_group meaning ≡ true →
+    ((time : ℕ) → handled old id meaning time ≡ closes old id time make (device_in old id)) →
+    device_in old id ≡ Some d → request ≡ make d.device →
+    OnOk result (ClosesWith old id request (readings before) (readings after) new) → OnErr result (new ≡ old) → OnErr result (after ≡ before) → IfErr result (λ e. e ≡ error.NoMemory) →
+    HandlesTo old id version meaning (readings before) result (readings after) new
+closes_as readings old id version meaning make request d (Ok x) before after new taken group does found is ok err unread only = record {
+  time = ok.time;
+  accepted = taken;
+  clock = subst (λ (b : Bool). Times b (is_some_waiting (device_in old id)) ok.time (readings before) (readings after)) (sym group) ok.clock;
+  does = ok.does ∙ closes_same old id ok.time make request (device_in old id) d found is ∙ sym (does ok.time);
+}
+closes_as readings old id version meaning make request d (Err e) before after new taken group does found is ok err unread only = record {
+  why = rw only tt;
+  same = err;
+  unread = ap readings unread;
+}

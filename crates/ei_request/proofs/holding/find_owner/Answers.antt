@@ -1,0 +1,11 @@
+use Rattle.std.proofs.Common.{refl, sym}
+use Rattle.ei_request.specs.Held.{has_interface}
+use Rattle.ei_request.proofs.FirstOnes.{found_here, none_here}
+use Rattle.ei_request.proofs.holding.find_owner.Goals as goal
+
+pub returns-in-Some : goal.returns-in-Some
+returns-in-Some c =
+    sym (found_here (has_interface c.args.id) c.args.devices.now c.args.devices.now c.owner_place.result c.in-Some.at c.index-devices-at.result refl c.owner_place.ensures c.in-Some.is c.index-devices-at.is)
+
+pub returns-in-None : goal.returns-in-None
+returns-in-None c = sym (none_here (has_interface c.args.id) c.args.devices.now c.args.devices.now c.owner_place.result refl c.owner_place.ensures c.in-None.is)

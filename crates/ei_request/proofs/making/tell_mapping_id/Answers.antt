@@ -1,0 +1,11 @@
+use Rattle.std.proofs.Common.{◌≡◌, ℕ, ◌+◌, ◌≤◌, length, List, [], ◌∷◌, refl, ap, arith}
+use Rattle.ei_spec.specs.Value.{Letters, written}
+use Rattle.ei_backend.specs.Backend.{BackendView, unsent_of}
+use Rattle.ei_request.proofs.Rooms.{ok_at}
+use Rattle.ei_request.proofs.DeviceRooms.{spent_plain, text_size}
+use Rattle.ei_request.proofs.making.tell_mapping_id.Goals as goal
+
+pub returns-clause-spare : goal.returns-clause-spare
+returns-clause-spare c = λ n h s.
+    let is = ok_at c.region_mapping_id.result c.unwrap.result c.unwrap.ensures c.region_mapping_id.ensures.sends.ok in
+    spent_plain c.args.ctx.now c.region_mapping_id.new.ctx c.args.device.now.id 12 (Letters c.args.id.now ∷ []) n h (length (written (Letters c.args.id.now)) + 36) (ap unsent_of is) (ap (λ (b : BackendView). b.room) is) (omega (arith, text_size c.args.device.now.id 12 c.args.id.now)) refl s

@@ -1,0 +1,433 @@
+//! What a connection keeps of a seat and of a device.
+
+ghost use Rattle.std.specs.Prelude.{◌≡◌, ◌<◌, ◌≤◌, ◌+◌, ◌∷◌, [], ◌++◌, OnOk, OnErr, IfErr, Some, None, length, false};
+ghost use Rattle.std.specs.Prelude.{IfSome, nat_eq, position, if◌then◌else◌};
+ghost use Rattle.std.specs.Option.{option_copied};
+ghost use Rattle.std.specs.VecDeque.{deque_len, deque_capacity};
+ghost use Rattle.std.specs.List.{list_any};
+ghost use Rattle.ei_spec.specs.Interface.{Known};
+ghost use Rattle.ei_wire.specs.declared.error.SendError.TheVariants as send_error;
+ghost use Rattle.ei_request.specs.declared.input.Input.TheVariants as input;
+ghost use Rattle.ei_request.specs.Held.{released, is_of_key, is_of_seat, has_interface, without_interface, untouched, without_first};
+ghost use Rattle.ei_request.specs.Held.{takes_input, emptied, group_requests, device_ids, with_input};
+ghost use Rattle.ei_request.specs.Rising.{ObjectsRise};
+ghost use Rattle.ei_request.specs.Making.{is_one_of, object_of};
+ghost use Rattle.ei_request.specs.Refusing.{input_refusal, press_refusal, Tells};
+ghost use Rattle.ei_types.specs.declared.error.Error.TheVariants as error;
+
+use crate::device::Device;
+use crate::event::{self, EisRequest};
+use crate::input::Input;
+use ei_backend::{Interface, InterfaceName, Object};
+use ei_server::Seat as SeatProxy;
+use ei_spec::KnownInterface;
+use ei_spec::limits::{MOST_TEXT_BYTES, MOST_TOUCHES};
+use ei_types::{DeviceCapabilities, Error, RequestError};
+use ei_wire::{EiText, RawFloat, SendError};
+use std::alloc::Global;
+use std::collections::VecDeque;
+use std::marker::Model;
+
+/// A seat, with the capabilities that it was given, and whether the client released it.
+#[derive(Drop)]
+pub(crate) struct HeldSeat {
+    proxy: SeatProxy,
+    capabilities: DeviceCapabilities,
+    released: bool,
+}
+
+impl Model for HeldSeat {
+    ghost use Rattle.ei_request.specs.Held.{SeatView, seat_code};
+
+    ghost Value = { SeatView };
+
+    ghost coded = { seat_code };
+
+    ghost view = { λ s. record { proxy = s.proxy; capabilities = s.capabilities; released = s.released } };
+}
+
+impl HeldSeat {
+    /// A new seat.
+    pub(crate) fn new(proxy: SeatProxy, capabilities: DeviceCapabilities) -> HeldSeat
+        ensures { result ≡ record { proxy = proxy; capabilities = capabilities; released = false } }
+    {
+        HeldSeat {
+            proxy,
+            capabilities,
+            released: false,
+        }
+    }
+
+    /// The id.
+    pub(crate) fn id(&self) -> u64
+        ensures { result ≡ self.now.proxy.id }
+    {
+        self.proxy.as_object().id()
+    }
+
+    /// The proxy.
+    pub(crate) fn proxy(&self) -> &SeatProxy
+        ensures { result.now ≡ self.now.proxy }
+    {
+        &self.proxy
+    }
+
+    /// The capabilities that it was given.
+    pub(crate) fn capabilities(&self) -> DeviceCapabilities
+        ensures { result ≡ self.now.capabilities }
+    {
+        self.capabilities
+    }
+
+    /// Whether the client released it.
+    pub(crate) fn is_released(&self) -> bool
+        ensures { result ≡ self.now.released }
+    {
+        self.released
+    }
+
+    /// The client releases it.
+    pub(crate) fn release(&mut self)
+        ensures { self.new ≡ released self.old }
+    {
+        self.released = true;
+    }
+}
+
+/// A device, with its name, the interfaces that it has left by rising ids, the inputs that wait on it, and the
+/// touches that are down.
+#[derive(Drop)]
+pub(crate) struct HeldDevice {
+    device: Device,
+    name: Option<EiText>,
+    interfaces: Vec<Object>,
+    waiting: VecDeque<Input>,
+    touches: Vec<u32>,
+}
+
+impl Model for HeldDevice {
+    ghost use Rattle.ei_request.specs.Held.{DeviceView, device_code};
+
+    ghost Value = { DeviceView };
+
+    ghost coded = { device_code };
+
+    ghost view = { λ d. record { device = d.device; name = d.name; interfaces = d.interfaces.items; waiting = d.waiting.items; touches = d.touches.items } };
+}
+
+impl HeldDevice {
+    /// A new device on which nothing waits.
+    pub(crate) fn new(
+        alloc: Global,
+        device: Device,
+        name: Option<EiText>,
+        interfaces: Vec<Object>,
+    ) -> HeldDevice
+        ensures { result ≡ record { device = device; name = name; interfaces = interfaces.items; waiting = []; touches = [] } }
+    {
+        HeldDevice {
+            device,
+            name,
+            interfaces,
+            waiting: VecDeque::new(alloc),
+            touches: Vec::new(alloc),
+        }
+    }
+
+    /// The key.
+    pub(crate) fn device(&self) -> &Device
+        ensures { result.now ≡ self.now.device }
+    {
+        &self.device
+    }
+
+    /// The id.
+    pub(crate) fn id(&self) -> u64
+        ensures { result ≡ self.now.device.proxy.id }
+    {
+        self.device.id()
+    }
+
+    /// Whether it is the device of that key.
+    pub(crate) fn is(&self, device: &Device) -> bool
+        ensures { result ≡ is_of_key device.now self.now }
+    {
+        self.device == *device
+    }
+
+    /// Whether it is a device of the seat of that id.
+    pub(crate) fn is_of_seat(&self, seat: u64) -> bool
+        ensures { result ≡ is_of_seat seat self.now }
+    {
+        self.device.seat().id() == seat
+    }
+
+    /// The name.
+    pub(crate) fn name(&self) -> Option<&str>
+        ensures { option_copied result ≡ self.now.name }
+    {
+        match &self.name {
+            Some(name) => Some(name.as_str()),
+            None => None,
+        }
+    }
+
+    /// Whether the interface of that id is one that it has left.
+    pub(crate) fn has_interface(&self, id: u64) -> bool
+        ensures { result ≡ has_interface id self.now }
+    {
+        self.interfaces.iter().any(|object| object.id() == id)
+    }
+
+    /// Its object of the interface, if it has it left.
+    pub(crate) fn interface(&self, interface: KnownInterface) -> Option<&Object>
+        ensures object { option_copied result ≡ object_of interface self.now.interfaces }
+        ensures interface { IfSome result (λ o. o.now.interface ≡ Known interface) }
+    {
+        find_interface(&self.interfaces, interface)
+    }
+
+    /// The interface of that id leaves it.
+    pub(crate) fn give_up(&mut self, id: u64)
+        ensures { self.new ≡ without_interface id self.old }
+    {
+        take_out_interface(&mut self.interfaces, id);
+    }
+
+    /// How many inputs wait.
+    pub(crate) fn waiting(&self) -> usize
+        ensures { result ≡ length self.now.waiting }
+    {
+        self.waiting.len()
+    }
+
+    /// No touch is down any more.
+    pub(crate) fn clear_touches(&mut self)
+        ensures { self.new ≡ untouched self.old }
+    {
+        self.touches.clear();
+    }
+
+    /// Takes an input that comes through an interface of that version.
+    ///
+    /// `TooManyTouches` where a touch goes down and sixteen are, `DuplicatedTouchDown` where it is down;
+    /// `InvalidInterfaceVersion` where a touchscreen of a version below 2 cancels one; `InvalidTextLength` for a
+    /// text of no bytes or of more than 254; `NoMemory`. Then nothing changes.
+    pub(crate) fn take(&mut self, version: u32, input: Input) -> Result<(), Error>
+        ensures accepted { OnOk result (input_refusal version input (Some self.old) ≡ None) }
+        ensures ok { OnOk result (self.new ≡ takes_input input self.old) }
+        ensures why { IfErr result (Tells (input_refusal version input (Some self.old))) }
+        ensures err { OnErr result (self.new ≡ self.old) }
+    {
+        match input {
+            Input::TouchDown { touch_id, x, y } => {
+                press(&mut self.touches, &mut self.waiting, touch_id, x, y)
+            }
+            Input::TouchMotion { touch_id, x, y } => {
+                if has_touch(&self.touches, touch_id) {
+                    push_input(&mut self.waiting, Input::TouchMotion { touch_id, x, y })?;
+                }
+                Ok(())
+            }
+            Input::TouchUp { touch_id } => {
+                lift(
+                    &mut self.touches,
+                    &mut self.waiting,
+                    touch_id,
+                    Input::TouchUp { touch_id },
+                )
+            }
+            Input::TouchCancel { touch_id } => {
+                if version < 2 {
+                    return Err(Error::InvalidInterfaceVersion("ei_touchscreen", version));
+                }
+                lift(
+                    &mut self.touches,
+                    &mut self.waiting,
+                    touch_id,
+                    Input::TouchCancel { touch_id },
+                )
+            }
+            Input::TextUtf8 { text } => {
+                if text.len() == 0 || text.len() > MOST_TEXT_BYTES {
+                    return Err(Error::Request(RequestError::InvalidTextLength));
+                }
+                push_input(&mut self.waiting, Input::TextUtf8 { text })
+            }
+            input => push_input(&mut self.waiting, input),
+        }
+    }
+
+    /// Hands out what waits, each input with this time, and a frame of this serial behind them; nothing
+    /// where nothing waits. There is room for it.
+    pub(crate) fn hand_out(&mut self, queue: &mut VecDeque<EisRequest>, serial: u32, time: u64)
+        requires room { deque_len queue.old + length self.old.waiting + 2 ≤ deque_capacity queue.old }
+        ensures queue { queue.new.items ≡ queue.old.items ++ group_requests self.old.device self.old.waiting serial time }
+        ensures emptied { self.new ≡ emptied self.old }
+        ensures left { deque_len queue.new < deque_capacity queue.new }
+    {
+        push_group(queue, &self.device, &mut self.waiting, serial, time);
+    }
+
+    /// Adds the ids that go with it: those of its interfaces, and its own.
+    pub(crate) fn push_ids(&self, ids: &mut Vec<u64>) -> Result<(), SendError>
+        ensures ok { OnOk result (ids.new.items ≡ ids.old.items ++ device_ids self.now) }
+        ensures only { IfErr result (λ e. e ≡ send_error.NoMemory) }
+    {
+        for object in &self.interfaces {
+            ids.push(object.id())?;
+        }
+        ids.push(self.id())?;
+        Ok(())
+    }
+
+    /// The last of the ids that go with it, where they rise from above that one on, its own before those of its
+    /// interfaces; else `None`.
+    pub(crate) fn last_id_above(&self, from: u64) -> Option<u64>
+        ensures { IfSome result (λ last. (from < self.now.device.proxy.id) × ObjectsRise self.now.device.proxy.id last self.now.interfaces) }
+    {
+        let mut last = self.id();
+        if last <= from {
+            return None;
+        }
+        for object in &self.interfaces {
+            if object.id() <= last {
+                return None;
+            }
+            last = object.id();
+        }
+        Some(last)
+    }
+}
+
+/// Whether it is an object of the interface.
+fn is_object_of(object: &Object, interface: KnownInterface) -> bool
+    ensures { result ≡ is_one_of interface object.now }
+{
+    *object.interface_name() == InterfaceName::Known(interface)
+}
+
+/// The object of the interface among these.
+pub(crate) fn find_interface(objects: &[Object], interface: KnownInterface) -> Option<&Object>
+    ensures object { option_copied result ≡ object_of interface objects.now }
+    ensures interface { IfSome result (λ o. o.now.interface ≡ Known interface) }
+{
+    objects
+        .iter()
+        .find(|object| is_object_of(object, interface))
+}
+
+/// Where the object of that id stands.
+fn interface_place(objects: &[Object], id: u64) -> Option<usize>
+    ensures { result ≡ position (λ o. nat_eq o.id id) objects.now }
+{
+    objects.iter().position(|object| object.id() == id)
+}
+
+/// Takes the object of that id out.
+fn take_out_interface(objects: &mut Vec<Object>, id: u64)
+    ensures { objects.new.items ≡ without_first (λ o. nat_eq o.id id) objects.old.items }
+{
+    if let Some(at) = interface_place(objects, id) {
+        objects.remove(at);
+    }
+}
+
+/// Whether the touch is among these.
+fn has_touch(touches: &[u32], touch: u32) -> bool
+    ensures { result ≡ list_any (nat_eq touch) touches.now }
+{
+    touches.iter().any(|other| touch == *other)
+}
+
+/// Where the touch stands among these.
+fn touch_place(touches: &[u32], touch: u32) -> Option<usize>
+    ensures { result ≡ position (nat_eq touch) touches.now }
+{
+    touches.iter().position(|other| touch == *other)
+}
+
+/// An input waits.
+fn push_input(waiting: &mut VecDeque<Input>, input: Input) -> Result<(), Error>
+    ensures ok { OnOk result (waiting.new.items ≡ waiting.old.items ++ input ∷ []) }
+    ensures err { OnErr result (waiting.new.items ≡ waiting.old.items) }
+    ensures only { IfErr result (λ e. e ≡ error.NoMemory) }
+{
+    waiting.push_back(input)?;
+    Ok(())
+}
+
+/// A touch goes down, and the input waits.
+fn press(
+    touches: &mut Vec<u32>,
+    waiting: &mut VecDeque<Input>,
+    touch_id: u32,
+    x: RawFloat,
+    y: RawFloat,
+) -> Result<(), Error>
+    ensures ok { OnOk result (touches.new.items ≡ touches.old.items ++ touch_id ∷ []) }
+    ensures waits { OnOk result (waiting.new.items ≡ waiting.old.items ++ input.TouchDown touch_id x y ∷ []) }
+    ensures accepted { OnOk result (press_refusal touch_id touches.old.items ≡ None) }
+    ensures why { IfErr result (Tells (press_refusal touch_id touches.old.items)) }
+    ensures err { OnErr result (touches.new.items ≡ touches.old.items) }
+    ensures err_waiting { OnErr result (waiting.new.items ≡ waiting.old.items) }
+{
+    if touches.len() >= MOST_TOUCHES {
+        return Err(Error::Request(RequestError::TooManyTouches));
+    }
+    if has_touch(touches, touch_id) {
+        return Err(Error::Request(RequestError::DuplicatedTouchDown));
+    }
+    touches.reserve(1)?;
+    push_input(waiting, Input::TouchDown { touch_id, x, y })?;
+    touches.push_reserved(touch_id);
+    Ok(())
+}
+
+/// A touch that is down ends, and the input waits. Nothing where it isn't down.
+fn lift(
+    touches: &mut Vec<u32>,
+    waiting: &mut VecDeque<Input>,
+    touch_id: u32,
+    input: Input,
+) -> Result<(), Error>
+    ensures ok { OnOk result (touches.new.items ≡ without_first (nat_eq touch_id) touches.old.items) }
+    ensures waits { OnOk result (waiting.new.items ≡ (if list_any (nat_eq touch_id) touches.old.items then waiting.old.items ++ input ∷ [] else
+        waiting.old.items)) }
+    ensures err { OnErr result (touches.new.items ≡ touches.old.items) }
+    ensures err_waiting { OnErr result (waiting.new.items ≡ waiting.old.items) }
+    ensures only { IfErr result (λ e. e ≡ error.NoMemory) }
+{
+    let Some(at) = touch_place(touches, touch_id) else {
+        return Ok(());
+    };
+    push_input(waiting, input)?;
+    touches.remove(at);
+    Ok(())
+}
+
+/// Hands out a group. There is room for it, and for one more request behind it.
+fn push_group(
+    queue: &mut VecDeque<EisRequest>,
+    device: &Device,
+    waiting: &mut VecDeque<Input>,
+    serial: u32,
+    time: u64,
+)
+    requires room { deque_len queue.old + deque_len waiting.old + 2 ≤ deque_capacity queue.old }
+    ensures queue { queue.new.items ≡ queue.old.items ++ group_requests device.now waiting.old.items serial time }
+    ensures emptied { waiting.new.items ≡ [] }
+    ensures left { deque_len queue.new < deque_capacity queue.new }
+{
+    if waiting.is_empty() {
+        return;
+    }
+    while let Some(input) = waiting.pop_front() {
+        queue.push_back_reserved(input.timed(device.copy(), time));
+    }
+    queue.push_back_reserved(EisRequest::Frame(event::Frame {
+        device: device.copy(),
+        last_serial: serial,
+        time,
+    }));
+}

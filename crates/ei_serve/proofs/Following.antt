@@ -1,0 +1,49 @@
+-- What is done behind the requests that are handed out.
+use Rattle.std.proofs.Common.{◌≡◌, true, List, [], ◌∷◌, ◌++◌, Option, Some, None, Result, Ok, Err, is_some, refl, ap, ◌∙◌}
+use Rattle.std.specs.Prelude.{find, OnOk}
+use Rattle.ei_spec.specs.Interface.{ObjectView}
+use Rattle.ei_backend.specs.Endpoint.{endpoint_of}
+use Rattle.ei_wire.specs.declared.error.SendError.{SendError}
+use Rattle.ei_types.specs.declared.capability.DeviceCapabilities.{DeviceCapabilities}
+use Rattle.ei_types.specs.declared.enums.DeviceType.TheVariants.{Virtual}
+use Rattle.ei_session.specs.Events.{resumed_event}
+use Rattle.ei_request.specs.declared.event.EisRequest.{EisRequest}
+use Rattle.ei_request.specs.Keys.{DeviceKey}
+use Rattle.ei_request.specs.Held.{SeatView, is_seat}
+use Rattle.ei_request.specs.Connection.{ConnectionView}
+use Rattle.ei_request.specs.Sending.{tells}
+use Rattle.ei_request.specs.Making.{AddsDevice, granted_by, new_device}
+use Rattle.ei_serve.specs.declared.policy.Policy.{Policy}
+use Rattle.ei_serve.specs.Policy.{policy_of, policy_behind, AddsResumed, AddsIfHeld}
+
+-- ---- the last request
+
+-- what is done behind some requests, where that was done behind those before them
+abbrev pub policy_after : Policy → List EisRequest → Policy
+policy_after p [] = p
+policy_after p (r ∷ rs) = policy_behind (r ∷ rs)
+
+-- of one more
+pub after_one : (p : Policy) (r : EisRequest) (rs : List EisRequest) → policy_after (policy_of r) rs ≡ policy_after p (r ∷ rs)
+after_one p r [] = refl
+after_one p r (s ∷ rs) = refl
+
+-- behind all
+pub behind_last : (xs : List EisRequest) (r : EisRequest) → policy_behind (xs ++ r ∷ []) ≡ policy_of r
+behind_last [] r = refl
+behind_last (x ∷ []) r = refl
+behind_last (x ∷ y ∷ xs) r = behind_last (y ∷ xs) r
+
+-- ---- a device that is added
+
+if_held : (o : Option SeatView) (old : ConnectionView) (seat : ObjectView) (wanted : DeviceCapabilities) (new : ConnectionView) → is_some o ≡ true → AddsResumed old seat wanted new → AddsIfHeld o old seat wanted new
+if_held None old seat wanted new h a = absurd cc
+if_held (Some s) old seat wanted new h a = a
+
+pub adds_resumed : (r : Result Unit SendError) (old mid new : ConnectionView) (seat : ObjectView) (wanted : DeviceCapabilities) (d : DeviceKey) → is_some (find (is_seat seat.id) old.seats) ≡ true →
+    AddsDevice old seat None Virtual (granted_by (find (is_seat seat.id) old.seats) wanted) [] mid →
+    d ≡ (new_device (endpoint_of old.ctx) old.negotiated seat None (granted_by (find (is_seat seat.id) old.seats) wanted)).device → OnOk r (new ≡ tells mid (resumed_event d.proxy.id)) →
+    OnOk r (AddsIfHeld (find (is_seat seat.id) old.seats) old seat wanted new)
+adds_resumed (Ok x) old mid new seat wanted d h a d_is t =
+    if_held (find (is_seat seat.id) old.seats) old seat wanted new h (record { mid = mid; adds = a; resumes = t ∙ ap (λ (k : DeviceKey). tells mid (resumed_event k.proxy.id)) d_is })
+adds_resumed (Err e) old mid new seat wanted d h a d_is t = tt

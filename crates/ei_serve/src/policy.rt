@@ -1,0 +1,84 @@
+//! What a session does behind the requests that it hands out: its fixed policy.
+
+ghost use Rattle.std.specs.Prelude.{◌≡◌, ◌↔◌, OnOk, IsErrOf, find};
+ghost use Rattle.ei_wire.specs.declared.error.SendError.TheVariants as send_error;
+ghost use Rattle.ei_request.specs.Held.{is_seat};
+ghost use Rattle.ei_serve.specs.Policy.{policy_of, device_if, Follows, LacksIds, AddsIfHeld, RunOutIfHeld};
+
+use ei_request::{Connection, Device, EisRequest, Seat};
+use ei_types::{DeviceCapabilities, DeviceType};
+use ei_wire::SendError;
+
+/// What is done behind a request.
+#[derive(Drop)]
+pub(crate) enum Policy {
+    /// Nothing.
+    Nothing,
+    /// A device of the seat with these capabilities is announced, and takes input from then on.
+    AddDevice(Seat, DeviceCapabilities),
+    /// The device is taken away.
+    RemoveDevice(Device),
+    /// The session ends.
+    End,
+}
+
+/// What is done behind the request. A `bind` or `request_device` makes a device where some capability is wanted.
+pub(crate) fn policy_of(request: &EisRequest) -> Policy
+    ensures { result ≡ policy_of request.now }
+{
+    match request {
+        EisRequest::Bind(bind) => device_if(&bind.seat, bind.capabilities),
+        EisRequest::RequestDevice(asked) => device_if(&asked.seat, asked.capabilities),
+        EisRequest::DeviceClosed(closed) => Policy::RemoveDevice(closed.device.clone().unwrap()),
+        EisRequest::Disconnect => Policy::End,
+        _ => Policy::Nothing,
+    }
+}
+
+/// A device for the seat, where some capability is wanted.
+fn device_if(seat: &Seat, wanted: DeviceCapabilities) -> Policy
+    ensures { result ≡ device_if seat.now wanted }
+{
+    if wanted.bits() == 0 {
+        Policy::Nothing
+    } else {
+        // A key's clone takes no memory.
+        Policy::AddDevice(seat.clone().unwrap(), wanted)
+    }
+}
+
+impl Policy {
+    /// Does it.
+    ///
+    /// `IdsExhausted` exactly where a device is to be announced and the own ids run out with it; `NoMemory`.
+    pub(crate) fn follow(&self, handle: &mut Connection) -> Result<(), SendError>
+        ensures ok { OnOk result (Follows self.now handle.old handle.new) }
+        ensures exhausted { IsErrOf result send_error.IdsExhausted ↔ LacksIds self.now handle.old }
+        ensures short { IsErrOf result send_error.MessageTooLong → ⊥ }
+        ensures ring { handle.new.ctx.capacity ≡ handle.old.ctx.capacity }
+    {
+        match self {
+            Policy::AddDevice(seat, wanted) => add_device(handle, seat, *wanted),
+            Policy::RemoveDevice(device) => device.remove(handle),
+            Policy::Nothing | Policy::End => Ok(()),
+        }
+    }
+}
+
+/// Announces a device of the seat, if that is held, and that it takes input.
+fn add_device(
+    handle: &mut Connection,
+    seat: &Seat,
+    wanted: DeviceCapabilities,
+) -> Result<(), SendError>
+    ensures ok { OnOk result (AddsIfHeld (find (is_seat seat.now.id) handle.old.seats) handle.old seat.now wanted handle.new) }
+    ensures exhausted { IsErrOf result send_error.IdsExhausted ↔ RunOutIfHeld (find (is_seat seat.now.id) handle.old.seats) handle.old wanted }
+    ensures short { IsErrOf result send_error.MessageTooLong → ⊥ }
+    ensures ring { handle.new.ctx.capacity ≡ handle.old.ctx.capacity }
+{
+    if !handle.has_seat(seat) {
+        return Ok(());
+    }
+    let device = seat.add_device(handle, None, DeviceType::Virtual, wanted, &[])?;
+    device.resumed(handle)
+}

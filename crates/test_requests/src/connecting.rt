@@ -1,0 +1,106 @@
+//! The handshake of a client, up to the connection.
+
+use crate::stop::Stop;
+use crate::words::{bytes, number};
+use crate::world::World;
+use ei_backend::{HasBackend, Pieces, Tray};
+use ei_handshake::{EisHandshakeResp, EisHandshaker, request_result};
+use ei_request::EisRequestConverter;
+use ei_server::Context;
+use std::alloc::Global;
+
+/// The most bytes of a piece.
+const PIECE: usize = 65536;
+
+/// What a client sends until the connection, and the connection that was made last.
+#[derive(Drop)]
+pub(crate) struct Greeting {
+    pub(crate) alloc: Global,
+    sent: Vec<u8>,
+    pub(crate) world: Option<World>,
+}
+
+impl Greeting {
+    /// A client that sends nothing.
+    pub(crate) fn new(alloc: Global) -> Greeting {
+        Greeting {
+            alloc,
+            sent: Vec::new(alloc),
+            world: None,
+        }
+    }
+
+    /// The client sends nothing any more.
+    pub(crate) fn forget(&mut self) {
+        self.sent.clear();
+    }
+
+    /// The client sends these bytes too. It answers how many there are then.
+    pub(crate) fn send(&mut self, digits: &str) -> Result<String, Stop> {
+        self.sent.extend_from_slice(&bytes(self.alloc, digits)?)?;
+        Ok(format!(in self.alloc; "{}", self.sent.len())?)
+    }
+
+    /// Makes the connection, with that serial, and answers what the client told.
+    pub(crate) fn connect(&mut self, serial: &str) -> Result<String, Stop> {
+        let mut world = connected(self.alloc, number(serial)?, &self.sent)?;
+        let handle = world.handle();
+        let answer = format!(in self.alloc;
+            "{:?} {:?} {}",
+            handle.context_type(),
+            handle.name(),
+            handle.negotiated().len()
+        )?;
+        world
+            .converter
+            .handle_mut()
+            .flush(&mut Tray::new(self.alloc))?;
+        self.world = Some(world);
+        Ok(answer)
+    }
+}
+
+/// The bytes in pieces.
+pub(crate) fn in_pieces(alloc: Global, bytes: &[u8]) -> Result<Pieces, Stop> {
+    let mut pieces = Pieces::new(alloc);
+    for piece in bytes.chunks(PIECE) {
+        if piece.is_empty() || piece.len() > PIECE {
+            return Err(Stop::Line);
+        }
+        pieces.push(piece, &[])?;
+    }
+    Ok(pieces)
+}
+
+/// A fresh context to which these bytes came.
+pub(crate) fn reached(alloc: Global, bytes: &[u8]) -> Result<Context, Stop> {
+    let mut context = Context::new(alloc)?;
+    context.read(&mut in_pieces(alloc, bytes)?)?;
+    Ok(context)
+}
+
+/// The world behind the handshake of a client that sends these bytes.
+fn connected(alloc: Global, serial: u32, sent: &[u8]) -> Result<World, Stop> {
+    let mut context = reached(alloc, sent)?;
+    if context.handshake().is_none() {
+        return Err(Stop::Handshake);
+    }
+    let mut handshaker = EisHandshaker::new(alloc, &mut context, serial)?;
+    let resp = shaken(&mut handshaker, &mut context)?;
+    let converter = EisRequestConverter::new(alloc, context, resp, serial);
+    Ok(World::new(alloc, converter)?)
+}
+
+/// What the handshake answers.
+fn shaken(handshaker: &mut EisHandshaker, context: &mut Context) -> Result<EisHandshakeResp, Stop> {
+    for _ in 0..context.unread_len() {
+        let Some(pending) = context.pending_request()? else {
+            break;
+        };
+        let request = request_result(pending)?;
+        if let Some(resp) = handshaker.handle_request(context, request)? {
+            return Ok(resp);
+        }
+    }
+    Err(Stop::Handshake)
+}

@@ -1,0 +1,208 @@
+//! Seats and devices that are announced, and the events of devices.
+
+use crate::stop::Stop;
+use crate::words::{capabilities, first, number, place, text, time};
+use crate::world::World;
+use ei_backend::{Backend, HasBackend, InterfaceName};
+use ei_request::{Connection, Device, DeviceSetup, Seat};
+use ei_spec::Handle;
+use ei_types::{DeviceCapabilities, DeviceCapability, DeviceType, KeymapType};
+use ei_wire::{RawFloat, SendError};
+use std::alloc::Global;
+use std::fmt::Debug;
+
+/// `add-seat TEXT CAPABILITIES`: the seat of that name.
+pub(crate) fn add_seat(world: &mut World, rest: &str) -> Result<String, Stop> {
+    let (name, mask) = first(rest);
+    let name = text(world.alloc, name)?;
+    let handle = world.converter.handle_mut();
+    let seat = handle.add_seat(letters(&name), capabilities(mask)?);
+    let answer = shown(world.alloc, &seat)?;
+    if let Ok(seat) = seat {
+        world.seats.push(seat)?;
+    }
+    Ok(answer)
+}
+
+/// The text as a slice.
+pub(crate) fn letters(text: &Option<String>) -> Option<&str> {
+    match text {
+        Some(text) => Some(text.as_str()),
+        None => None,
+    }
+}
+
+/// A value by its name.
+pub(crate) fn shown<T: Debug>(alloc: Global, value: &T) -> Result<String, Stop> {
+    Ok(format!(in alloc; "{value:?}")?)
+}
+
+/// What a device is said to be.
+#[derive(Drop)]
+struct Described<'a> {
+    name: Option<String>,
+    device_type: DeviceType,
+    capabilities: DeviceCapabilities,
+    items: Vec<DeviceSetup<'a>>,
+}
+
+/// What a line says of a device: its name, its type, its capabilities and the items of its description.
+fn description<'a>(alloc: Global, line: &'a str) -> Result<Described<'a>, Stop> {
+    let (name, rest) = first(line);
+    let (kind, rest) = first(rest);
+    let (mask, rest) = first(rest);
+    Ok(Described {
+        name: text(alloc, name)?,
+        device_type: device_type(kind)?,
+        capabilities: capabilities(mask)?,
+        items: items(alloc, rest)?,
+    })
+}
+
+/// The type of that name.
+fn device_type(word: &str) -> Result<DeviceType, Stop> {
+    match word {
+        "virtual" => Ok(DeviceType::Virtual),
+        "physical" => Ok(DeviceType::Physical),
+        _ => Err(Stop::Line),
+    }
+}
+
+/// The items that the words say.
+fn items<'a>(alloc: Global, line: &'a str) -> Result<Vec<DeviceSetup<'a>>, Stop> {
+    let mut items = Vec::new(alloc);
+    let mut rest = line;
+    for _ in 0..line.len() {
+        if rest.is_empty() {
+            break;
+        }
+        let (word, others) = first(rest);
+        items.push(item(word)?)?;
+        rest = others;
+    }
+    Ok(items)
+}
+
+/// The item that a word says.
+fn item(word: &str) -> Result<DeviceSetup<'_>, Stop> {
+    let (kind, rest) = word.split_once(':').ok_or(Stop::Line)?;
+    match kind {
+        "dimensions" => dimensions(rest),
+        "mapping-id" => Ok(DeviceSetup::RegionMappingId(rest)),
+        "region" => region(rest),
+        "keymap" => keymap(rest),
+        _ => Err(Stop::Line),
+    }
+}
+
+/// The number before the next colon, and the rest.
+fn next_number(rest: &str) -> Result<(u32, &str), Stop> {
+    let (word, rest) = rest.split_once(':').unwrap_or((rest, ""));
+    Ok((number(word)?, rest))
+}
+
+fn dimensions<'a>(rest: &str) -> Result<DeviceSetup<'a>, Stop> {
+    let (width, rest) = next_number(rest)?;
+    let height = number(rest)?;
+    Ok(DeviceSetup::Dimensions { width, height })
+}
+
+fn region<'a>(rest: &str) -> Result<DeviceSetup<'a>, Stop> {
+    let (offset_x, rest) = next_number(rest)?;
+    let (offset_y, rest) = next_number(rest)?;
+    let (width, rest) = next_number(rest)?;
+    let (hight, rest) = next_number(rest)?;
+    let scale = RawFloat(number(rest)?);
+    Ok(DeviceSetup::Region {
+        offset_x,
+        offset_y,
+        width,
+        hight,
+        scale,
+    })
+}
+
+fn keymap<'a>(rest: &str) -> Result<DeviceSetup<'a>, Stop> {
+    let (size, rest) = next_number(rest)?;
+    let handle = Handle(number(rest)?);
+    Ok(DeviceSetup::Keymap {
+        keymap_type: KeymapType::Xkb,
+        size,
+        handle,
+    })
+}
+
+/// `add-device SEAT TEXT TYPE CAPABILITIES ITEM ..`: the device of the seat of that place, of that name and that type,
+/// with these items, where it gets a keyboard; else with none.
+pub(crate) fn add_device(world: &mut World, rest: &str) -> Result<String, Stop> {
+    let (seat, rest) = first(rest);
+    let described = description(world.alloc, rest)?;
+    let Some(seat) = world.seats.get(place(seat)?) else {
+        return Err(Stop::Line);
+    };
+    let device = add(world.converter.handle_mut(), seat, &described)?;
+    let answer = shown(world.alloc, &device)?;
+    if let Ok(device) = device {
+        world.devices.push(device)?;
+    }
+    Ok(answer)
+}
+
+/// Announces the device. A keymap may come only where the seat gives the device a keyboard.
+fn add(
+    handle: &mut Connection,
+    seat: &Seat,
+    described: &Described<'_>,
+) -> Result<Result<Device, SendError>, Stop> {
+    let wanted = described.capabilities;
+    let Some(given) = handle.seat_capabilities(seat) else {
+        return Err(Stop::Line);
+    };
+    let (name, kind) = (letters(&described.name), described.device_type);
+    let has_keyboard = given.has(DeviceCapability::Keyboard)
+        && wanted.has(DeviceCapability::Keyboard);
+    Ok(if has_keyboard {
+        seat.add_device(handle, name, kind, wanted, &described.items)
+    } else {
+        seat.add_device(handle, name, kind, wanted, &[])
+    })
+}
+
+/// `add-object NAME VERSION`: the object of that interface, which no device and no connection has.
+pub(crate) fn add_object(world: &mut World, rest: &str) -> Result<String, Stop> {
+    let (name, version) = first(rest);
+    let name = InterfaceName::of(world.alloc, name)?;
+    let backend = world.converter.handle_mut().context_mut().backend_mut();
+    let object = backend.new_object(name, number(version)?);
+    shown(world.alloc, &object)
+}
+
+/// `ids-left COUNT`: nothing, and lets so many own ids be left to an endpoint that has no object and no byte.
+pub(crate) fn leave_ids(world: &mut World, count: &str) -> Result<String, Stop> {
+    let next = u64::MAX - u64::from(number(count)?);
+    let backend = Backend::with_next_id(world.alloc, false, next)?;
+    *world.converter.handle_mut().context_mut().backend_mut() = backend;
+    Ok(String::from_str(world.alloc, "done")?)
+}
+
+/// `resumed PLACE`, `paused PLACE`, `start PLACE SEQUENCE`, `stop PLACE` and `frame PLACE TIME`: whether the event of the
+/// device of that place is sent.
+pub(crate) fn bear(world: &mut World, name: &str, rest: &str) -> Result<String, Stop> {
+    let (at, rest) = first(rest);
+    let Some(device) = world.devices.get(place(at)?) else {
+        return Err(Stop::Line);
+    };
+    let handle = world.converter.handle_mut();
+    if !handle.has_device(device) {
+        return Err(Stop::Line);
+    }
+    let sent = match name {
+        "resumed" => device.resumed(handle),
+        "paused" => device.paused(handle),
+        "start" => device.start_emulating(handle, number(rest)?),
+        "stop" => device.stop_emulating(handle),
+        "frame" => device.frame(handle, time(rest)?),
+        _ => return Err(Stop::Line),
+    };
+    shown(world.alloc, &sent)
+}

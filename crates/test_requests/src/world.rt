@@ -1,0 +1,81 @@
+//! A connection, and what the calls before made of it.
+
+use crate::stop::Stop;
+use crate::words::{first, place};
+use ei_backend::{HasBackend, Readings, Tray};
+use ei_request::{Connection, Device, EisRequest, EisRequestConverter, Seat};
+use ei_spec::Handle;
+use ei_wire::NoMemory;
+use std::alloc::{AllocError, Global};
+use std::fmt::Write;
+
+/// A converter with its clock, the seats and the devices that were made, in this order, and the requests of the last
+/// call that took some.
+#[derive(Drop)]
+pub(crate) struct World {
+    pub(crate) alloc: Global,
+    pub(crate) converter: EisRequestConverter,
+    pub(crate) clock: Readings,
+    pub(crate) seats: Vec<Seat>,
+    pub(crate) devices: Vec<Device>,
+    pub(crate) asked: Vec<EisRequest>,
+}
+
+impl World {
+    /// The world around a fresh converter; its clock has no reading.
+    pub(crate) fn new(alloc: Global, converter: EisRequestConverter) -> Result<World, NoMemory> {
+        Ok(World {
+            alloc,
+            converter,
+            clock: Readings::new(alloc, &[])?,
+            seats: Vec::new(alloc),
+            devices: Vec::new(alloc),
+            asked: Vec::new(alloc),
+        })
+    }
+
+    /// The connection, to look at.
+    pub(crate) fn handle(&self) -> &Connection {
+        self.converter.handle()
+    }
+
+    /// The seat of that place.
+    pub(crate) fn seat(&self, word: &str) -> Result<&Seat, Stop> {
+        self.seats.get(place(word)?).ok_or(Stop::Line)
+    }
+
+    /// The device of that place.
+    pub(crate) fn device(&self, word: &str) -> Result<&Device, Stop> {
+        self.devices.get(place(word)?).ok_or(Stop::Line)
+    }
+
+    /// The answer with what was sent behind it: the bytes, or how many where there are many, and the handles.
+    pub(crate) fn with_sent(&mut self, mut answer: String) -> Result<String, Stop> {
+        let mut tray = Tray::new(self.alloc);
+        self.converter.handle_mut().flush(&mut tray)?;
+        push_sent(self.alloc, &mut answer, tray.bytes(), tray.handles())?;
+        Ok(answer)
+    }
+}
+
+/// The most bytes that are shown.
+const MOST_SHOWN: usize = 4096;
+
+/// Adds what was sent.
+fn push_sent(
+    alloc: Global,
+    answer: &mut String,
+    bytes: &[u8],
+    handles: &[Handle],
+) -> Result<(), Stop> {
+    if bytes.len() > MOST_SHOWN {
+        write!(answer, " > {} bytes", bytes.len())?;
+    } else if !bytes.is_empty() {
+        let digits = hex::encode(alloc, bytes)?;
+        write!(answer, " > {digits}")?;
+    }
+    if !handles.is_empty() {
+        write!(answer, " with {handles:?}")?;
+    }
+    Ok(())
+}
