@@ -11,7 +11,7 @@ use Rattle.ei_wire.specs.declared.error.ParseError.TheVariants as error
 use Rattle.ei_wire.specs.Gives.{fault_of}
 use Rattle.ei_backend.specs.Table.{TableView, found}
 use Rattle.ei_backend.specs.Front.{behind}
-use Rattle.ei_backend.specs.Backend.{BackendView, Answer, Refused, of_target, of_front, next, Answers, Shortens}
+use Rattle.ei_backend.specs.Backend.{BackendView, FrontAnswer, Refused, of_target, of_front, next, Answers, Shortens}
 use Rattle.ei_backend.specs.Step.{reading, TakesSome}
 use Rattle.ei_backend.specs.declared.reading.Step.{Step}
 use Rattle.ei_backend.specs.declared.message.PendingRequestResult.{PendingRequestResult}
@@ -21,7 +21,7 @@ use Rattle.ei_backend.specs.declared.message.PendingRequestResult.TheVariants as
 abbrev more_unread : List ℕ → BackendView → BackendView
 more_unread more b = record b { unread = b.unread ++ more }
 
-abbrev more_after : List ℕ → Answer × BackendView → Answer × BackendView
+abbrev more_after : List ℕ → FrontAnswer × BackendView → FrontAnswer × BackendView
 more_after more p = (p.0, more_unread more p.1)
 
 target_behind : (events : Bool) (more : List ℕ) (b : BackendView) (target : Option ObjectView) (m : Raw) (rest : List ℕ) →
@@ -37,12 +37,12 @@ front_behind events more b (Whole m rest) = target_behind events more b (found b
 next_behind : (events : Bool) (more : List ℕ) (b : BackendView) → front (b.unread ++ more) ≡ behind more (front b.unread) → next events (more_unread more b) ≡ more_after more (next events b)
 next_behind events more b is = ap (of_front events (more_unread more b)) is ∙ front_behind events more b (front b.unread)
 
-refused_behind : (more : List ℕ) (o : Option Fault) (b : BackendView) (want : Answer × BackendView) → IfSome o (λ f. want ≡ (Refused f, b)) → IfSome o (λ f. more_after more want ≡ (Refused f, more_unread more b))
+refused_behind : (more : List ℕ) (o : Option Fault) (b : BackendView) (want : FrontAnswer × BackendView) → IfSome o (λ f. want ≡ (Refused f, b)) → IfSome o (λ f. more_after more want ≡ (Refused f, more_unread more b))
 refused_behind more None b want h = tt
 refused_behind more (Some f) b want h = ap (more_after more) h
 
 module _ {M : Type 0} (target : M → ObjectView) (code : M → ℕ) (values : M → List Value) where
-  answers_behind : (more : List ℕ) (answer : Option (PendingRequestResult M)) (b : BackendView) (want : Answer × BackendView) →
+  answers_behind : (more : List ℕ) (answer : Option (PendingRequestResult M)) (b : BackendView) (want : FrontAnswer × BackendView) →
       Answers target code values answer b want → Answers target code values answer (more_unread more b) (more_after more want)
   answers_behind more None b want h = ap (more_after more) h
   answers_behind more (Some (pending.Request m)) b want h = ap (more_after more) h
@@ -57,7 +57,7 @@ module _ {M : Type 0} (target : M → ObjectView) (code : M → ℕ) (values : M
   step_behind events first second all handles table n answer handles_new table_new b whole is le h =
       let rest : drop n first ++ second ≡ drop n all = sym (drop-append-le n first second le) ∙ ap (drop n) whole in
       let more = answers_behind second answer (reading (drop n first) handles_new table_new b) (next events (reading first handles table b)) h in
-      let a = subst (λ (w : Answer × BackendView). Answers target code values answer (reading (drop n first ++ second) handles_new table_new b) w) (sym (next_behind events second (reading first handles table b) is)) more in
+      let a = subst (λ (w : FrontAnswer × BackendView). Answers target code values answer (reading (drop n first ++ second) handles_new table_new b) w) (sym (next_behind events second (reading first handles table b) is)) more in
       let d = subst (λ (r : List ℕ). Answers target code values answer (reading r handles_new table_new b) (next events (reading (first ++ second) handles table b))) rest a in
       subst (λ (w : List ℕ). Answers target code values answer (reading (drop n all) handles_new table_new b) (next events (reading w handles table b))) whole d
 

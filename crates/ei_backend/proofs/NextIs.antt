@@ -18,7 +18,7 @@ use Rattle.ei_backend.specs.Table.{TableView, found}
 use Rattle.ei_backend.specs.Message.{announce, Parsed, row_read}
 use Rattle.ei_backend.specs.Step.{reading}
 use Rattle.ei_backend.specs.Next.{IsOfRow, HasAtFront}
-use Rattle.ei_backend.specs.Backend.{BackendView, Answer, Waits, Gone, Message, Outcome, said_of, of_target, of_front, body_read, next}
+use Rattle.ei_backend.specs.Backend.{BackendView, FrontAnswer, Waits, Gone, Message, BodyOutcome, said_of, of_target, of_front, body_read, next}
 
 -- ---- a message that is read
 
@@ -53,8 +53,8 @@ gone events m rest b lawful bytes none =
 pub waits : (events : Bool) (b : BackendView) → front b.unread ≡ Short → next events b ≡ (Waits, b)
 waits events b short = rw short refl
 
-answer_of : (a c : Answer) (x y : BackendView) → ◌≡◌ {A = Answer × BackendView} (a, x) (c, y) → a ≡ c
-answer_of a c x y e = ap (λ (p : Answer × BackendView). p.0) e
+answer_of : (a c : FrontAnswer) (x y : BackendView) → ◌≡◌ {A = FrontAnswer × BackendView} (a, x) (c, y) → a ≡ c
+answer_of a c x y e = ap (λ (p : FrontAnswer × BackendView). p.0) e
 
 said_something : (target : ObjectView) (opcode : ℕ) (said : Result (List Value) Fault) → said_of target opcode said ≡ Waits → ⊥
 said_something target opcode (Ok values) e = cc
@@ -63,12 +63,12 @@ said_something target opcode (Err f) e = cc
 target_answers : (events : Bool) (b c : BackendView) (target : Option ObjectView) (m : Raw) (rest : List ℕ) → of_target events b target m rest ≡ (Waits, c) → ⊥
 target_answers events b c None m rest e = let f = answer_of (Gone m.id) Waits (record b { unread = rest }) c e in cc
 target_answers events b c (Some target) m rest e =
-    let o : Outcome = body_read events target m.opcode m.body b.handles b.table in
-    said_something target m.opcode o.said (ap (λ (p : Answer × BackendView). p.0) e)
+    let o : BodyOutcome = body_read events target m.opcode m.body b.handles b.table in
+    said_something target m.opcode o.said (ap (λ (p : FrontAnswer × BackendView). p.0) e)
 
 waits_at : (events : Bool) (b c : BackendView) (f : Front) → of_front events b f ≡ (Waits, c) → f ≡ Short
 waits_at events b c Short e = refl
-waits_at events b c (Unlawful n) e = absurd (let f = ap (λ (p : Answer × BackendView). p.0) e in cc)
+waits_at events b c (Unlawful n) e = absurd (let f = ap (λ (p : FrontAnswer × BackendView). p.0) e in cc)
 waits_at events b c (Whole m rest) e = absurd (target_answers events b c (found b.table m.id) m rest e)
 
 -- where nothing whole waits, fewer bytes than the longest message has are unread
@@ -76,7 +76,7 @@ pub few_left : (events : Bool) (b c : BackendView) → next events b ≡ (Waits,
 few_left events b c e = short_below b.unread (waits_at events b c (front b.unread) e)
 
 waits_stay : (events : Bool) (b c : BackendView) (f : Front) → f ≡ Short → of_front events b f ≡ (Waits, c) → b ≡ c
-waits_stay events b c Short s e = ap (λ (p : Answer × BackendView). p.1) e
+waits_stay events b c Short s e = ap (λ (p : FrontAnswer × BackendView). p.1) e
 waits_stay events b c (Unlawful n) s e = absurd cc
 waits_stay events b c (Whole m rest) s e = absurd cc
 

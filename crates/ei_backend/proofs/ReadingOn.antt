@@ -34,7 +34,7 @@ reads_piece pieces left (Err ReadFault) b unread closed is_open h is = (h.0, sam
 reads_piece pieces left (Err NoMemory) b unread closed is_open h is = (h.0, same_after b unread _ closed b.closed h.1 (stays_open closed (Err NoMemory) is (λ e. cc) ∙ sym is_open))
 
 pub reads_on : (result : Result ℕ ReadError) (b : BackendView) (unread : incoming.IncomingView) (closed : Bool) → b.closed ≡ false →
-    incoming.Reads result (unread_of b) unread → IsTrue closed ↔ IsErrOf result HandleLimit → ReadsOn result b (after b unread closed)
+    incoming.ReadsIn result (unread_of b) unread → IsTrue closed ↔ IsErrOf result HandleLimit → ReadsOn result b (after b unread closed)
 reads_on (Ok n) b unread closed is_open h is = (h.0, h.1, same_after b unread _ closed b.closed h.2 (stays_open closed (Ok n) is (λ e. cc) ∙ sym is_open))
 reads_on (Err HandleLimit) b unread closed is_open h is = (h.0, h.1, same_after b unread _ closed true h.2 (closes closed is))
 reads_on (Err UnexpectedEof) b unread closed is_open h is = same_after b unread _ closed b.closed h (stays_open closed (Err UnexpectedEof) is (λ e. cc) ∙ sym is_open)

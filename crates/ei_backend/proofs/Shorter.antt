@@ -8,7 +8,7 @@ use Rattle.ei_spec.specs.declared.handle.Handle.{Handle as Descriptor}
 use Rattle.ei_spec.specs.Value.{Kind, U32, I32, U64, I64, Float, Text, Nullable, Handle, New, Choice, OpenChoice, Value, Word, Long, Signed, SignedLong}
 use Rattle.ei_spec.specs.Value.{Letters, padding}
 use Rattle.ei_spec.specs.Reading.{Fault, ◌>>=◌, Unread, Read, number_at, letters_at, text_at, some_text, or_null, choice_at, of_bytes, of_handle, read, utf8}
-use Rattle.ei_spec.specs.Reading.{EndOfMessage, InvalidVariant, Stop, ◌then◌, stopping, all_at}
+use Rattle.ei_spec.specs.Reading.{EndOfMessage, InvalidVariant, ArgumentStop, ◌then◌, stopping, all_at}
 use Rattle.ei_spec.specs.Interface.{Interface, Known, Other, short_of}
 use Rattle.ei_backend.specs.Table.{TableView}
 use Rattle.ei_spec.specs.Rows.{Row, row_at}
@@ -83,18 +83,18 @@ read_leaves (Choice name values) s = of_bytes_leaves Word s (length s.bytes) (ch
     (λ n le. either (Within (length s.bytes)) (list_any (nat_eq n.0) values) (Ok n) (Err (InvalidVariant name n.0)) le tt))
 read_leaves OpenChoice s = of_bytes_leaves Word s (length s.bytes) (number_at w32 s.bytes) (number_within w32 s.bytes)
 
-abbrev AllLeaves : ℕ → Result (List Value × Unread) Stop → Type 0
+abbrev AllLeaves : ℕ → Result (List Value × Unread) ArgumentStop → Type 0
 AllLeaves n r = MatchResult r (λ x. length x.1.bytes ≤ n) (λ _. Unit {0})
 
-consed : (v : Value) (n : ℕ) (r : Result (List Value × Unread) Stop) → AllLeaves n r → AllLeaves n (r then λ xs. Ok (v ∷ xs.0, xs.1))
+consed : (v : Value) (n : ℕ) (r : Result (List Value × Unread) ArgumentStop) → AllLeaves n r → AllLeaves n (r then λ xs. Ok (v ∷ xs.0, xs.1))
 consed v n (Ok x) h = h
 consed v n (Err e) h = tt
 
-more : (m n : ℕ) (r : Result (List Value × Unread) Stop) → m ≤ n → AllLeaves m r → AllLeaves n r
+more : (m n : ℕ) (r : Result (List Value × Unread) ArgumentStop) → m ≤ n → AllLeaves m r → AllLeaves n r
 more m n (Ok x) le h = omega arith
 more m n (Err e) le h = tt
 
-stepped : (n taken : ℕ) (r : Read) (f : Value × Unread → Result (List Value × Unread) Stop) → Leaves n r → ((x : Value × Unread) → length x.1.bytes ≤ n → AllLeaves n (f x)) → AllLeaves n (stopping taken r then f)
+stepped : (n taken : ℕ) (r : Read) (f : Value × Unread → Result (List Value × Unread) ArgumentStop) → Leaves n r → ((x : Value × Unread) → length x.1.bytes ≤ n → AllLeaves n (f x)) → AllLeaves n (stopping taken r then f)
 stepped n taken (Ok x) f h k = k x h
 stepped n taken (Err e) f h k = tt
 
@@ -103,14 +103,14 @@ all_leaves [] s = omega arith
 all_leaves (k ∷ ks) s = stepped (length s.bytes) s.taken (read k s) (λ x. all_at ks x.1 then λ xs. Ok (x.0 ∷ xs.0, xs.1)) (read_leaves k s)
     (λ x le. consed x.0 (length s.bytes) (all_at ks x.1) (more (length x.1.bytes) (length s.bytes) (all_at ks x.1) le (all_leaves ks x.1)))
 
-abbrev pub IsShorter : ℕ → Result Parsed Stop → Type 0
+abbrev pub IsShorter : ℕ → Result Parsed ArgumentStop → Type 0
 IsShorter n r = MatchResult r (λ x. length x.unread.bytes ≤ n) (λ _. Unit {0})
 
 announced : (n taken : ℕ) (x : List Value × Unread) (r : Result TableView Fault) → length x.1.bytes ≤ n → IsShorter n (stopping taken r then λ u. Ok (record { values = x.0; table = u; unread = x.1 }))
 announced n taken x (Ok u) le = le
 announced n taken x (Err f) le = tt
 
-row_shorter : (n : ℕ) (r : Row) (t : TableView) (a : Result (List Value × Unread) Stop) → AllLeaves n a → IsShorter n (a then λ x. stopping x.1.taken (announce r.announces r.kinds x.0 t) then λ u. Ok (record { values = x.0; table = u; unread = x.1 }))
+row_shorter : (n : ℕ) (r : Row) (t : TableView) (a : Result (List Value × Unread) ArgumentStop) → AllLeaves n a → IsShorter n (a then λ x. stopping x.1.taken (announce r.announces r.kinds x.0 t) then λ u. Ok (record { values = x.0; table = u; unread = x.1 }))
 row_shorter n r t (Ok x) h = announced n x.1.taken x (announce r.announces r.kinds x.0 t) h
 row_shorter n r t (Err e) h = tt
 

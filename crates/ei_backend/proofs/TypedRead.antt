@@ -15,7 +15,7 @@ use Rattle.ei_spec.proofs.RowNames.{row_of_name}
 use Rattle.ei_backend.specs.Table.{TableView, Announced, accept, found, own_end, peer_end}
 use Rattle.ei_backend.specs.Message.{announce, with_new}
 use Rattle.ei_backend.specs.Step.{reading}
-use Rattle.ei_backend.specs.Backend.{BackendView, Answer, Waits, Refused, Gone, Message, Answers, Brings, next, sent, removed, with_announced, after_row, unsent_of}
+use Rattle.ei_backend.specs.Backend.{BackendView, FrontAnswer, Waits, Refused, Gone, Message, Answers, Brings, next, sent, removed, with_announced, after_row, unsent_of}
 use Rattle.ei_backend.specs.Sends.{AreOfRow, IsAnnounced, row_size}
 use Rattle.ei_backend.specs.Typed.{piece_of, behind, new_object, new_of, HasSent, HasCome, IsRead, HandsOut}
 use Rattle.ei_backend.specs.declared.message.PendingRequestResult.{PendingRequestResult}
@@ -119,19 +119,19 @@ typed_read events interface name r target there values added rest before after r
 -- ---- what is handed out
 
 module _ {M : Type 0} (target : M → ObjectView) (code : M → ℕ) (values : M → List Value) (announced : M → Option ObjectView) where
-  refuses_none : (f : Option Fault) (there : ObjectView) (opcode : ℕ) (said : List Value) (b c : BackendView) (want : Answer × BackendView) → want ≡ (Message there opcode said, c) → IfSome f (λ x. want ≡ (Refused x, b)) → IsSome f → ⊥
+  refuses_none : (f : Option Fault) (there : ObjectView) (opcode : ℕ) (said : List Value) (b c : BackendView) (want : FrontAnswer × BackendView) → want ≡ (Message there opcode said, c) → IfSome f (λ x. want ≡ (Refused x, b)) → IsSome f → ⊥
   refuses_none None there opcode said b c want is h some = absurd cc
-  refuses_none (Some f) there opcode said b c want is h some = let e : Message there opcode said ≡ Refused f = ap (λ (p : Answer × BackendView). p.0) (sym is ∙ h) in cc
+  refuses_none (Some f) there opcode said b c want is h some = let e : Message there opcode said ≡ Refused f = ap (λ (p : FrontAnswer × BackendView). p.0) (sym is ∙ h) in cc
 
-  pub hands_out : (answer : Option (PendingRequestResult M)) (there : ObjectView) (opcode : ℕ) (said : List Value) (new : Option ObjectView) (t : TableView) (b c : BackendView) (want : Answer × BackendView) → want ≡ (Message there opcode said, c) → Announced new t c.table →
+  pub hands_out : (answer : Option (PendingRequestResult M)) (there : ObjectView) (opcode : ℕ) (said : List Value) (new : Option ObjectView) (t : TableView) (b c : BackendView) (want : FrontAnswer × BackendView) → want ≡ (Message there opcode said, c) → Announced new t c.table →
       Answers target code values answer b want → Brings announced answer t b.table → HandsOut target code values announced there opcode said new answer
-  hands_out None there opcode said new t b c want is known h brings = let e : Message there opcode said ≡ Waits = ap (λ (p : Answer × BackendView). p.0) (sym is ∙ h) in absurd cc
+  hands_out None there opcode said new t b c want is known h brings = let e : Message there opcode said ≡ Waits = ap (λ (p : FrontAnswer × BackendView). p.0) (sym is ∙ h) in absurd cc
   hands_out (Some (pending.Request m)) there opcode said new t b c want is known h brings =
-      let e : Message (target m) (code m) (values m) ≡ Message there opcode said = ap (λ (p : Answer × BackendView). p.0) (sym h ∙ is) in
-      let same : c ≡ b = ap (λ (p : Answer × BackendView). p.1) (sym is ∙ h) in
+      let e : Message (target m) (code m) (values m) ≡ Message there opcode said = ap (λ (p : FrontAnswer × BackendView). p.0) (sym h ∙ is) in
+      let same : c ≡ b = ap (λ (p : FrontAnswer × BackendView). p.1) (sym is ∙ h) in
       (cc, cc, cc, once t b.table (announced m) new brings (subst (λ (x : BackendView). Announced new t x.table) same known))
   hands_out (Some (pending.ParseError f)) there opcode said new t b c want is known h brings = absurd (refuses_none (fault_of f) there opcode said b c want is h.0 h.1)
-  hands_out (Some (pending.InvalidObject id)) there opcode said new t b c want is known h brings = let e : Message there opcode said ≡ Gone id = ap (λ (p : Answer × BackendView). p.0) (sym is ∙ h) in absurd cc
+  hands_out (Some (pending.InvalidObject id)) there opcode said new t b c want is known h brings = let e : Message there opcode said ≡ Gone id = ap (λ (p : FrontAnswer × BackendView). p.0) (sym is ∙ h) in absurd cc
 
   pub typed_out : (events : Bool) (interface : KnownInterface) (name : List ℕ) (r : ℕ × Row) (to there : ObjectView) (said : List Value) (added rest : Piece) (before after reader left : BackendView) (answer : Option (PendingRequestResult M)) → HasSent events interface name r to said before after →
       HasCome interface r to there said added rest before after reader → Answers target code values answer left (next events reader) → Brings announced answer reader.table left.table →

@@ -5,7 +5,7 @@ use Rattle.std.specs.List.{flat_map}
 use Rattle.ei_spec.specs.declared.handle.Handle.{Handle}
 use Rattle.ei_spec.specs.Piece.{Piece}
 use Rattle.ei_spec.specs.Value.{Value, handles_of}
-use Rattle.ei_spec.specs.Reading.{Fault, HeaderLength, MessageLength, Stop}
+use Rattle.ei_spec.specs.Reading.{Fault, HeaderLength, MessageLength, ArgumentStop}
 use Rattle.ei_spec.specs.Interface.{Interface, Known, ObjectView, named}
 use Rattle.ei_spec.specs.Rows.{Row, Announces, Nothing, Fixed, Named, version_of, name_in}
 use Rattle.ei_spec.specs.Message.{Raw, message, bytes_of, Front, Short, Unlawful, Whole, front}
@@ -71,13 +71,13 @@ ReadsPiece pieces left (Err read_error.NoMemory) old new = (left ≡ Some pieces
 -- ---- the message at the front
 
 -- what reading the whole body says, the table after it, and how many handles it took
-pub record Outcome : Type 0 where
+pub record BodyOutcome : Type 0 where
   pub said : Result (List Value) Fault
   pub table : TableView
   pub taken : ℕ
 
 -- a message of this size is refused where its arguments leave bytes over
-abbrev pub outcome : ℕ → TableView → Result Parsed Stop → Outcome
+abbrev pub outcome : ℕ → TableView → Result Parsed ArgumentStop → BodyOutcome
 outcome len t (Err f) = record { said = Err f.0; table = t; taken = f.1 }
 outcome len t (Ok x) = record {
   said = if length x.unread.bytes == 0 then Ok x.values else Err (MessageLength (len + length x.unread.bytes) len);
@@ -86,45 +86,45 @@ outcome len t (Ok x) = record {
 }
 
 -- what a message of the opcode and with the body says to its target
-abbrev pub body_read : Bool → ObjectView → ℕ → List ℕ → List Handle → TableView → Outcome
+abbrev pub body_read : Bool → ObjectView → ℕ → List ℕ → List Handle → TableView → BodyOutcome
 body_read events target opcode body handles t = outcome (16 + length body) t (message_read events target.interface opcode (record { bytes = body; handles = handles; taken = 0 }) t)
 
 -- what a call for the next message answers
-pub data Answer : Type 0 where
-  Waits : Answer
-  Refused : Fault → Answer
+pub data FrontAnswer : Type 0 where
+  Waits : FrontAnswer
+  Refused : Fault → FrontAnswer
   -- no object has the id
-  Gone : ℕ → Answer
-  Message : (target : ObjectView) → (opcode : ℕ) → (values : List Value) → Answer
+  Gone : ℕ → FrontAnswer
+  Message : (target : ObjectView) → (opcode : ℕ) → (values : List Value) → FrontAnswer
 
-abbrev pub said_of : ObjectView → ℕ → Result (List Value) Fault → Answer
+abbrev pub said_of : ObjectView → ℕ → Result (List Value) Fault → FrontAnswer
 said_of target opcode (Ok values) = Message target opcode values
 said_of target opcode (Err f) = Refused f
 
 -- the message is taken out, with the handles that it took
-abbrev pub of_outcome : BackendView → ObjectView → ℕ → List ℕ → Outcome → Answer × BackendView
+abbrev pub of_outcome : BackendView → ObjectView → ℕ → List ℕ → BodyOutcome → FrontAnswer × BackendView
 of_outcome b target opcode rest o = (said_of target opcode o.said, record b { table = o.table; unread = rest; handles = drop o.taken b.handles })
 
-abbrev pub of_target : Bool → BackendView → Option ObjectView → Raw → List ℕ → Answer × BackendView
+abbrev pub of_target : Bool → BackendView → Option ObjectView → Raw → List ℕ → FrontAnswer × BackendView
 of_target events b None m rest = (Gone m.id, record b { unread = rest })
 of_target events b (Some target) m rest = of_outcome b target m.opcode rest (body_read events target m.opcode m.body b.handles b.table)
 
-abbrev pub of_front : Bool → BackendView → Front → Answer × BackendView
+abbrev pub of_front : Bool → BackendView → Front → FrontAnswer × BackendView
 of_front events b Short = (Waits, b)
 of_front events b (Unlawful n) = (Refused (HeaderLength n), b)
 of_front events b (Whole m rest) = of_target events b (found b.table m.id) m rest
 
 -- the answer to a call for the next message, and the endpoint after it
-abbrev pub next : Bool → BackendView → Answer × BackendView
+abbrev pub next : Bool → BackendView → FrontAnswer × BackendView
 next events b = of_front events b (front b.unread)
 
 -- what reading a body answered is what the outcome says
-abbrev pub Says : {M : Type 0} → (M → ObjectView) → (M → ℕ) → (M → List Value) → ObjectView → ℕ → Result M ParseError → TableView → ℕ → Outcome → Type 0
+abbrev pub Says : {M : Type 0} → (M → ObjectView) → (M → ℕ) → (M → List Value) → ObjectView → ℕ → Result M ParseError → TableView → ℕ → BodyOutcome → Type 0
 Says target code values object opcode (Ok m) table taken o = (o ≡ record { said = Ok (values m); table = table; taken = taken }) × (target m ≡ object) × (code m ≡ opcode)
 Says target code values object opcode (Err e) table taken o = IfSome (fault_of e) (λ f. o ≡ record { said = Err f; table = table; taken = taken })
 
 -- what a call for the next message answered, and the endpoint after it
-abbrev pub Answers : {M : Type 0} → (M → ObjectView) → (M → ℕ) → (M → List Value) → Option (PendingRequestResult M) → BackendView → Answer × BackendView → Type 0
+abbrev pub Answers : {M : Type 0} → (M → ObjectView) → (M → ℕ) → (M → List Value) → Option (PendingRequestResult M) → BackendView → FrontAnswer × BackendView → Type 0
 Answers target code values None b want = want ≡ (Waits, b)
 Answers target code values (Some (pending.Request m)) b want = want ≡ (Message (target m) (code m) (values m), b)
 Answers target code values (Some (pending.ParseError e)) b want = IfSome (fault_of e) (λ f. want ≡ (Refused f, b)) × IsSome (fault_of e)
@@ -192,7 +192,7 @@ with_unsent waiting b = record b { unsent = waiting.bytes; unsent_handles = wait
 
 -- the endpoint in which so many more bytes, handles and own objects take no memory
 abbrev pub with_room : ℕ → ℕ → ℕ → BackendView → BackendView
-with_room bytes handles objects b = record b { table = table.with_room objects b.table; room = more_room bytes handles (unsent_of b) b.room }
+with_room bytes handles objects b = record b { table = table.with_places objects b.table; room = more_room bytes handles (unsent_of b) b.room }
 
 -- there is room for a message of that row to that target
 abbrev pub FitsRow : Option (ℕ × Row) → ObjectView → List Value → BackendView → Type 0

@@ -38,24 +38,24 @@ abbrev pub none_unread : IncomingView
 none_unread = record { bytes = []; handles = []; capacity = first_capacity }
 
 -- what is unread, with room for one more piece
-abbrev pub with_room : IncomingView → IncomingView
-with_room i = record i { capacity = grown (length i.bytes) i.capacity }
+abbrev pub with_ring_room : IncomingView → IncomingView
+with_ring_room i = record i { capacity = grown (length i.bytes) i.capacity }
 
 -- what is unread, with one more piece behind it
 abbrev pub with_piece : Piece → IncomingView → IncomingView
 with_piece piece i = record { bytes = i.bytes ++ piece.bytes; handles = i.handles ++ piece.handles; capacity = grown (length i.bytes) i.capacity }
 
 -- what reading a piece did to what is unread
-abbrev pub Reads : Result ℕ ReadError → IncomingView → IncomingView → Type 0
-Reads (Ok n) old new = (piece : Piece) × Fits n old.handles piece × (new ≡ with_piece piece old)
-Reads (Err read_error.HandleLimit) old new = (piece : Piece) × Overflows old.handles piece × (new ≡ with_room old)
-Reads (Err read_error.NoMemory) old new = new ≡ old
-Reads (Err e) old new = new ≡ with_room old
+abbrev pub ReadsIn : Result ℕ ReadError → IncomingView → IncomingView → Type 0
+ReadsIn (Ok n) old new = (piece : Piece) × Fits n old.handles piece × (new ≡ with_piece piece old)
+ReadsIn (Err read_error.HandleLimit) old new = (piece : Piece) × Overflows old.handles piece × (new ≡ with_ring_room old)
+ReadsIn (Err read_error.NoMemory) old new = new ≡ old
+ReadsIn (Err e) old new = new ≡ with_ring_room old
 
 -- and where the source told these pieces
 abbrev pub ReadsPiece : List Piece → Option (List Piece) → Result ℕ ReadError → IncomingView → IncomingView → Type 0
 ReadsPiece pieces left (Ok n) old new = (piece : Piece) × IsFirst pieces left piece × Fits n old.handles piece × (new ≡ with_piece piece old)
-ReadsPiece pieces left (Err read_error.HandleLimit) old new = (piece : Piece) × IsFirst pieces left piece × Overflows old.handles piece × (new ≡ with_room old)
-ReadsPiece pieces left (Err read_error.UnexpectedEof) old new = (pieces ≡ []) × (left ≡ Some []) × (new ≡ with_room old)
-ReadsPiece pieces left (Err read_error.ReadFault) old new = (left ≡ Some pieces) × (new ≡ with_room old)
+ReadsPiece pieces left (Err read_error.HandleLimit) old new = (piece : Piece) × IsFirst pieces left piece × Overflows old.handles piece × (new ≡ with_ring_room old)
+ReadsPiece pieces left (Err read_error.UnexpectedEof) old new = (pieces ≡ []) × (left ≡ Some []) × (new ≡ with_ring_room old)
+ReadsPiece pieces left (Err read_error.ReadFault) old new = (left ≡ Some pieces) × (new ≡ with_ring_room old)
 ReadsPiece pieces left (Err read_error.NoMemory) old new = (left ≡ Some pieces) × (new ≡ old)

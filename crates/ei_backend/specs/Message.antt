@@ -1,13 +1,13 @@
 -- What a message is read as, with the first refusal.
 use Rattle.std.specs.Prelude.{ℕ, Bool, List, Option, Some, None, Result, Ok, Err}
 use Rattle.ei_spec.specs.Value.{Kind, Value}
-use Rattle.ei_spec.specs.Reading.{Fault, InvalidOpcode, InvalidInterface, Unread, Stop, ◌then◌, stopping, all_at}
+use Rattle.ei_spec.specs.Reading.{Fault, InvalidOpcode, InvalidInterface, Unread, ArgumentStop, ◌then◌, stopping, all_at}
 use Rattle.ei_spec.specs.Interface.{Interface, Known, Other, ObjectView, short_of, named}
 use Rattle.ei_spec.specs.Rows.{Row, Announces, Nothing, Fixed, Named, row_at, new_id, version_of, name_in}
 use Rattle.ei_spec.specs.declared.interface.KnownInterface.{KnownInterface}
 use Rattle.ei_spec.specs.Table.{table}
 use Rattle.ei_wire.specs.declared.error.ParseError.{ParseError}
-use Rattle.ei_wire.specs.Rows.{Reads}
+use Rattle.ei_wire.specs.Rows.{ReadsArguments}
 use Rattle.ei_backend.specs.Table.{TableView, accept}
 
 -- the table that an announcement leaves
@@ -28,20 +28,20 @@ pub record Parsed : Type 0 where
   pub unread : Unread
 
 -- a message of the row: its arguments are read, and then its object is announced
-abbrev pub row_read : Row → Unread → TableView → Result Parsed Stop
+abbrev pub row_read : Row → Unread → TableView → Result Parsed ArgumentStop
 row_read r s t = all_at r.kinds s then λ x. stopping x.1.taken (announce r.announces r.kinds x.0 t) then λ u. Ok (record { values = x.0; table = u; unread = x.1 })
 
 -- the same where an interface may have no such row
-abbrev pub some_row : Option Row → List ℕ → ℕ → Unread → TableView → Result Parsed Stop
+abbrev pub some_row : Option Row → List ℕ → ℕ → Unread → TableView → Result Parsed ArgumentStop
 some_row (Some r) short opcode s t = row_read r s t
 some_row None short opcode s t = Err (InvalidOpcode short opcode, s.taken)
 
 -- a message of the opcode to an object of the interface
-abbrev pub message_read : Bool → Interface → ℕ → Unread → TableView → Result Parsed Stop
+abbrev pub message_read : Bool → Interface → ℕ → Unread → TableView → Result Parsed ArgumentStop
 message_read events (Known k) opcode s t = some_row (row_at opcode (table events k)) (short_of k) opcode s t
 message_read events (Other name) opcode s t = Err (InvalidInterface name, s.taken)
 
 -- What reading a message of the opcode to an object of the interface returned, with what is left of the message and the
 -- table, before and after: the message's values, or the first refusal, unless memory ran out.
 abbrev pub ReadsRow : {M : Type 0} → (M → List Value) → Bool → KnownInterface → ℕ → Unread → Unread → TableView → TableView → Result M ParseError → Type 0
-ReadsRow values events interface opcode old new told tnew result = Reads (λ m. record { values = values m; table = tnew; unread = new }) new.taken result (message_read events (Known interface) opcode old told)
+ReadsRow values events interface opcode old new told tnew result = ReadsArguments (λ m. record { values = values m; table = tnew; unread = new }) new.taken result (message_read events (Known interface) opcode old told)

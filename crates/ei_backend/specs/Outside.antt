@@ -48,9 +48,9 @@ pub record HandsOut (pieces : List Piece) (new : Option (List Piece)) (taken : T
   pub piece : 0 < taken.bytes → slice_get pieces 0 ≡ Some (record { bytes = take taken.bytes bytes; handles = take taken.handles handles })
 
 -- where a source told its pieces, it handed out the first; a fault leaves them
-abbrev pub Takes : Option (List Piece) → Option (List Piece) → Result Taken Fault → List ℕ → List Handle → Type 0
-Takes old new (Ok taken) bytes handles = (pieces : List Piece) → old ≡ Some pieces → HandsOut pieces new taken bytes handles
-Takes old new (Err e) bytes handles = (pieces : List Piece) → old ≡ Some pieces → new ≡ Some pieces
+abbrev pub TakesTold : Option (List Piece) → Option (List Piece) → Result Taken Fault → List ℕ → List Handle → Type 0
+TakesTold old new (Ok taken) bytes handles = (pieces : List Piece) → old ≡ Some pieces → HandsOut pieces new taken bytes handles
+TakesTold old new (Err e) bytes handles = (pieces : List Piece) → old ≡ Some pieces → new ≡ Some pieces
 
 -- what so many bytes mean to a source
 abbrev pub answer_at : ℕ → LastAnswer
@@ -89,6 +89,6 @@ Fetches old new (Ok n) bytes = (text : List ℕ) → old ≡ Some text → Reads
 Fetches old new (Err e) bytes = (text : List ℕ) → old ≡ Some text → new ≡ Some text
 
 -- the first reading, or 0 behind the last
-pub record Reads (readings : List ℕ) (new : Option (List ℕ)) (reading : ℕ) : Type 0 where
+pub record ReadsClock (readings : List ℕ) (new : Option (List ℕ)) (reading : ℕ) : Type 0 where
   pub is : reading ≡ slice_index readings 0
   pub left : new ≡ Some (drop 1 readings)

@@ -92,8 +92,8 @@ abbrev pub with_own : TableView → Interface → ℕ → TableView
 with_own t interface version = record { objects = map.insert t.objects t.next_own (own t interface version); next_own = t.next_own + 1; next_peer = t.next_peer; client = t.client; room = t.room }
 
 -- the table in which so many more own objects are made without want of memory, as far as there are ids
-abbrev pub with_room : ℕ → TableView → TableView
-with_room objects t = record t { room = max t.room (min (t.next_own + objects) (own_end t)) }
+abbrev pub with_places : ℕ → TableView → TableView
+with_places objects t = record t { room = max t.room (min (t.next_own + objects) (own_end t)) }
 
 -- the next own object is made without want of memory, if there is an id for it
 abbrev pub HasIdRoom : TableView → Type 0
@@ -133,7 +133,7 @@ abbrev pub HasPlaces : TableView → ℕ → ℕ → Type 0
 HasPlaces t len places = t.next_own < t.room → len + t.room ≤ places + t.next_own
 
 -- the two vectors that a table is kept in: each rises within its range, and the first has its places
-pub record Stands (t : TableView) (own peer : List ObjectView) (len places : ℕ) : Type 0 where
+pub record StandsInVectors (t : TableView) (own peer : List ObjectView) (len places : ℕ) : Type 0 where
   pub first : HasFirst t
   pub own_rises : RiseWithin (if t.client then 0 else first_server_id) t.next_own own
   pub peer_rises : RiseWithin (if t.client then first_server_id else 0) t.next_peer peer

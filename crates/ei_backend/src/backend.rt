@@ -327,6 +327,13 @@ impl Backend {
         self.incoming.capacity()
     }
 
+    /// How many bytes wait to be sent.
+    pub fn unsent_len(&self) -> usize
+        ensures { result ≡ length self.now.unsent }
+    {
+        self.outgoing.bytes().len()
+    }
+
     /// The bytes that wait to be sent.
     pub fn unsent(&self) -> &[u8]
         ensures { result.now ≡ self.now.unsent }

@@ -4,7 +4,7 @@ ghost use Rattle.std.specs.Prelude.{◌≡◌, ◌<◌, ◌≤◌, ◌+◌, ℕ,
 ghost use Rattle.ei_wire.specs.declared.error.ReadError.TheVariants as read_error;
 ghost use Rattle.ei_backend.specs.Outside.{Piece, Rose};
 ghost use Rattle.ei_backend.specs.declared.outside.LastAnswer.TheVariants as answers;
-ghost use Rattle.ei_backend.specs.Incoming.{none_unread, Reads, ReadsPiece};
+ghost use Rattle.ei_backend.specs.Incoming.{none_unread, ReadsIn, ReadsPiece};
 ghost use Rattle.ei_backend.specs.Backend.{BackendView, next, Answers, Brings, Shortens};
 ghost use Rattle.ei_backend.specs.Step.{holding};
 ghost use Rattle.ei_spec.specs.declared.limits.TheConstants.{MOST_PIECE_BYTES};
@@ -122,7 +122,7 @@ impl Incoming {
     /// `NoMemory` before the source is asked, and only where the ring has to grow; `ReadFault` where the source failed; `UnexpectedEof` at its
     /// end; `HandleLimit` where more than 4096 handles would be unread: the piece is dropped.
     pub(crate) fn read<S: Source>(&mut self, source: &mut S) -> Result<usize, ReadError>
-        ensures reads { Reads result self.old self.new }
+        ensures reads { ReadsIn result self.old self.new }
         ensures told { (pieces : List Piece) → S.left source.old ≡ Some pieces → ReadsPiece pieces (S.left source.new) result self.old self.new }
         ensures memory { IsErrOf result read_error.NoMemory → source.new ≡ source.old }
         ensures room { length self.old.bytes + MOST_PIECE_BYTES ≤ self.old.capacity → IsErrOf result read_error.NoMemory → ⊥ }

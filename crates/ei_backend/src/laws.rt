@@ -18,6 +18,7 @@ ghost use Rattle.ei_backend.specs.Growth.{Step, grown, made_by, table_grown, ids
 ghost use Rattle.ei_backend.specs.declared.message.PendingRequestResult.{PendingRequestResult};
 
 use crate::message::MessageEnum;
+pub use crate::ring::ring_laws;
 
 /// Ids only rise, and none is given twice.
 pub fn tables()

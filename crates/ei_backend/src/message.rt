@@ -4,7 +4,7 @@ ghost use Rattle.std.specs.Prelude.{◌≡◌, ℕ, Bool, List, Option, None, If
 ghost use Rattle.ei_spec.specs.Value.{Value};
 ghost use Rattle.ei_spec.specs.Interface.{ObjectView};
 ghost use Rattle.ei_backend.specs.Shown.{shown, shown_of_arg};
-ghost use Rattle.ei_wire.specs.Rows.{Reads};
+ghost use Rattle.ei_wire.specs.Rows.{ReadsArguments};
 ghost use Rattle.ei_backend.specs.Table.{Announced};
 ghost use Rattle.ei_backend.specs.Message.{Parsed, message_read};
 
@@ -36,7 +36,7 @@ pub trait MessageEnum: Sized {
         bytes: &mut ByteStream<'_>,
         table: &mut Table,
     ) -> Result<Self, ParseError>
-        ensures read { Reads (λ m. record { values = values m; table = table.new; unread = bytes.new }) bytes.new.taken result
+        ensures read { ReadsArguments (λ m. record { values = values m; table = table.new; unread = bytes.new }) bytes.new.taken result
             (message_read events object.interface opcode bytes.old table.old) }
         ensures target { IfOk result (λ m. (target m ≡ object) × (code m ≡ opcode)) }
         ensures announced { IfOk result (λ m. Announced (announced m) table.old table.new) }

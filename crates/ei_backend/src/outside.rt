@@ -7,7 +7,7 @@
 
 ghost use Rattle.std.specs.Prelude.{◌≡◌, ◌<◌, ◌≤◌, List, ℕ, Option, Some, length, IfOk};
 ghost use Rattle.ei_backend.specs.declared.outside.LastAnswer.{LastAnswer};
-ghost use Rattle.ei_backend.specs.Outside.{Piece, HasCause, HasPutCause, HasPutWant, IsPieceSize, Takes, last_of, Puts, IsPutSize, Fetches, Reads};
+ghost use Rattle.ei_backend.specs.Outside.{Piece, HasCause, HasPutCause, HasPutWant, IsPieceSize, TakesTold, last_of, Puts, IsPutSize, Fetches, ReadsClock};
 ghost use Rattle.ei_spec.specs.declared.limits.TheConstants.{MOST_PIECE_BYTES, MOST_PIECE_HANDLES};
 
 use ei_spec::Handle;
@@ -64,7 +64,7 @@ pub trait Source {
         requires room { MOST_PIECE_BYTES ≤ length bytes.old }
         requires handle_room { MOST_PIECE_HANDLES ≤ length handles.old }
         ensures size { IfOk result IsPieceSize }
-        ensures pieces { Takes (left self.old) (left self.new) result bytes.new handles.new }
+        ensures pieces { TakesTold (left self.old) (left self.new) result bytes.new handles.new }
         ensures cause { HasCause (faults self.old) (faults self.new) result }
         ensures last { last self.new ≡ last_of result }
         ensures later { later self.old self.new };
@@ -144,7 +144,7 @@ pub trait Clock {
 
     /// The next reading.
     fn now(&mut self) -> u64
-        ensures reading { (told : List ℕ) → readings self.old ≡ Some told → Reads told (readings self.new) result }
+        ensures reading { (told : List ℕ) → readings self.old ≡ Some told → ReadsClock told (readings self.new) result }
         ensures cause { faults self.old ≤ faults self.new }
         ensures later { later self.old self.new };
 

@@ -1,7 +1,7 @@
 //! A source of the pieces that were pushed.
 
 ghost use Rattle.std.specs.Prelude.{◌≡◌, ◌<◌, ◌≤◌, ◌↔◌, [], ◌∷◌, ◌++◌, Some, drop, length, OnOk, OnErr, IfOk, IsErr, Contains};
-ghost use Rattle.ei_backend.specs.Outside.{IsPieceSize, Takes, HasCause, last_of};
+ghost use Rattle.ei_backend.specs.Outside.{IsPieceSize, TakesTold, HasCause, last_of};
 ghost use Rattle.ei_backend.specs.Memory.{PiecesView, counted, first_sizes, faults_after};
 ghost use Rattle.ei_spec.specs.declared.limits.TheConstants.{MOST_PIECE_BYTES, MOST_PIECE_HANDLES};
 
@@ -120,7 +120,7 @@ impl Source for Pieces {
         requires room { MOST_PIECE_BYTES ≤ length bytes.old }
         requires handle_room { MOST_PIECE_HANDLES ≤ length handles.old }
         ensures size { IfOk result IsPieceSize }
-        ensures pieces { Takes (Some self.old.left) (Some self.new.left) result bytes.new handles.new }
+        ensures pieces { TakesTold (Some self.old.left) (Some self.new.left) result bytes.new handles.new }
         ensures cause { HasCause self.old.faults self.new.faults result }
         ensures last { self.new.last ≡ last_of result }
         // beyond the trait's: which calls fail, and the whole piece

@@ -6,11 +6,11 @@ ghost use Rattle.ei_wire.specs.Gives.{Gives};
 ghost use Rattle.ei_wire.specs.declared.error.SendError.TheVariants as send_error;
 ghost use Rattle.ei_backend.specs.Object.{interface_view, HasFixedName};
 ghost use Rattle.ei_backend.specs.Table.{Announced, accept, found, peer_end, without, own, own_end, own_start};
-ghost use Rattle.ei_backend.specs.Table.{own_limit, with_own, with_room, new_table, first_object, first_server_id, is_own};
+ghost use Rattle.ei_backend.specs.Table.{own_limit, with_own, with_places, new_table, first_object, first_server_id, is_own};
 
 use crate::interface::InterfaceName;
 use crate::object::Object;
-use crate::rising::{look_up, take_out};
+use crate::sorted_objects::{look_up, take_out};
 use ei_spec::KnownInterface;
 use ei_spec::limits::FIRST_SERVER_ID;
 use ei_wire::{NoMemory, ParseError, SendError};
@@ -37,7 +37,7 @@ pub struct Table {
 
 impl Model for Table {
     ghost use Rattle.std.specs.Prelude.{vec_len, vec_capacity};
-    ghost use Rattle.ei_backend.specs.Table.{TableView, table_of, Stands};
+    ghost use Rattle.ei_backend.specs.Table.{TableView, table_of, StandsInVectors};
     ghost use Rattle.ei_backend.specs.Codes.{table_code};
 
     ghost Value = { TableView };
@@ -46,7 +46,7 @@ impl Model for Table {
 
     ghost view = { λ t. table_of t.own.items t.peer.items t.next_own t.next_peer t.client t.room };
 
-    ghost invariant = { λ t. Stands (table_of t.own.items t.peer.items t.next_own t.next_peer t.client t.room) t.own.items t.peer.items (vec_len t.own)
+    ghost invariant = { λ t. StandsInVectors (table_of t.own.items t.peer.items t.next_own t.next_peer t.client t.room) t.own.items t.peer.items (vec_len t.own)
         (vec_capacity t.own) };
 }
 
@@ -185,7 +185,7 @@ impl Table {
     /// Makes room for so many more own objects, as far as there are own ids: to make them takes no memory, where
     /// their names are among the thirteen.
     pub(crate) fn reserve(&mut self, objects: usize) -> Result<(), NoMemory>
-        ensures ok { OnOk result (self.new ≡ with_room objects self.old) }
+        ensures ok { OnOk result (self.new ≡ with_places objects self.old) }
         ensures err { OnErr result (self.new ≡ self.old) }
     {
         let count = self.ids_left().min(objects as u64);

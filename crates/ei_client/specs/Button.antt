@@ -9,9 +9,9 @@ use Rattle.ei_client.specs.declared.button.Event.{Event}
 use Rattle.ei_client.specs.declared.button.Event.TheVariants.{Destroyed, Button}
 
 -- the opcode
-abbrev pub code_of : Event → ℕ
-code_of (Destroyed serial) = 0
-code_of (Button button state) = 1
+abbrev pub opcode_of : Event → ℕ
+opcode_of (Destroyed serial) = 0
+opcode_of (Button button state) = 1
 
 -- the arguments
 abbrev pub values_of : Event → List Value

@@ -5,8 +5,8 @@ use Rattle.ei_client.specs.declared.callback.Event.{Event}
 use Rattle.ei_client.specs.declared.callback.Event.TheVariants.{Done}
 
 -- the opcode
-abbrev pub code_of : Event → ℕ
-code_of (Done callback_data) = 0
+abbrev pub opcode_of : Event → ℕ
+opcode_of (Done callback_data) = 0
 
 -- the arguments
 abbrev pub values_of : Event → List Value

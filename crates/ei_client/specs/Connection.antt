@@ -11,11 +11,11 @@ use Rattle.ei_client.specs.declared.connection.Event.{Event}
 use Rattle.ei_client.specs.declared.connection.Event.TheVariants.{Disconnected, Seat, InvalidObject, Ping}
 
 -- the opcode
-abbrev pub code_of : Event → ℕ
-code_of (Disconnected last_serial reason explanation) = 0
-code_of (Seat seat) = 1
-code_of (InvalidObject last_serial invalid_id) = 2
-code_of (Ping ping) = 3
+abbrev pub opcode_of : Event → ℕ
+opcode_of (Disconnected last_serial reason explanation) = 0
+opcode_of (Seat seat) = 1
+opcode_of (InvalidObject last_serial invalid_id) = 2
+opcode_of (Ping ping) = 3
 
 -- the arguments: of a seat or a ping its id and its version
 abbrev pub values_of : Event → List Value

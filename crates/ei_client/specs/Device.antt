@@ -11,20 +11,20 @@ use Rattle.ei_client.specs.declared.device.Event.TheVariants.{Destroyed, Name, D
 use Rattle.ei_client.specs.declared.device.Event.TheVariants.{Resumed, Paused, StartEmulating, StopEmulating, Frame, RegionMappingId}
 
 -- the opcode
-abbrev pub code_of : Event → ℕ
-code_of (Destroyed serial) = 0
-code_of (Name name) = 1
-code_of (DeviceType device_type) = 2
-code_of (Dimensions width height) = 3
-code_of (Region offset_x offset_y width hight scale) = 4
-code_of (Interface object) = 5
-code_of Done = 6
-code_of (Resumed serial) = 7
-code_of (Paused serial) = 8
-code_of (StartEmulating serial sequence) = 9
-code_of (StopEmulating serial) = 10
-code_of (Frame serial timestamp) = 11
-code_of (RegionMappingId mapping_id) = 12
+abbrev pub opcode_of : Event → ℕ
+opcode_of (Destroyed serial) = 0
+opcode_of (Name name) = 1
+opcode_of (DeviceType device_type) = 2
+opcode_of (Dimensions width height) = 3
+opcode_of (Region offset_x offset_y width hight scale) = 4
+opcode_of (Interface object) = 5
+opcode_of Done = 6
+opcode_of (Resumed serial) = 7
+opcode_of (Paused serial) = 8
+opcode_of (StartEmulating serial sequence) = 9
+opcode_of (StopEmulating serial) = 10
+opcode_of (Frame serial timestamp) = 11
+opcode_of (RegionMappingId mapping_id) = 12
 
 -- the arguments: of an interface's object its id, its name and its version
 abbrev pub values_of : Event → List Value

@@ -39,19 +39,19 @@ target_of (event.Touchscreen proxy m) = as_one_of known.Touchscreen proxy
 target_of (event.Text proxy m) = as_one_of known.Text proxy
 
 -- the opcode
-abbrev pub code_of : Event → ℕ
-code_of (event.Handshake proxy m) = handshake.code_of m
-code_of (event.Connection proxy m) = connection.code_of m
-code_of (event.Callback proxy m) = callback.code_of m
-code_of (event.Seat proxy m) = seat.code_of m
-code_of (event.Device proxy m) = device.code_of m
-code_of (event.Pointer proxy m) = pointer.code_of m
-code_of (event.PointerAbsolute proxy m) = pointer_absolute.code_of m
-code_of (event.Scroll proxy m) = scroll.code_of m
-code_of (event.Button proxy m) = button.code_of m
-code_of (event.Keyboard proxy m) = keyboard.code_of m
-code_of (event.Touchscreen proxy m) = touchscreen.code_of m
-code_of (event.Text proxy m) = text.code_of m
+abbrev pub opcode_of : Event → ℕ
+opcode_of (event.Handshake proxy m) = handshake.opcode_of m
+opcode_of (event.Connection proxy m) = connection.opcode_of m
+opcode_of (event.Callback proxy m) = callback.opcode_of m
+opcode_of (event.Seat proxy m) = seat.opcode_of m
+opcode_of (event.Device proxy m) = device.opcode_of m
+opcode_of (event.Pointer proxy m) = pointer.opcode_of m
+opcode_of (event.PointerAbsolute proxy m) = pointer_absolute.opcode_of m
+opcode_of (event.Scroll proxy m) = scroll.opcode_of m
+opcode_of (event.Button proxy m) = button.opcode_of m
+opcode_of (event.Keyboard proxy m) = keyboard.opcode_of m
+opcode_of (event.Touchscreen proxy m) = touchscreen.opcode_of m
+opcode_of (event.Text proxy m) = text.opcode_of m
 
 -- the arguments
 abbrev pub values_of : Event → List Value

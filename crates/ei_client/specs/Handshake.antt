@@ -9,10 +9,10 @@ use Rattle.ei_client.specs.declared.handshake.Event.{Event}
 use Rattle.ei_client.specs.declared.handshake.Event.TheVariants.{HandshakeVersion, InterfaceVersion, Connection}
 
 -- the opcode
-abbrev pub code_of : Event → ℕ
-code_of (HandshakeVersion version) = 0
-code_of (InterfaceVersion name version) = 1
-code_of (Connection serial connection) = 2
+abbrev pub opcode_of : Event → ℕ
+opcode_of (HandshakeVersion version) = 0
+opcode_of (InterfaceVersion name version) = 1
+opcode_of (Connection serial connection) = 2
 
 -- the arguments: of the connection its id and its version
 abbrev pub values_of : Event → List Value

@@ -9,11 +9,11 @@ use Rattle.ei_client.specs.declared.keyboard.Event.{Event}
 use Rattle.ei_client.specs.declared.keyboard.Event.TheVariants.{Destroyed, Keymap, Key, Modifiers}
 
 -- the opcode
-abbrev pub code_of : Event → ℕ
-code_of (Destroyed serial) = 0
-code_of (Keymap keymap_type size keymap) = 1
-code_of (Key key state) = 2
-code_of (Modifiers serial depressed locked latched group) = 3
+abbrev pub opcode_of : Event → ℕ
+opcode_of (Destroyed serial) = 0
+opcode_of (Keymap keymap_type size keymap) = 1
+opcode_of (Key key state) = 2
+opcode_of (Modifiers serial depressed locked latched group) = 3
 
 -- the arguments
 abbrev pub values_of : Event → List Value

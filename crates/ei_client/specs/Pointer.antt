@@ -8,9 +8,9 @@ use Rattle.ei_client.specs.declared.pointer.Event.{Event}
 use Rattle.ei_client.specs.declared.pointer.Event.TheVariants.{Destroyed, MotionRelative}
 
 -- the opcode
-abbrev pub code_of : Event → ℕ
-code_of (Destroyed serial) = 0
-code_of (MotionRelative x y) = 1
+abbrev pub opcode_of : Event → ℕ
+opcode_of (Destroyed serial) = 0
+opcode_of (MotionRelative x y) = 1
 
 -- the arguments
 abbrev pub values_of : Event → List Value

@@ -8,9 +8,9 @@ use Rattle.ei_client.specs.declared.pointer_absolute.Event.{Event}
 use Rattle.ei_client.specs.declared.pointer_absolute.Event.TheVariants.{Destroyed, MotionAbsolute}
 
 -- the opcode
-abbrev pub code_of : Event → ℕ
-code_of (Destroyed serial) = 0
-code_of (MotionAbsolute x y) = 1
+abbrev pub opcode_of : Event → ℕ
+opcode_of (Destroyed serial) = 0
+opcode_of (MotionAbsolute x y) = 1
 
 -- the arguments
 abbrev pub values_of : Event → List Value

@@ -8,11 +8,11 @@ use Rattle.ei_client.specs.declared.scroll.Event.{Event}
 use Rattle.ei_client.specs.declared.scroll.Event.TheVariants.{Destroyed, Scroll, ScrollDiscrete, ScrollStop}
 
 -- the opcode
-abbrev pub code_of : Event → ℕ
-code_of (Destroyed serial) = 0
-code_of (Scroll x y) = 1
-code_of (ScrollDiscrete x y) = 2
-code_of (ScrollStop x y is_cancel) = 3
+abbrev pub opcode_of : Event → ℕ
+opcode_of (Destroyed serial) = 0
+opcode_of (Scroll x y) = 1
+opcode_of (ScrollDiscrete x y) = 2
+opcode_of (ScrollStop x y is_cancel) = 3
 
 -- the arguments
 abbrev pub values_of : Event → List Value

@@ -9,12 +9,12 @@ use Rattle.ei_client.specs.declared.seat.Event.{Event}
 use Rattle.ei_client.specs.declared.seat.Event.TheVariants.{Destroyed, Name, Capability, Done, Device}
 
 -- the opcode
-abbrev pub code_of : Event → ℕ
-code_of (Destroyed serial) = 0
-code_of (Name name) = 1
-code_of (Capability mask interface) = 2
-code_of Done = 3
-code_of (Device device) = 4
+abbrev pub opcode_of : Event → ℕ
+opcode_of (Destroyed serial) = 0
+opcode_of (Name name) = 1
+opcode_of (Capability mask interface) = 2
+opcode_of Done = 3
+opcode_of (Device device) = 4
 
 -- the arguments: of the device its id and its version
 abbrev pub values_of : Event → List Value

@@ -9,10 +9,10 @@ use Rattle.ei_client.specs.declared.text.Event.{Event}
 use Rattle.ei_client.specs.declared.text.Event.TheVariants.{Destroyed, Keysym, Utf8}
 
 -- the opcode
-abbrev pub code_of : Event → ℕ
-code_of (Destroyed serial) = 0
-code_of (Keysym keysym state) = 1
-code_of (Utf8 text) = 2
+abbrev pub opcode_of : Event → ℕ
+opcode_of (Destroyed serial) = 0
+opcode_of (Keysym keysym state) = 1
+opcode_of (Utf8 text) = 2
 
 -- the arguments
 abbrev pub values_of : Event → List Value

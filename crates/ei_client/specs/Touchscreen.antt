@@ -8,12 +8,12 @@ use Rattle.ei_client.specs.declared.touchscreen.Event.{Event}
 use Rattle.ei_client.specs.declared.touchscreen.Event.TheVariants.{Destroyed, Down, Motion, Up, Cancel}
 
 -- the opcode
-abbrev pub code_of : Event → ℕ
-code_of (Destroyed serial) = 0
-code_of (Down touchid x y) = 1
-code_of (Motion touchid x y) = 2
-code_of (Up touchid) = 3
-code_of (Cancel touchid) = 4
+abbrev pub opcode_of : Event → ℕ
+opcode_of (Destroyed serial) = 0
+opcode_of (Down touchid x y) = 1
+opcode_of (Motion touchid x y) = 2
+opcode_of (Up touchid) = 3
+opcode_of (Cancel touchid) = 4
 
 -- the arguments
 abbrev pub values_of : Event → List Value

@@ -3,7 +3,7 @@
 ghost use Rattle.std.specs.Prelude.{◌≡◌, IfOk, true};
 ghost use Rattle.ei_spec.specs.declared.interface.KnownInterface.TheVariants as known;
 ghost use Rattle.ei_backend.specs.Proxies.{ReadsRow, Shows};
-ghost use Rattle.ei_client.specs.Callback.{code_of, values_of};
+ghost use Rattle.ei_client.specs.Callback.{opcode_of, values_of};
 
 use crate::proxy::Proxy;
 use ei_backend::{Table, kinds};
@@ -29,7 +29,7 @@ impl Event {
     ) -> Result<Event, ParseError>
         ensures read { ReadsRow values_of true known.Callback opcode
             bytes.old bytes.new objects.old objects.new result }
-        ensures code { IfOk result (λ m. code_of m ≡ opcode) }
+        ensures code { IfOk result (λ m. opcode_of m ≡ opcode) }
         ensures table { objects.new ≡ objects.old }
     {
         match opcode {
@@ -41,7 +41,7 @@ impl Event {
     }
 
     pub(crate) fn opcode(&self) -> u32
-        ensures { result ≡ code_of self.now }
+        ensures { result ≡ opcode_of self.now }
     {
         match self {
             Event::Done { .. } => 0,
@@ -50,7 +50,7 @@ impl Event {
 
     /// The arguments in order.
     pub(crate) fn args(&self, alloc: Global) -> Result<Vec<Arg<'_>>, NoMemory>
-        ensures { IfOk result (λ args. Shows true known.Callback (code_of self.now) (values_of self.now) args.items) }
+        ensures { IfOk result (λ args. Shows true known.Callback (opcode_of self.now) (values_of self.now) args.items) }
     {
         Ok(match self {
             Event::Done { callback_data } => Vec::from_array(alloc, [Arg::Uint64(*callback_data)])?,

@@ -6,7 +6,7 @@ ghost use Rattle.ei_spec.specs.Interface.{named, bytes_of};
 ghost use Rattle.ei_spec.specs.declared.interface.KnownInterface.TheVariants as known;
 ghost use Rattle.ei_wire.specs.Gives.{Gives};
 ghost use Rattle.ei_backend.specs.Table.{accept};
-ghost use Rattle.ei_client.specs.Device.{code_of, values_of, announced_of, request};
+ghost use Rattle.ei_client.specs.Device.{opcode_of, values_of, announced_of, request};
 
 use crate::{Context, Proxy};
 use ei_backend::{Interface, InterfaceName, Object, Table, kinds};
@@ -175,7 +175,7 @@ impl Event {
         objects: &mut Table,
     ) -> Result<Event, ParseError>
         ensures read { ReadsRow values_of true known.Device opcode bytes.old bytes.new objects.old objects.new result }
-        ensures code { IfOk result (λ m. code_of m ≡ opcode) }
+        ensures code { IfOk result (λ m. opcode_of m ≡ opcode) }
         ensures announced { IfOk result (λ m. Announced (announced_of m) objects.old objects.new) }
         ensures err { OnErr result (objects.new ≡ objects.old) }
     {
@@ -234,7 +234,7 @@ impl Event {
     }
 
     pub(crate) fn opcode(&self) -> u32
-        ensures { result ≡ code_of self.now }
+        ensures { result ≡ opcode_of self.now }
     {
         match self {
             Event::Destroyed { .. } => 0,
@@ -255,7 +255,7 @@ impl Event {
 
     /// The arguments in order.
     pub(crate) fn args(&self, alloc: Global) -> Result<Vec<Arg<'_>>, NoMemory>
-        ensures { IfOk result (λ args. Shows true known.Device (code_of self.now) (values_of self.now) args.items) }
+        ensures { IfOk result (λ args. Shows true known.Device (opcode_of self.now) (values_of self.now) args.items) }
     {
         Ok(match self {
             Event::Destroyed { serial } => Vec::from_array(alloc, [Arg::Uint32(*serial)])?,

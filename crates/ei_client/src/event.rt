@@ -1,7 +1,7 @@
 //! The events of a server.
 
 ghost use Rattle.std.specs.Prelude.{◌≡◌, true};
-ghost use Rattle.ei_client.specs.Event.{target_of, code_of, values_of, announced_of};
+ghost use Rattle.ei_client.specs.Event.{target_of, opcode_of, values_of, announced_of};
 
 use crate::button::{self, Button};
 use crate::callback::{self, Callback};
@@ -42,7 +42,7 @@ impl MessageEnum for Event {
 
     ghost target = { target_of };
 
-    ghost code = { code_of };
+    ghost code = { opcode_of };
 
     ghost values = { values_of };
 

@@ -4,7 +4,7 @@ ghost use Rattle.std.specs.Prelude.{◌≡◌, IfOk, OnErr, true, codes, [], ◌
 ghost use Rattle.ei_backend.specs.Proxies.{Word, Letters, Announced, ReadsRow, Shows, Sends, SendsText};
 ghost use Rattle.ei_spec.specs.declared.interface.KnownInterface.TheVariants as known;
 ghost use Rattle.ei_types.specs.Enums.{context_type_number};
-ghost use Rattle.ei_client.specs.Handshake.{code_of, values_of, announced_of, request};
+ghost use Rattle.ei_client.specs.Handshake.{opcode_of, values_of, announced_of, request};
 
 use crate::{Connection, Context, Proxy};
 use ei_backend::{Interface, Table, kinds};
@@ -102,7 +102,7 @@ impl Event {
     ) -> Result<Event, ParseError>
         ensures read { ReadsRow values_of true known.Handshake opcode
             bytes.old bytes.new objects.old objects.new result }
-        ensures code { IfOk result (λ m. code_of m ≡ opcode) }
+        ensures code { IfOk result (λ m. opcode_of m ≡ opcode) }
         ensures announced { IfOk result (λ m. Announced (announced_of m) objects.old objects.new) }
         ensures err { OnErr result (objects.new ≡ objects.old) }
     {
@@ -124,7 +124,7 @@ impl Event {
     }
 
     pub(crate) fn opcode(&self) -> u32
-        ensures { result ≡ code_of self.now }
+        ensures { result ≡ opcode_of self.now }
     {
         match self {
             Event::HandshakeVersion { .. } => 0,
@@ -135,7 +135,7 @@ impl Event {
 
     /// The arguments in order.
     pub(crate) fn args(&self, alloc: Global) -> Result<Vec<Arg<'_>>, NoMemory>
-        ensures { IfOk result (λ args. Shows true known.Handshake (code_of self.now) (values_of self.now) args.items) }
+        ensures { IfOk result (λ args. Shows true known.Handshake (opcode_of self.now) (values_of self.now) args.items) }
     {
         Ok(match self {
             Event::HandshakeVersion { version } => Vec::from_array(alloc, [Arg::Uint32(*version)])?,

@@ -4,7 +4,7 @@ ghost use Rattle.std.specs.Prelude.{◌≡◌, IfOk, true, codes, [], ◌∷◌}
 ghost use Rattle.ei_backend.specs.Proxies.{Word, ReadsRow, Shows, Sends};
 ghost use Rattle.ei_spec.specs.declared.interface.KnownInterface.TheVariants as known;
 ghost use Rattle.ei_types.specs.Enums.{key_state_number};
-ghost use Rattle.ei_client.specs.Keyboard.{code_of, values_of, request};
+ghost use Rattle.ei_client.specs.Keyboard.{opcode_of, values_of, request};
 
 use crate::{Context, Proxy};
 use ei_backend::{Interface, Table, kinds};
@@ -78,7 +78,7 @@ impl Event {
     ) -> Result<Event, ParseError>
         ensures read { ReadsRow values_of true known.Keyboard opcode
             bytes.old bytes.new objects.old objects.new result }
-        ensures code { IfOk result (λ m. code_of m ≡ opcode) }
+        ensures code { IfOk result (λ m. opcode_of m ≡ opcode) }
         ensures table { objects.new ≡ objects.old }
     {
         match opcode {
@@ -112,7 +112,7 @@ impl Event {
     }
 
     pub(crate) fn opcode(&self) -> u32
-        ensures { result ≡ code_of self.now }
+        ensures { result ≡ opcode_of self.now }
     {
         match self {
             Event::Destroyed { .. } => 0,
@@ -123,7 +123,7 @@ impl Event {
     }
 
     pub(crate) fn args(&self, alloc: Global) -> Result<Vec<Arg<'_>>, NoMemory>
-        ensures { IfOk result (λ args. Shows true known.Keyboard (code_of self.now) (values_of self.now) args.items) }
+        ensures { IfOk result (λ args. Shows true known.Keyboard (opcode_of self.now) (values_of self.now) args.items) }
     {
         Ok(match self {
             Event::Destroyed { serial } => Vec::from_array(alloc, [Arg::Uint32(*serial)])?,

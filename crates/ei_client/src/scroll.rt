@@ -3,7 +3,7 @@
 ghost use Rattle.std.specs.Prelude.{◌≡◌, IfOk, true, codes, [], ◌∷◌};
 ghost use Rattle.ei_backend.specs.Proxies.{Word, Signed, ReadsRow, Shows, Sends};
 ghost use Rattle.ei_spec.specs.declared.interface.KnownInterface.TheVariants as known;
-ghost use Rattle.ei_client.specs.Scroll.{code_of, values_of, request};
+ghost use Rattle.ei_client.specs.Scroll.{opcode_of, values_of, request};
 
 use crate::{Context, Proxy};
 use ei_backend::{Table, kinds};
@@ -85,7 +85,7 @@ impl Event {
         objects: &mut Table,
     ) -> Result<Event, ParseError>
         ensures read { ReadsRow values_of true known.Scroll opcode bytes.old bytes.new objects.old objects.new result }
-        ensures code { IfOk result (λ m. code_of m ≡ opcode) }
+        ensures code { IfOk result (λ m. opcode_of m ≡ opcode) }
         ensures table { objects.new ≡ objects.old }
     {
         match opcode {
@@ -109,7 +109,7 @@ impl Event {
     }
 
     pub(crate) fn opcode(&self) -> u32
-        ensures { result ≡ code_of self.now }
+        ensures { result ≡ opcode_of self.now }
     {
         match self {
             Event::Destroyed { .. } => 0,
@@ -120,7 +120,7 @@ impl Event {
     }
 
     pub(crate) fn args(&self, alloc: Global) -> Result<Vec<Arg<'_>>, NoMemory>
-        ensures { IfOk result (λ args. Shows true known.Scroll (code_of self.now) (values_of self.now) args.items) }
+        ensures { IfOk result (λ args. Shows true known.Scroll (opcode_of self.now) (values_of self.now) args.items) }
     {
         Ok(match self {
             Event::Destroyed { serial } => Vec::from_array(alloc, [Arg::Uint32(*serial)])?,

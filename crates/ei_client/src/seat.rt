@@ -3,7 +3,7 @@
 ghost use Rattle.std.specs.Prelude.{◌≡◌, IfOk, OnErr, true, codes, [], ◌∷◌};
 ghost use Rattle.ei_backend.specs.Proxies.{Long, Announced, ReadsRow, Shows, Sends};
 ghost use Rattle.ei_spec.specs.declared.interface.KnownInterface.TheVariants as known;
-ghost use Rattle.ei_client.specs.Seat.{code_of, values_of, announced_of, request};
+ghost use Rattle.ei_client.specs.Seat.{opcode_of, values_of, announced_of, request};
 
 use crate::{Context, Device, Proxy};
 use ei_backend::{Interface, Table, kinds};
@@ -66,7 +66,7 @@ impl Event {
         objects: &mut Table,
     ) -> Result<Event, ParseError>
         ensures read { ReadsRow values_of true known.Seat opcode bytes.old bytes.new objects.old objects.new result }
-        ensures code { IfOk result (λ m. code_of m ≡ opcode) }
+        ensures code { IfOk result (λ m. opcode_of m ≡ opcode) }
         ensures announced { IfOk result (λ m. Announced (announced_of m) objects.old objects.new) }
         ensures err { OnErr result (objects.new ≡ objects.old) }
     {
@@ -92,7 +92,7 @@ impl Event {
     }
 
     pub(crate) fn opcode(&self) -> u32
-        ensures { result ≡ code_of self.now }
+        ensures { result ≡ opcode_of self.now }
     {
         match self {
             Event::Destroyed { .. } => 0,
@@ -105,7 +105,7 @@ impl Event {
 
     /// The arguments in order.
     pub(crate) fn args(&self, alloc: Global) -> Result<Vec<Arg<'_>>, NoMemory>
-        ensures { IfOk result (λ args. Shows true known.Seat (code_of self.now) (values_of self.now) args.items) }
+        ensures { IfOk result (λ args. Shows true known.Seat (opcode_of self.now) (values_of self.now) args.items) }
     {
         Ok(match self {
             Event::Destroyed { serial } => Vec::from_array(alloc, [Arg::Uint32(*serial)])?,

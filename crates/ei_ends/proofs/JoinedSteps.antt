@@ -13,7 +13,7 @@ use Rattle.ei_spec.specs.Interface.{Known, ObjectView, Interface, named}
 use Rattle.ei_spec.specs.Rows.{Row, Announces, Nothing, Fixed, Named, version_of, name_in}
 use Rattle.ei_spec.specs.Piece.{Piece}
 use Rattle.ei_spec.specs.Message.{all_bytes}
-use Rattle.ei_backend.specs.Backend.{BackendView, Answer, Waits, Refused, Gone, Message, next, unsent_of, after_row, with_announced, with_object}
+use Rattle.ei_backend.specs.Backend.{BackendView, FrontAnswer, Waits, Refused, Gone, Message, next, unsent_of, after_row, with_announced, with_object}
 use Rattle.ei_backend.specs.Backend.{without_target, sent, sent_new, removed}
 use Rattle.ei_ends.specs.Sent.{other, Sent, Got, Took, Missed, New, new_by, new_in, new_of, row_of, destroys, ends_target, bytes_in, handles_in, raw_of}
 use Rattle.ei_ends.specs.Announced.{next_own}
@@ -64,7 +64,7 @@ close events x y to_y to_x left j = record { there = _; back = _; tied = close_s
 
 miss_is : (events : Bool) (x y : End) (to_y to_x : Piece) (cx cy : Cut) (id : ℕ) (b : BackendView) → Misses events x y to_y to_x cx cy → next events y.backend ≡ (Gone id, b) → Joined events x (with_taken b (Missed id (length y.sent)) y) to_y to_x
 miss_is events x y to_y to_x cx cy id b miss e =
-    let both : ◌≡◌ {A = Answer × BackendView} (Gone miss.message.target, miss.after) (Gone id, b) = sym miss.next_is ∙ e in
+    let both : ◌≡◌ {A = FrontAnswer × BackendView} (Gone miss.message.target, miss.after) (Gone id, b) = sym miss.next_is ∙ e in
     let same : miss.message.target ≡ id = let g = pair_first (Gone miss.message.target) (Gone id) miss.after b both in cc in
     let after : miss.after ≡ b = pair_second (Gone miss.message.target) (Gone id) miss.after b both in
     subst (λ (i : ℕ). Joined events x (with_taken b (Missed i (length y.sent)) y) to_y to_x) same
@@ -74,7 +74,7 @@ miss_is events x y to_y to_x cx cy id b miss e =
 take_is : (events : Bool) (x y : End) (to_y to_x : Piece) (cx cy : Cut) (target : ObjectView) (interface : KnownInterface) (opcode : ℕ) (values : List Value) (b : BackendView) → Takes events x y to_y to_x cx cy → next events y.backend ≡ (Message target opcode values, b) → target.interface ≡ Known interface →
     Joined events x (with_taken b (Took (stored target interface opcode values) (length y.sent)) y) to_y to_x
 take_is events x y to_y to_x cx cy target interface opcode values b take e known =
-    let both : ◌≡◌ {A = Answer × BackendView} (Message take.target take.read.opcode take.read.values, take.after) (Message target opcode values, b) = sym take.next_is ∙ e in
+    let both : ◌≡◌ {A = FrontAnswer × BackendView} (Message take.target take.read.opcode take.read.values, take.after) (Message target opcode values, b) = sym take.next_is ∙ e in
     let m = pair_first (Message take.target take.read.opcode take.read.values) (Message target opcode values) take.after b both in
     let after : take.after ≡ b = pair_second (Message take.target take.read.opcode take.read.values) (Message target opcode values) take.after b both in
     let target_same : take.target ≡ target = cc in
@@ -126,7 +126,7 @@ never_refused events x y to_y to_x f b j e = elim (reads events x y to_y to_x j.
 ]
 
 -- the next message is taken, if there is one
-pub same_answer : (events : Bool) (y : End) (a : Answer) (b : BackendView) → next events y.backend ≡ (a, b) → after_read events y ≡ having_answered a b y
+pub same_answer : (events : Bool) (y : End) (a : FrontAnswer) (b : BackendView) → next events y.backend ≡ (a, b) → after_read events y ≡ having_answered a b y
 unfolding after_read
 same_answer events y a b e = rw e refl
 

@@ -2,7 +2,7 @@
 use Rattle.std.proofs.Common.{◌≡◌, ◌≤◌, Bool, false, ◌⊎◌, inl, inr, List, [], ◌∷◌, ◌++◌, length, refl, sym, ap, ◌∙◌, length-append, append-nil, arith}
 use Rattle.ei_spec.specs.Message.{size}
 use Rattle.ei_spec.specs.Piece.{Piece}
-use Rattle.ei_backend.specs.Backend.{BackendView, Answer, Waits, Gone, Message, next}
+use Rattle.ei_backend.specs.Backend.{BackendView, FrontAnswer, Waits, Gone, Message, next}
 use Rattle.ei_ends.specs.Sent.{Sent, bytes_in, raw_of, spelled}
 use Rattle.ei_ends.specs.Way.{onto, End, Cut, Tied}
 use Rattle.ei_ends.proofs.ReadsNext.{Misses, Takes}
@@ -10,11 +10,11 @@ use Rattle.ei_ends.proofs.InTime.{bytes_length}
 use Rattle.ei_ends.proofs.Agreeing.{agree_length}
 use Rattle.ei_ends.proofs.Reading.{reads_whole}
 
-pub pair_first : (a b : Answer) (x y : BackendView) → ◌≡◌ {A = Answer × BackendView} (a, x) (b, y) → a ≡ b
-pair_first a b x y e = ap (λ (p : Answer × BackendView). p.0) e
+pub pair_first : (a b : FrontAnswer) (x y : BackendView) → ◌≡◌ {A = FrontAnswer × BackendView} (a, x) (b, y) → a ≡ b
+pair_first a b x y e = ap (λ (p : FrontAnswer × BackendView). p.0) e
 
-pub pair_second : (a b : Answer) (x y : BackendView) → ◌≡◌ {A = Answer × BackendView} (a, x) (b, y) → x ≡ y
-pair_second a b x y e = ap (λ (p : Answer × BackendView). p.1) e
+pub pair_second : (a b : FrontAnswer) (x y : BackendView) → ◌≡◌ {A = FrontAnswer × BackendView} (a, x) (b, y) → x ≡ y
+pair_second a b x y e = ap (λ (p : FrontAnswer × BackendView). p.1) e
 
 message_long : (m : Sent) → 16 ≤ length (bytes_in m)
 message_long m = omega (arith, bytes_length m)

@@ -5,7 +5,7 @@ use Rattle.ei_spec.specs.Value.{Value}
 use Rattle.ei_spec.specs.Interface.{Interface, ObjectView, Known, Other}
 use Rattle.ei_spec.specs.Piece.{Piece}
 use Rattle.ei_backend.specs.Table.{TableView, own_end, with_own, without}
-use Rattle.ei_backend.specs.Backend.{BackendView, Answer, Waits, Refused, Gone, Message, next, with_piece, with_room, closed_of}
+use Rattle.ei_backend.specs.Backend.{BackendView, FrontAnswer, Waits, Refused, Gone, Message, next, with_piece, with_room, closed_of}
 use Rattle.ei_ends.specs.Sent.{Sent, Got, Took, Missed, New, new_of, destroys, bytes_in, handles_in}
 use Rattle.ei_ends.specs.Way.{End}
 
@@ -110,7 +110,7 @@ having_read target (Known k) opcode values b y = with_taken b (Took (stored targ
 having_read target (Other name) opcode values b y = with_backend b y
 
 -- the end that was answered so when it asked for the next message, with the endpoint after it
-abbrev pub having_answered : Answer → BackendView → End → End
+abbrev pub having_answered : FrontAnswer → BackendView → End → End
 having_answered Waits b y = with_backend b y
 having_answered (Refused f) b y = with_backend b y
 having_answered (Gone id) b y = with_taken b (Missed id (length y.sent)) y

@@ -5,8 +5,5 @@
 //! `specs/Way.antt`, what holds of two ends at any time. Lists of messages have the newest first.
 #![tactic(auto)]
 
-mod laws;
-mod worked;
-
-pub use laws::{by_the_lists, calls, calls_of_rows, ends, in_turn, steps};
-pub use worked::{a_dropped_handle, an_ended_connection};
+pub mod laws;
+pub mod worked;

@@ -3,12 +3,11 @@
 //! There is no connection here but the one that the handshake hands over. Begin with `EisHandshaker`.
 #![tactic(auto)]
 
-mod laws;
+pub mod laws;
 mod result;
 mod server;
 mod versions;
 
-pub use laws::settled_is_kept;
 pub use result::request_result;
 pub use server::{EisHandshakeResp, EisHandshaker};
 pub use versions::Versions;

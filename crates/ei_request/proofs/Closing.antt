@@ -4,7 +4,7 @@ use Rattle.std.specs.Prelude.{OnOk, OnErr, IfErr, IsSome, nat_lt}
 use Rattle.std.proofs.lemmas.Bool.Decides.{nat_tests}
 use Rattle.ei_types.specs.declared.error.Error.{Error}
 use Rattle.ei_types.specs.declared.error.Error.TheVariants as error
-use Rattle.ei_backend.specs.Outside.{Reads}
+use Rattle.ei_backend.specs.Outside.{ReadsClock}
 use Rattle.ei_session.specs.Meaning.{Meaning}
 use Rattle.ei_request.specs.Keys.{DeviceKey}
 use Rattle.ei_request.specs.declared.event.EisRequest.{EisRequest}
@@ -21,7 +21,7 @@ some_waiting None = refl
 some_waiting (Some d) = refl
 
 pub asked_of_clock : (o : Option DeviceView) (time : ℕ) (before after : Option (List ℕ)) → 0 < length (waiting_of o) →
-    ((told : List ℕ) → before ≡ Some told → Reads told after time) → Times true (is_some_waiting o) time before after
+    ((told : List ℕ) → before ≡ Some told → ReadsClock told after time) → Times true (is_some_waiting o) time before after
 asked_of_clock o time before after some reads =
     let is : is_some_waiting o ≡ true = some_waiting o ∙ grind (arith, nat_tests) in
     subst (λ (b : Bool). Times true b time before after) (sym is) reads

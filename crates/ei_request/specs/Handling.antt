@@ -9,7 +9,7 @@ use Rattle.ei_request.specs.declared.input.Input.{Input}
 use Rattle.ei_request.specs.Coded.{input_in_code}
 use Rattle.ei_session.specs.Meaning.{Meaning, Shakes, Syncs, Disconnects, Pongs, ReleasesSeat, Binds, RequestsDevice, Closes, Starts, Stops, Frames}
 use Rattle.ei_session.specs.Meaning.{Readies, Releases, Inputs}
-use Rattle.ei_backend.specs.Outside.{Reads}
+use Rattle.ei_backend.specs.Outside.{ReadsClock}
 use Rattle.ei_request.specs.Keys.{DeviceKey}
 use Rattle.ei_request.specs.Typed.{meaning_of}
 use Rattle.ei_request.specs.Held.{SeatView, DeviceView, is_seat, is_device, has_interface, is_waiting, changed_first, released, emptied, without_interface}
@@ -140,7 +140,7 @@ is_some_waiting (Some d) = is_waiting d
 
 -- the time is the next reading, where the clock is asked; else it isn't read
 abbrev pub Times : Bool → Bool → ℕ → Option (List ℕ) → Option (List ℕ) → Type 0
-Times true true time before after = (told : List ℕ) → before ≡ Some told → Reads told after time
+Times true true time before after = (told : List ℕ) → before ≡ Some told → ReadsClock told after time
 Times closing waiting time before after = after ≡ before
 
 -- An open group of the device is closed, and the request is queued behind it. The clock is asked where a frame is made.
@@ -150,7 +150,7 @@ pub record ClosesWith (old : ConverterView) (id : ℕ) (request : EisRequest) (b
   pub does : new ≡ closes old id time (λ device. request) (device_in old id)
 
 -- The request is taken: nothing refuses it, the clock is asked where a frame is made, and the converter does what it asks.
-pub record Takes (old : ConverterView) (id version : ℕ) (meaning : Meaning) (before after : Option (List ℕ)) (new : ConverterView) : Type 0 where
+pub record TakesRequest (old : ConverterView) (id version : ℕ) (meaning : Meaning) (before after : Option (List ℕ)) (new : ConverterView) : Type 0 where
   pub time : ℕ
   pub accepted : refusal old.handle id version meaning ≡ None
   pub clock : Times (closes_group meaning) (is_some_waiting (device_in old id)) time before after
@@ -164,7 +164,7 @@ pub record Refuses (old : ConverterView) (id version : ℕ) (meaning : Meaning) 
 
 -- what the converter does with a request to the object of that id and version
 abbrev pub HandlesTo : ConverterView → ℕ → ℕ → Meaning → Option (List ℕ) → Result Unit Error → Option (List ℕ) → ConverterView → Type 0
-HandlesTo old id version meaning before (Ok x) after new = Takes old id version meaning before after new
+HandlesTo old id version meaning before (Ok x) after new = TakesRequest old id version meaning before after new
 HandlesTo old id version meaning before (Err e) after new = Refuses old id version meaning e before after new
 
 -- what the converter does with a request

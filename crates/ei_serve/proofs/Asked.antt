@@ -10,14 +10,14 @@ use Rattle.ei_spec.specs.Message.{Raw, Front, Short, Unlawful, Whole, front}
 use Rattle.ei_spec.specs.Stream.{Refused as RefusedSo}
 use Rattle.ei_spec.proofs.Faults.{IsNoHeader}
 use Rattle.ei_backend.specs.Table.{TableView, found}
-use Rattle.ei_backend.specs.Backend.{BackendView, Outcome, Answer, Waits, Refused, Gone, Message, said_of, of_outcome, of_target, of_front, body_read, next, Answers, Brings}
+use Rattle.ei_backend.specs.Backend.{BackendView, BodyOutcome, FrontAnswer, Waits, Refused, Gone, Message, said_of, of_outcome, of_target, of_front, body_read, next, Answers, Brings}
 use Rattle.ei_backend.specs.declared.message.PendingRequestResult.TheVariants as pending
 use Rattle.ei_wire.specs.Gives.{fault_of}
 use Rattle.ei_wire.specs.declared.error.ParseError.{ParseError}
 use Rattle.ei_wire.specs.declared.error.ParseError.TheVariants as parse_error
 use Rattle.ei_types.specs.declared.error.Error.TheVariants as error
 use Rattle.ei_server.specs.declared.request.Request.{Request}
-use Rattle.ei_server.specs.Request.{target_of, code_of, values_of, announced_of}
+use Rattle.ei_server.specs.Request.{target_of, opcode_of, values_of, announced_of}
 use Rattle.ei_session.specs.Setup.{Setup}
 use Rattle.ei_session.specs.Arguments.{request_args}
 use Rattle.ei_session.specs.NextIds.{next_peer}
@@ -25,18 +25,18 @@ use Rattle.ei_session.specs.Objects.{Entry, object}
 use Rattle.ei_session.specs.Refusals.{Refusal, Parse, refusal, judge}
 use Rattle.ei_request.specs.Converter.{ConverterView}
 use Rattle.ei_standing.specs.Standing.{IsHeld, object_of}
-use Rattle.ei_serve.specs.Asking.{IsAsked}
+use Rattle.ei_serve.specs.AtFront.{IsAsked}
 use Rattle.ei_serve.specs.Standing.{IsConnected}
 use Rattle.ei_serve.specs.Steps.{Refuses, RefusesFront}
 use Rattle.ei_serve.proofs.ReadFront.{exactly}
 
-abbrev pair : Answer → BackendView → Answer × BackendView
+abbrev pair : FrontAnswer → BackendView → FrontAnswer × BackendView
 pair a b = (a, b)
 
-abbrev answer_of : Answer × BackendView → Answer
+abbrev answer_of : FrontAnswer × BackendView → FrontAnswer
 answer_of p = p.0
 
-abbrev backend_of : Answer × BackendView → BackendView
+abbrev backend_of : FrontAnswer × BackendView → BackendView
 backend_of p = p.1
 
 -- ---- a converter of which only the endpoint changed, and not its objects
@@ -65,7 +65,7 @@ held_with setup past times c d ctx h t closed none is =
 
 -- ---- the answer, by what stands at the front
 
-pub data View (setup : Setup) (past : List Raw) (b : BackendView) (w : Answer × BackendView) : Type 0 where
+pub data View (setup : Setup) (past : List Raw) (b : BackendView) (w : FrontAnswer × BackendView) : Type 0 where
   IsShort : front b.unread ≡ Short → w ≡ pair Waits b → View setup past b w
   IsUnlawful : (n : ℕ) → front b.unread ≡ Unlawful n → w ≡ pair (Refused (HeaderLength n)) b → View setup past b w
   IsGone : (m : Raw) → (after : List ℕ) → front b.unread ≡ Whole m after → object past m.id ≡ None → w ≡ pair (Gone m.id) (record b { unread = after }) → View setup past b w
@@ -74,7 +74,7 @@ pub data View (setup : Setup) (past : List Raw) (b : BackendView) (w : Answer ×
   IsRefused : (m : Raw) → (after : List ℕ) → (f : Fault) → (left : BackendView) → front b.unread ≡ Whole m after → refusal setup past m ≡ Some (Parse f) → IsNoHeader f → w ≡ pair (Refused f) left → View setup past b w
 
 module _ (setup : Setup) (past : List Raw) (b : BackendView) (server : b.table.client ≡ false) (peer : b.table.next_peer ≡ next_peer past) (objects : (id : ℕ) → found b.table id ≡ option_map (object_of id) (object past id)) where
-  said_by : (m : Raw) (after : List ℕ) (e : Entry) (o : Outcome) (r : Result (List Value) Fault) → front b.unread ≡ Whole m after → object past m.id ≡ Some e → o.said ≡ r →
+  said_by : (m : Raw) (after : List ℕ) (e : Entry) (o : BodyOutcome) (r : Result (List Value) Fault) → front b.unread ≡ Whole m after → object past m.id ≡ Some e → o.said ≡ r →
       MatchResult r (λ values. (request_args e.interface m ≡ Some values) × (o.taken ≡ 0)) (λ f. (refusal setup past m ≡ Some (Parse f)) × IsNoHeader f) →
       next false b ≡ of_outcome b (object_of m.id e) m.opcode after o → View setup past b (next false b)
   said_by m after e o (Ok values) f k same x n =
@@ -91,7 +91,7 @@ module _ (setup : Setup) (past : List Raw) (b : BackendView) (server : b.table.c
       IsGone m after f k (ap (of_front false b) f ∙ ap (λ (x : Option ObjectView). of_target false b x m after) t)
   view_whole m after (Some e) f k =
       let t : found b.table m.id ≡ Some (object_of m.id e) = objects m.id ∙ ap (option_map (object_of m.id)) k in
-      let o : Outcome = body_read false (object_of m.id e) m.opcode m.body b.handles b.table in
+      let o : BodyOutcome = body_read false (object_of m.id e) m.opcode m.body b.handles b.table in
       said_by m after e o o.said f k refl (exactly past b.table server peer setup m e (object_of m.id e) b.handles k refl)
       (ap (of_front false b) f ∙ ap (λ (x : Option ObjectView). of_target false b x m after) t)
 
@@ -105,7 +105,7 @@ module _ (setup : Setup) (past : List Raw) (b : BackendView) (server : b.table.c
 
 -- ---- no message
 
-pub waits_by : (setup : Setup) (past : List Raw) (b new : BackendView) (w : Answer × BackendView) → View setup past b w → w ≡ pair Waits new → (front b.unread ≡ Short) × (new ≡ b)
+pub waits_by : (setup : Setup) (past : List Raw) (b new : BackendView) (w : FrontAnswer × BackendView) → View setup past b w → w ≡ pair Waits new → (front b.unread ≡ Short) × (new ≡ b)
 waits_by setup past b new w (IsShort f n) h = (f, sym (ap backend_of h) ∙ ap backend_of n)
 waits_by setup past b new w (IsUnlawful k f n) h = let g : Waits ≡ Refused (HeaderLength k) = sym (ap answer_of h) ∙ ap answer_of n in absurd cc
 waits_by setup past b new w (IsGone m after f k n) h = let g : Waits ≡ Gone m.id = sym (ap answer_of h) ∙ ap answer_of n in absurd cc
@@ -122,7 +122,7 @@ pub record NoObject (past : List Raw) (b : BackendView) (id : ℕ) (new : Backen
   pub id_is : id ≡ m.id
   pub now : new ≡ record b { unread = after }
 
-pub gone_by : (setup : Setup) (past : List Raw) (b new : BackendView) (id : ℕ) (w : Answer × BackendView) → View setup past b w → w ≡ pair (Gone id) new → NoObject past b id new
+pub gone_by : (setup : Setup) (past : List Raw) (b new : BackendView) (id : ℕ) (w : FrontAnswer × BackendView) → View setup past b w → w ≡ pair (Gone id) new → NoObject past b id new
 gone_by setup past b new id w (IsShort f n) h = let g : Gone id ≡ Waits = sym (ap answer_of h) ∙ ap answer_of n in absurd cc
 gone_by setup past b new id w (IsUnlawful k f n) h = let g : Gone id ≡ Refused (HeaderLength k) = sym (ap answer_of h) ∙ ap answer_of n in absurd cc
 gone_by setup past b new id w (IsGone m after f k n) h =
@@ -141,15 +141,15 @@ pub record TakenOut (past : List Raw) (b : BackendView) (r : Request) (new : Bac
   pub front_is : front b.unread ≡ Whole m after
   pub there : object past m.id ≡ Some e
   pub target : target_of r ≡ object_of m.id e
-  pub opcode : m.opcode ≡ code_of r
+  pub opcode : m.opcode ≡ opcode_of r
   pub args : request_args e.interface m ≡ Some (values_of r)
   pub table : TableView
   pub now : new ≡ record b { table = table; unread = after }
 
-pub taken_by : (setup : Setup) (past : List Raw) (b new : BackendView) (r : Request) (w : Answer × BackendView) → View setup past b w → w ≡ pair (Message (target_of r) (code_of r) (values_of r)) new → TakenOut past b r new
-taken_by setup past b new r w v h = by (target_of r) (code_of r) (values_of r) refl refl refl v h
+pub taken_by : (setup : Setup) (past : List Raw) (b new : BackendView) (r : Request) (w : FrontAnswer × BackendView) → View setup past b w → w ≡ pair (Message (target_of r) (opcode_of r) (values_of r)) new → TakenOut past b r new
+taken_by setup past b new r w v h = by (target_of r) (opcode_of r) (values_of r) refl refl refl v h
   where
-    by : (t : ObjectView) (op : ℕ) (vs : List Value) → target_of r ≡ t → code_of r ≡ op → values_of r ≡ vs → View setup past b w → w ≡ pair (Message t op vs) new → TakenOut past b r new
+    by : (t : ObjectView) (op : ℕ) (vs : List Value) → target_of r ≡ t → opcode_of r ≡ op → values_of r ≡ vs → View setup past b w → w ≡ pair (Message t op vs) new → TakenOut past b r new
     by t op vs t_is op_is vs_is (IsShort f n) h = let g : Message t op vs ≡ Waits = sym (ap answer_of h) ∙ ap answer_of n in absurd cc
     by t op vs t_is op_is vs_is (IsUnlawful k f n) h = let g : Message t op vs ≡ Refused (HeaderLength k) = sym (ap answer_of h) ∙ ap answer_of n in absurd cc
     by t op vs t_is op_is vs_is (IsGone m after f k n) h = let g : Message t op vs ≡ Gone m.id = sym (ap answer_of h) ∙ ap answer_of n in absurd cc
@@ -188,7 +188,7 @@ no_header : (setup : Setup) (past : List Raw) (rest : List ℕ) (f : Fault) → 
 no_header setup past rest (HeaderLength n) nh u = absurd nh
 no_header setup past rest other nh u = u
 
-pub refused_by : (setup : Setup) (past : List Raw) (b new : BackendView) (fault : Fault) (w : Answer × BackendView) → View setup past b w → w ≡ pair (Refused fault) new → SaysWhy setup past b.unread (Some fault)
+pub refused_by : (setup : Setup) (past : List Raw) (b new : BackendView) (fault : Fault) (w : FrontAnswer × BackendView) → View setup past b w → w ≡ pair (Refused fault) new → SaysWhy setup past b.unread (Some fault)
 refused_by setup past b new fault w (IsShort f n) h = let g : Refused fault ≡ Waits = sym (ap answer_of h) ∙ ap answer_of n in absurd cc
 refused_by setup past b new fault w (IsUnlawful k f n) h =
     let g : Refused fault ≡ Refused (HeaderLength k) = sym (ap answer_of h) ∙ ap answer_of n in
@@ -201,7 +201,7 @@ refused_by setup past b new fault w (IsRefused m after other left f k a n) h =
     let same : other ≡ fault = cc in
     subst (λ (x : Fault). SaysWhy setup past b.unread (Some x)) same (no_header setup past b.unread other a (m, after, f, judged_refused setup past m (Parse other) k))
 
-says_why : (setup : Setup) (past : List Raw) (b new : BackendView) (o : Option Fault) (w : Answer × BackendView) → View setup past b w → IfSome o (λ f. w ≡ pair (Refused f) new) × IsSome o → SaysWhy setup past b.unread o
+says_why : (setup : Setup) (past : List Raw) (b new : BackendView) (o : Option Fault) (w : FrontAnswer × BackendView) → View setup past b w → IfSome o (λ f. w ≡ pair (Refused f) new) × IsSome o → SaysWhy setup past b.unread o
 says_why setup past b new None w v h = let g : false ≡ true = h.1 in absurd cc
 says_why setup past b new (Some fault) w v h = refused_by setup past b new fault w v h.0
 
@@ -227,10 +227,10 @@ module _ (setup : Setup) (past : List Raw) (times rest : List ℕ) (handles : Li
   unread_is : {A : Type 0} (x : A) (f : List ℕ → A) → f old.handle.ctx.unread ≡ x → f rest ≡ x
   unread_is x f h = ap f (sym stands.unread) ∙ h
 
-  pub asks_waits : Answers target_of code_of values_of None new (next false old.handle.ctx) → (front rest ≡ Short) × (new ≡ old.handle.ctx)
+  pub asks_waits : Answers target_of opcode_of values_of None new (next false old.handle.ctx) → (front rest ≡ Short) × (new ≡ old.handle.ctx)
   asks_waits h = let w = waits_by setup past old.handle.ctx new (next false old.handle.ctx) seen h in (unread_is Short front w.0, w.1)
 
-  pub asks_refused : (e : ParseError) → Answers target_of code_of values_of (Some (pending.ParseError e)) new (next false old.handle.ctx) → Refuses setup past rest (error.Parse e)
+  pub asks_refused : (e : ParseError) → Answers target_of opcode_of values_of (Some (pending.ParseError e)) new (next false old.handle.ctx) → Refuses setup past rest (error.Parse e)
   asks_refused e h = parse_refused setup past rest e (subst (λ (x : List ℕ). SaysWhy setup past x (fault_of e)) stands.unread (says_why setup past old.handle.ctx new (fault_of e) (next false old.handle.ctx) seen h))
 
   -- the converter whose endpoint is that one, but for what is unread
@@ -244,13 +244,13 @@ module _ (setup : Setup) (past : List Raw) (times rest : List ℕ) (handles : Li
     queue = stands.queue;
   }
 
-  pub asks_gone : (id : ℕ) → Answers target_of code_of values_of (Some (pending.InvalidObject id)) new (next false old.handle.ctx) →
+  pub asks_gone : (id : ℕ) → Answers target_of opcode_of values_of (Some (pending.InvalidObject id)) new (next false old.handle.ctx) →
       (g : NoObject past old.handle.ctx id new) × (front rest ≡ Whole g.m g.after) × IsConnected setup past times g.after handles (record old { handle = record old.handle { ctx = new } })
   asks_gone id h =
       let g = gone_by setup past old.handle.ctx new id (next false old.handle.ctx) seen h in
       (g, unread_is (Whole g.m g.after) front g.front_is, subst (λ (x : BackendView). IsConnected setup past times g.after handles (record old { handle = record old.handle { ctx = x } })) (sym g.now) (standing g.after))
 
-  pub asks_request : (r : Request) → Answers target_of code_of values_of (Some (pending.Request r)) new (next false old.handle.ctx) → Brings announced_of (Some (pending.Request r)) old.handle.ctx.table new.table →
+  pub asks_request : (r : Request) → Answers target_of opcode_of values_of (Some (pending.Request r)) new (next false old.handle.ctx) → Brings announced_of (Some (pending.Request r)) old.handle.ctx.table new.table →
       IsAsked setup past times rest handles r (record old { handle = record old.handle { ctx = new } })
   asks_request r h announced =
       let t = taken_by setup past old.handle.ctx new r (next false old.handle.ctx) seen h in

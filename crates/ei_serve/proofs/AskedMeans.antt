@@ -32,7 +32,7 @@ use Rattle.ei_request.specs.Typed.{meaning_of}
 use Rattle.ei_standing.specs.Standing.{with_table, interface_asked, refusal_told}
 use Rattle.ei_standing.proofs.SameRefusals.{same_refusal, may_be_given}
 use Rattle.ei_standing.proofs.TypedMeanings.{meant}
-use Rattle.ei_serve.specs.Asking.{IsAsked}
+use Rattle.ei_serve.specs.AtFront.{IsAsked}
 
 -- ---- what announces an object
 

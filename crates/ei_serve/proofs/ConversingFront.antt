@@ -16,7 +16,7 @@ use Rattle.ei_types.specs.Errors.{error_of_flush, error_of_send}
 use Rattle.ei_types.specs.declared.error.Error.{Error}
 use Rattle.ei_types.specs.declared.error.Error.TheVariants as error
 use Rattle.ei_server.specs.declared.request.Request.{Request}
-use Rattle.ei_server.specs.Request.{target_of, code_of, values_of, announced_of}
+use Rattle.ei_server.specs.Request.{target_of, opcode_of, values_of, announced_of}
 use Rattle.ei_session.specs.Setup.{Setup}
 use Rattle.ei_session.specs.Objects.{object}
 use Rattle.ei_session.proofs.JudgedMeans.{judge_unknown}
@@ -31,7 +31,7 @@ use Rattle.ei_serve.specs.declared.phase.Phase.TheVariants as phase
 use Rattle.ei_serve.specs.declared.phase.Step.{Step}
 use Rattle.ei_serve.specs.declared.phase.Step.TheVariants as step
 use Rattle.ei_serve.specs.Around.{Around, around}
-use Rattle.ei_serve.specs.Asking.{IsAsked}
+use Rattle.ei_serve.specs.AtFront.{IsAsked}
 use Rattle.ei_serve.specs.Standing.{IsConnected}
 use Rattle.ei_serve.specs.Steps.{Steps}
 use Rattle.ei_serve.proofs.Asked.{NoObject, asks_waits, asks_refused, asks_gone, asks_request}
@@ -51,16 +51,16 @@ module _ (setup : Setup) (past : List Raw) (times rest : List ℕ) (handles : Li
   b_now : b ≡ old.handle.ctx
   b_now = b_is ∙ ap (λ (x : ConnectionView). x.ctx) h_is
 
-  said : (answer wanted : Option (PendingRequestResult Request)) → answer ≡ wanted → Answers target_of code_of values_of answer new (next false b) → Answers target_of code_of values_of wanted new (next false old.handle.ctx)
+  said : (answer wanted : Option (PendingRequestResult Request)) → answer ≡ wanted → Answers target_of opcode_of values_of answer new (next false b) → Answers target_of opcode_of values_of wanted new (next false old.handle.ctx)
   said answer wanted same a =
-      subst (λ (x : Option (PendingRequestResult Request)). Answers target_of code_of values_of x new (next false old.handle.ctx)) same
-      (subst (λ (x : BackendView). Answers target_of code_of values_of answer new (next false x)) b_now a)
+      subst (λ (x : Option (PendingRequestResult Request)). Answers target_of opcode_of values_of x new (next false old.handle.ctx)) same
+      (subst (λ (x : BackendView). Answers target_of opcode_of values_of answer new (next false x)) b_now a)
 
   here : (d : ConverterView) → d ≡ with_context old h new → d ≡ record old { handle = record old.handle { ctx = new } }
   here d d_is = d_is ∙ ap (λ (x : ConnectionView). record { handle = record x { ctx = new }; queue = old.queue }) h_is
 
   -- there was no whole message
-  pub waits : (answer : Option (PendingRequestResult Request)) → answer ≡ None → Answers target_of code_of values_of answer new (next false b) → (d : ConverterView) → d ≡ with_context old h new → (x : Around) →
+  pub waits : (answer : Option (PendingRequestResult Request)) → answer ≡ None → Answers target_of opcode_of values_of answer new (next false b) → (d : ConverterView) → d ≡ with_context old h new → (x : Around) →
       Steps setup past times rest handles (Ok step.Waiting) (phase.Connected d) x x
   waits answer none a d d_is x =
       let w = asks_waits setup past times rest handles old new stands (said answer None none a) in
@@ -70,7 +70,7 @@ module _ (setup : Setup) (past : List Raw) (times rest : List ℕ) (handles : Li
         goes = goes_none setup past times x;
       }
 
-  module _ (answer : Option (PendingRequestResult Request)) (p : PendingRequestResult Request) (some : answer ≡ Some p) (a : Answers target_of code_of values_of answer new (next false b)) where
+  module _ (answer : Option (PendingRequestResult Request)) (p : PendingRequestResult Request) (some : answer ≡ Some p) (a : Answers target_of opcode_of values_of answer new (next false b)) where
     -- it can't be read
     pub refused : (e : ParseError) → p ≡ pending.ParseError e → (y : Phase) (x : Around) → Steps setup past times rest handles (Err (error.Parse e)) y x x
     refused e is y x =

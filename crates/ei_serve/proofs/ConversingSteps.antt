@@ -39,7 +39,7 @@ use Rattle.ei_standing.specs.Standing.{TookOne, handed_as, key_by, plain_as}
 use Rattle.ei_serve.specs.declared.phase.Phase.TheVariants as phase
 use Rattle.ei_serve.specs.Around.{around}
 use Rattle.ei_serve.specs.Standing.{IsConnected, most_capacity}
-use Rattle.ei_serve.specs.Steps.{Gives, Replies, RepliesInPart, Goes, Breaks, RefusesStep, HandlesOne, EndsWith}
+use Rattle.ei_serve.specs.Steps.{GivesOut, Replies, RepliesInPart, Goes, Breaks, RefusesStep, HandlesOne, EndsWith}
 use Rattle.ei_serve.proofs.Asked.{held_with}
 use Rattle.ei_serve.proofs.Going.{none_more, gives_none, replies_none, extends}
 use Rattle.ei_serve.proofs.TookBehind.{Gave, Draws}
@@ -67,7 +67,7 @@ all_alike : (v w : KnownInterface → ℕ) → ((interface : KnownInterface) →
 all_alike v w same [] = refl
 all_alike v w same (r ∷ rs) = ap (λ (x : EisRequest). x ∷ map (handed_as v) rs) (handed_alike v w same r) ∙ ap (λ (xs : List EisRequest). handed_as w r ∷ xs) (all_alike v w same rs)
 
-gives_one : (setup : Setup) (past : List Raw) (m : Raw) (times used : List ℕ) (out queue new : List EisRequest) → connected past ≡ true → Gave setup past m times used queue → new ≡ out ++ queue → Gives setup past (m ∷ past) times used out new
+gives_one : (setup : Setup) (past : List Raw) (m : Raw) (times used : List ℕ) (out queue new : List EisRequest) → connected past ≡ true → Gave setup past m times used queue → new ≡ out ++ queue → GivesOut setup past (m ∷ past) times used out new
 gives_one setup past m times used out queue new on g e = record {
   more = g.more;
   grown = λ versions are.
@@ -95,7 +95,7 @@ breaks_early setup past times rest out new took before after same = record {
   used = [];
   behind = ([], refl);
   ahead = extends (judge setup) past rest;
-  gives = subst (λ (x : List EisRequest). Gives setup past past times [] out x) (sym same) (gives_none setup past past times out (λ readings. refl));
+  gives = subst (λ (x : List EisRequest). GivesOut setup past past times [] out x) (sym same) (gives_none setup past past times out (λ readings. refl));
   replies = λ held told. ([], 0, sym (append-nil (replies setup past)), told ∙ ap (λ (x : Piece). Some x) (none_more held));
   drawn = λ told is. refl;
 }
@@ -142,7 +142,7 @@ pub record Taken (past : List Raw) (rest : List ℕ) (handles : List Handle) (m 
 module _ (setup : Setup) (past : List Raw) (times rest : List ℕ) (handles : List Handle) (m : Raw) (after used : List ℕ) (c : ConverterView) (t : Taken past rest handles m after c)
     (last : Bool) (judged : judge setup past m ≡ verdict None last) (queue : List EisRequest) (gave : Gave setup past m times used queue) (out given : List EisRequest) (grown : given ≡ out ++ queue)
     (before later : Option (List ℕ)) (draws : Draws used before later) where
-  given_one : Gives setup past (m ∷ past) times used out given
+  given_one : GivesOut setup past (m ∷ past) times used out given
   given_one = gives_one setup past m times used out queue given t.on gave grown
 
   pub breaks_one : (old new : Option Piece) → RepliesInPart setup past (m ∷ past) old new → Breaks setup past times rest (around None out old before) (around None given new later)

@@ -46,7 +46,7 @@ use Rattle.ei_serve.specs.declared.phase.Step.TheVariants as step
 use Rattle.ei_serve.specs.declared.policy.Policy.{Policy}
 use Rattle.ei_serve.specs.declared.policy.Policy.TheVariants as policy
 use Rattle.ei_serve.specs.Around.{around}
-use Rattle.ei_serve.specs.Asking.{IsAsked}
+use Rattle.ei_serve.specs.AtFront.{IsAsked}
 use Rattle.ei_serve.specs.Policy.{policy_behind, Follows, LacksIds}
 use Rattle.ei_serve.specs.Standing.{most_capacity}
 use Rattle.ei_serve.specs.Steps.{Refuses as IsRefused, RefusesStep, Steps}

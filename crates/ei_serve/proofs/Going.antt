@@ -18,7 +18,7 @@ use Rattle.ei_backend.specs.Outside.{with_more}
 use Rattle.ei_request.specs.declared.event.EisRequest.{EisRequest}
 use Rattle.ei_standing.specs.Standing.{handed_as}
 use Rattle.ei_serve.specs.Around.{Around, first_readings, AreDrawn, LeavesReadings}
-use Rattle.ei_serve.specs.Steps.{AreVersions, Gives, IsToldInPart, Replies, RepliesInPart, Goes, GoesInPart, Breaks}
+use Rattle.ei_serve.specs.Steps.{AreVersions, GivesOut, IsToldInPart, Replies, RepliesInPart, Goes, GoesInPart, Breaks}
 
 -- ---- what a sink holds
 
@@ -49,14 +49,14 @@ pub versions_behind : (before reached : List Raw) (versions : KnownInterface →
 versions_behind before reached versions behind v = versions_before behind.0 before versions (subst (λ (x : List Raw). AreVersions x versions) behind.1 v)
 
 -- the messages between give none
-pub gives_none : (setup : Setup) (before reached : List Raw) (times : List ℕ) (out : List EisRequest) → ((readings : List ℕ) → framed setup readings reached ≡ framed setup readings before) → Gives setup before reached times [] out out
+pub gives_none : (setup : Setup) (before reached : List Raw) (times : List ℕ) (out : List EisRequest) → ((readings : List ℕ) → framed setup readings reached ≡ framed setup readings before) → GivesOut setup before reached times [] out out
 gives_none setup before reached times out h = record {
   more = [];
   grown = λ versions v. sym (append-nil out);
   framed_is = λ later. h ((times ++ []) ++ later) ∙ sym (append-nil (framed setup ((times ++ []) ++ later) before));
 }
 
-pub gives_then : (setup : Setup) (a b c : List Raw) (times u v : List ℕ) (x y z : List EisRequest) → ((done : List Raw) × (c ≡ done ++ b)) → Gives setup a b times u x y → Gives setup b c (times ++ u) v y z → Gives setup a c times (u ++ v) x z
+pub gives_then : (setup : Setup) (a b c : List Raw) (times u v : List ℕ) (x y z : List EisRequest) → ((done : List Raw) × (c ≡ done ++ b)) → GivesOut setup a b times u x y → GivesOut setup b c (times ++ u) v y z → GivesOut setup a c times (u ++ v) x z
 gives_then setup a b c times u v x y z behind g h = record {
   more = g.more ++ h.more;
   grown = λ versions are.

@@ -3,13 +3,13 @@ use Rattle.std.proofs.Common.{◌≡◌, ℕ, List, [], ◌∷◌, Result, Ok, E
 use Rattle.std.specs.Int.{w32, w64, cast_signed}
 use Rattle.ei_spec.specs.Value.{Kind, U32, I32, U64, I64, Float, Text, Nullable, Handle, New, Choice, OpenChoice, Value, Word, Long, Signed, SignedLong}
 use Rattle.ei_spec.specs.Value.{Letters}
-use Rattle.ei_spec.specs.Reading.{Fault, ◌>>=◌, Unread, Read, number_at, text_at, some_text, or_null, choice_at, of_bytes, read, Stop, ◌then◌, stopping, all_at}
+use Rattle.ei_spec.specs.Reading.{Fault, ◌>>=◌, Unread, Read, number_at, text_at, some_text, or_null, choice_at, of_bytes, read, ArgumentStop, ◌then◌, stopping, all_at}
 use Rattle.ei_spec.proofs.Handleless.{IsNoHandle, AreNoHandles}
 
-abbrev list_then : Value → Result (List Value × Unread) Stop → Result (List Value × Unread) Stop
+abbrev list_then : Value → Result (List Value × Unread) ArgumentStop → Result (List Value × Unread) ArgumentStop
 list_then v r = r then λ xs. Ok (v ∷ xs.0, xs.1)
 
-abbrev pub KeepsTaken : {A : Type 0} → ℕ → Result (A × Unread) Stop → Type 0
+abbrev pub KeepsTaken : {A : Type 0} → ℕ → Result (A × Unread) ArgumentStop → Type 0
 KeepsTaken n (Ok x) = x.1.taken ≡ n
 KeepsTaken n (Err e) = Unit {0}
 
@@ -34,7 +34,7 @@ read_keeps Handle s n = absurd n
 read_keeps (Choice name values) s n = of_bytes_keeps Word s (choice_at name values s.bytes)
 read_keeps OpenChoice s n = of_bytes_keeps Word s (number_at w32 s.bytes)
 
-list_keeps : (n : ℕ) (v : Value) (r : Result (List Value × Unread) Stop) → KeepsTaken n r → KeepsTaken {A = List Value} n (list_then v r)
+list_keeps : (n : ℕ) (v : Value) (r : Result (List Value × Unread) ArgumentStop) → KeepsTaken n r → KeepsTaken {A = List Value} n (list_then v r)
 list_keeps n v (Ok x) h = h
 list_keeps n v (Err e) h = tt
 
@@ -57,7 +57,7 @@ SameRead (Err e) (Ok y) = ⊥
 SameRead (Err e) (Err f) = e ≡ f
 
 -- the same arguments are read, or the same fault
-abbrev pub SameArgs : Result (List Value × Unread) Stop → Result (List Value × Unread) Stop → Type 0
+abbrev pub SameArgs : Result (List Value × Unread) ArgumentStop → Result (List Value × Unread) ArgumentStop → Type 0
 SameArgs (Ok x) (Ok y) = (x.0 ≡ y.0) × (x.1.bytes ≡ y.1.bytes)
 SameArgs (Ok x) (Err f) = ⊥
 SameArgs (Err e) (Ok y) = ⊥
@@ -83,7 +83,7 @@ read_same Handle s t n e = absurd n
 read_same (Choice name values) s t n e = bytes_same Word s t (choice_at name values) e
 read_same OpenChoice s t n e = bytes_same Word s t (number_at w32) e
 
-consed : (v w : Value) (a b : Result (List Value × Unread) Stop) → v ≡ w → SameArgs a b → SameArgs (list_then v a) (list_then w b)
+consed : (v w : Value) (a b : Result (List Value × Unread) ArgumentStop) → v ≡ w → SameArgs a b → SameArgs (list_then v a) (list_then w b)
 consed v w (Ok x) (Ok y) e h = (ap (λ (u : Value). u ∷ x.0) e ∙ ap (λ (vs : List Value). w ∷ vs) h.0, h.1)
 consed v w (Ok x) (Err f) e h = absurd h
 consed v w (Err f) (Ok y) e h = absurd h

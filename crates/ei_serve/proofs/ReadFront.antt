@@ -9,7 +9,7 @@ use Rattle.ei_spec.specs.declared.interface.KnownInterface.{KnownInterface}
 use Rattle.ei_spec.specs.declared.interface.KnownInterface.TheVariants as known
 use Rattle.ei_spec.specs.Value.{Value}
 use Rattle.ei_spec.specs.Interface.{Interface, Known, ObjectView, short_of}
-use Rattle.ei_spec.specs.Reading.{Fault, InvalidId, MessageLength, Unread, Stop, ◌then◌, stopping, all_at}
+use Rattle.ei_spec.specs.Reading.{Fault, InvalidId, MessageLength, Unread, ArgumentStop, ◌then◌, stopping, all_at}
 use Rattle.ei_spec.specs.Rows.{Row, Announces, Nothing, Fixed, Named, row_at, new_id}
 use Rattle.ei_spec.specs.Table.{table}
 use Rattle.ei_spec.specs.Message.{Raw, size}
@@ -17,7 +17,7 @@ use Rattle.ei_spec.proofs.Faults.{IsNoHeader, StopsNoHeader, all_no_header}
 use Rattle.ei_spec.proofs.Handleless.{AreNoHandles}
 use Rattle.ei_backend.specs.Table.{TableView, accept, peer_end}
 use Rattle.ei_backend.specs.Message.{Parsed, announce, with_new, some_row}
-use Rattle.ei_backend.specs.Backend.{Outcome, outcome, body_read}
+use Rattle.ei_backend.specs.Backend.{BodyOutcome, outcome, body_read}
 use Rattle.ei_session.specs.Setup.{Setup, connection_id}
 use Rattle.ei_session.specs.Arguments.{whole, body_of, row_args, request_args}
 use Rattle.ei_session.specs.Asked.{first}
@@ -91,7 +91,7 @@ by_test true id x = refl
 by_test false id x = (refl, tt)
 
 -- where an outcome is a message, these are its arguments, and no handle is taken; where it is a fault, it is this refusal
-abbrev pub IsExact : Option Refusal → Option (List Value) → Outcome → Type 0
+abbrev pub IsExact : Option Refusal → Option (List Value) → BodyOutcome → Type 0
 IsExact refusal args o = MatchResult o.said (λ values. (args ≡ Some values) × (o.taken ≡ 0)) (λ f. (refusal ≡ Some (Parse f)) × IsNoHeader f)
 
 ends_exactly : (b : Bool) (values : List Value) (a n taken : ℕ) (u : TableView) (more : List (Option Refusal)) → taken ≡ 0 →
@@ -102,7 +102,7 @@ ends_exactly false values a n taken u more z = (refl, tt)
 abbrev too_long : Raw → List ℕ → Option Refusal
 too_long m bytes = cond (eqb (length bytes) 0) None (Some (Parse (MessageLength (size m + length bytes) (size m))))
 
-abbrev announced_in : List Value → Unread → Result TableView Fault → Result Parsed Stop
+abbrev announced_in : List Value → Unread → Result TableView Fault → Result Parsed ArgumentStop
 announced_in values s u = stopping s.taken u then λ w. Ok (record { values = values; table = w; unread = s })
 
 made_exactly : (m : Raw) (t : TableView) (values : List Value) (s : Unread) (more : List (Option Refusal)) (u : Result TableView Fault) (g : Option Refusal) → Agrees u g → s.taken ≡ 0 →
@@ -127,7 +127,7 @@ module _ (past : List Raw) (t : TableView) (server : t.client ≡ false) (peer :
   abbrev first_four : KnownInterface → Raw → Option Row → Arguments → List (Option Refusal) → Option Refusal
   first_four interface m o a more = first (no_row interface m o ∷ stuck a ∷ bad_id past (announced_id o a) ∷ left_over m a ∷ more)
 
-  row_exactly : (interface : KnownInterface) (m : Raw) (r : Row) (more : List (Option Refusal)) (a b : Result (List Value × Unread) Stop) → SameArgs a b → KeepsTaken {A = List Value} 0 a → StopsNoHeader a →
+  row_exactly : (interface : KnownInterface) (m : Raw) (r : Row) (more : List (Option Refusal)) (a b : Result (List Value × Unread) ArgumentStop) → SameArgs a b → KeepsTaken {A = List Value} 0 a → StopsNoHeader a →
       IsExact (first_four interface m (Some r) b more) (whole b) (outcome (size m) t (a then λ x. announced_in x.0 x.1 (announce r.announces r.kinds x.0 t)))
   unfolding whole
   row_exactly interface m r more (Ok x) (Ok y) e k n =

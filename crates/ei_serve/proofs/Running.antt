@@ -18,7 +18,7 @@ use Rattle.ei_request.specs.declared.event.EisRequest.{EisRequest}
 use Rattle.ei_serve.specs.declared.session.Session.{Session}
 use Rattle.ei_serve.specs.Around.{Around, around, AreDrawn, LeavesReadings}
 use Rattle.ei_serve.specs.Standing.{Stands, StandsAt, setup_of}
-use Rattle.ei_serve.specs.Steps.{Gives, Replies}
+use Rattle.ei_serve.specs.Steps.{GivesOut, Replies}
 use Rattle.ei_serve.specs.Taking.{Hands, with_next}
 use Rattle.ei_serve.specs.Turning.{GoesOn}
 use Rattle.ei_serve.specs.Serving.{Replied}
@@ -37,7 +37,7 @@ pub record Running (setup : Setup) (n : ℕ) (s : Session) (old new : Around) : 
   pub count : length pieces ≡ n
   pub stands : Stands setup pieces times s
   pub took : (told : List Piece) → old.left ≡ Some told → Took told new.left n pieces
-  pub gives : Gives setup [] (accepted setup (stream pieces)) [] times old.out new.out
+  pub gives : GivesOut setup [] (accepted setup (stream pieces)) [] times old.out new.out
   pub replied : Replied setup (accepted setup (stream pieces)) old.took new.took
   pub drawn : AreDrawn times old.readings
   pub leaves : LeavesReadings times old.readings new.readings

@@ -32,7 +32,7 @@ use Rattle.ei_serve.specs.declared.session.Ended.TheVariants as ended
 use Rattle.ei_serve.specs.declared.session.Session.{Session}
 use Rattle.ei_serve.specs.Around.{Around, around, first_readings, AreDrawn, LeavesReadings}
 use Rattle.ei_serve.specs.Causes.{Greeted, GreetedInPart, RefusesToStart}
-use Rattle.ei_serve.specs.Steps.{Gives, Replies, RepliesInPart, Goes}
+use Rattle.ei_serve.specs.Steps.{GivesOut, Replies, RepliesInPart, Goes}
 use Rattle.ei_serve.specs.Taking.{Hands, HasNone, with_next}
 use Rattle.ei_serve.specs.Refusing.{refusal_of, IsRefused}
 use Rattle.ei_serve.specs.Turning.{Closes, ClosesRefused, Finds, Stays, BreaksOff, Turns, IsAtEnd}
@@ -87,15 +87,15 @@ framed_none : (setup : Setup) (readings : List ℕ) → framed setup readings []
 unfolding framed each grouped joined
 framed_none setup readings = refl
 
-all_framed : (setup : Setup) (messages : List Raw) (used later : List ℕ) (old new : List EisRequest) (g : Gives setup [] messages [] used old new) → framed setup (used ++ later) messages ≡ g.more
+all_framed : (setup : Setup) (messages : List Raw) (used later : List ℕ) (old new : List EisRequest) (g : GivesOut setup [] messages [] used old new) → framed setup (used ++ later) messages ≡ g.more
 all_framed setup messages used later old new g = g.framed_is later ∙ ap (λ (x : List Request). x ++ g.more) (framed_none setup (used ++ later))
 
-grown_so : (setup : Setup) (messages : List Raw) (used readings : List ℕ) (old new : List EisRequest) (g : Gives setup [] messages [] used old new) → framed setup readings messages ≡ g.more → new ≡ old ++ map (request_in_code messages) (framed setup readings messages)
+grown_so : (setup : Setup) (messages : List Raw) (used readings : List ℕ) (old new : List EisRequest) (g : GivesOut setup [] messages [] used old new) → framed setup readings messages ≡ g.more → new ≡ old ++ map (request_in_code messages) (framed setup readings messages)
 grown_so setup messages used readings old new g e =
     g.grown (version messages) (λ on interface. refl) ∙ ap (λ (x : List Request). old ++ map (request_in_code messages) x) (sym e)
 
 -- all requests since the start
-pub hands_out : (setup : Setup) (messages : List Raw) (used : List ℕ) (told : Option (List ℕ)) (old new : List EisRequest) → Gives setup [] messages [] used old new → AreDrawn used told → HandsOut setup messages told old new
+pub hands_out : (setup : Setup) (messages : List Raw) (used : List ℕ) (told : Option (List ℕ)) (old new : List EisRequest) → GivesOut setup [] messages [] used old new → AreDrawn used told → HandsOut setup messages told old new
 hands_out setup messages used None old new g d = record {
   readings = used ++ [];
   told_so = tt;
@@ -300,7 +300,7 @@ module _ (setup : Setup) (n : ℕ) (s : Session) (x y z : Around) (run : Running
   past = accepted setup (stream run.pieces)
 
   -- what the session gave and replied, and the readings that it took, up to these messages
-  gives_to : (messages : List Raw) (used : List ℕ) → ((done : List Raw) × (messages ≡ done ++ past)) → Gives setup past messages run.times used y.out z.out → AreDrawn used y.readings → HandsOut setup messages x.readings x.out z.out
+  gives_to : (messages : List Raw) (used : List ℕ) → ((done : List Raw) × (messages ≡ done ++ past)) → GivesOut setup past messages run.times used y.out z.out → AreDrawn used y.readings → HandsOut setup messages x.readings x.out z.out
   gives_to messages used behind g d =
       hands_out setup messages (run.times ++ used) x.readings x.out z.out (gives_then setup [] past messages [] run.times used x.out y.out z.out behind run.gives g)
       (drawn_then run.times used x.readings y.readings run.drawn run.leaves d)

@@ -9,22 +9,22 @@ use Rattle.ei_spec.specs.Reading.{Fault, HeaderLength}
 use Rattle.ei_spec.specs.Message.{Raw, Front, Short, Unlawful, Whole, front}
 use Rattle.ei_spec.proofs.Faults.{IsNoHeader}
 use Rattle.ei_backend.specs.Table.{found}
-use Rattle.ei_backend.specs.Backend.{BackendView, Answer, Waits, Refused, Gone, Message, next}
+use Rattle.ei_backend.specs.Backend.{BackendView, FrontAnswer, Waits, Refused, Gone, Message, next}
 use Rattle.ei_session.specs.Arguments.{request_args}
 use Rattle.ei_backend.specs.Backend.{Answers}
 use Rattle.ei_backend.specs.declared.message.PendingRequestResult.{PendingRequestResult}
 use Rattle.ei_backend.specs.declared.message.PendingRequestResult.TheVariants as pending
 use Rattle.ei_wire.specs.Gives.{fault_of}
 use Rattle.ei_server.specs.declared.request.Request.{Request}
-use Rattle.ei_server.specs.Request.{target_of, code_of, values_of}
+use Rattle.ei_server.specs.Request.{target_of, opcode_of, values_of}
 use Rattle.ei_session.specs.Refusals.{Parse}
-use Rattle.ei_serve.specs.Asking.{AllKnown, is_sync, Takes, IsGone, bytes_refused, Unreadable, SaysWhy, SaysOfFront}
+use Rattle.ei_serve.specs.AtFront.{AllKnown, is_sync, TakesOut, IsGone, bytes_refused, Unreadable, SaysWhy, SaysOfFront}
 use Rattle.ei_serve.proofs.Taking.{AnswersSync, next_short, next_unlawful, next_gone, next_taken, next_refused, next_sync}
 
-abbrev answer_of : Answer × BackendView → Answer
+abbrev answer_of : FrontAnswer × BackendView → FrontAnswer
 answer_of p = p.0
 
-abbrev backend_of : Answer × BackendView → BackendView
+abbrev backend_of : FrontAnswer × BackendView → BackendView
 backend_of p = p.1
 
 -- what stands at the front, and the answer that it gives
@@ -68,7 +68,7 @@ cases b known = with_front b known (front b.unread) refl
 
 -- ---- what each answer says of the front
 
-abbrev pair : Answer → BackendView → Answer × BackendView
+abbrev pair : FrontAnswer → BackendView → FrontAnswer × BackendView
 pair a b = (a, b)
 
 waits_by : (b new : BackendView) → Cases b → next false b ≡ pair Waits new → (front b.unread ≡ Short) × (new ≡ b)
@@ -82,7 +82,7 @@ waits_by b new (IsSync m rest target e f k sync a) h = absurd (subst (AnswersSyn
 pub asks_waits : (b new : BackendView) → AllKnown b.table → next false b ≡ pair Waits new → (front b.unread ≡ Short) × (new ≡ b)
 asks_waits b new known h = waits_by b new (cases b known) h
 
-takes_by : (b new : BackendView) (t : ObjectView) (op : ℕ) (vs : List Value) → Cases b → next false b ≡ pair (Message t op vs) new → Takes b t op vs new
+takes_by : (b new : BackendView) (t : ObjectView) (op : ℕ) (vs : List Value) → Cases b → next false b ≡ pair (Message t op vs) new → TakesOut b t op vs new
 takes_by b new t op vs (IsShort e a c) h = let g : Message t op vs ≡ Waits = sym (ap answer_of h) ∙ a in absurd cc
 takes_by b new t op vs (IsUnlawful n e a) h = let g : Message t op vs ≡ Refused (HeaderLength n) = sym (ap answer_of h) ∙ a in absurd cc
 takes_by b new t op vs (IsGoneThere m rest e f a c) h = let g : Message t op vs ≡ Gone m.id = sym (ap answer_of h) ∙ a in absurd cc
@@ -117,7 +117,7 @@ takes_by b new t op vs (IsSync m rest target e f k sync a) h =
       after = λ plain. let g : true ≡ false = sym sync ∙ plain in absurd cc;
     }
 
-pub asks_takes : (b new : BackendView) (t : ObjectView) (op : ℕ) (vs : List Value) → AllKnown b.table → next false b ≡ pair (Message t op vs) new → Takes b t op vs new
+pub asks_takes : (b new : BackendView) (t : ObjectView) (op : ℕ) (vs : List Value) → AllKnown b.table → next false b ≡ pair (Message t op vs) new → TakesOut b t op vs new
 asks_takes b new t op vs known h = takes_by b new t op vs (cases b known) h
 
 -- no object has the id
@@ -187,8 +187,8 @@ says_why b new None known h = let g : false ≡ true = h.1 in absurd cc
 says_why b new (Some fault) known h = asks_refused b new fault known h.0
 
 -- it says that of the front
-pub says_of_front : (b new : BackendView) (answer : Option (PendingRequestResult Request)) → AllKnown b.table → Answers target_of code_of values_of answer new (next false b) → SaysOfFront b answer new
+pub says_of_front : (b new : BackendView) (answer : Option (PendingRequestResult Request)) → AllKnown b.table → Answers target_of opcode_of values_of answer new (next false b) → SaysOfFront b answer new
 says_of_front b new None known h = asks_waits b new known h
-says_of_front b new (Some (pending.Request r)) known h = asks_takes b new (target_of r) (code_of r) (values_of r) known h
+says_of_front b new (Some (pending.Request r)) known h = asks_takes b new (target_of r) (opcode_of r) (values_of r) known h
 says_of_front b new (Some (pending.ParseError e)) known h = says_why b new (fault_of e) known h
 says_of_front b new (Some (pending.InvalidObject id)) known h = asks_gone b new id known h

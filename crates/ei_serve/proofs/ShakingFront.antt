@@ -23,7 +23,7 @@ use Rattle.ei_server.specs.declared.handshake.Request.TheVariants as asked
 use Rattle.ei_server.specs.Handshake as handshake
 use Rattle.ei_server.specs.declared.request.Request.{Request}
 use Rattle.ei_server.specs.declared.request.Request.TheVariants as request
-use Rattle.ei_server.specs.Request.{as_one_of, target_of, code_of, values_of}
+use Rattle.ei_server.specs.Request.{as_one_of, target_of, opcode_of, values_of}
 use Rattle.ei_session.specs.Setup.{Setup}
 use Rattle.ei_session.specs.Arguments.{request_args}
 use Rattle.ei_session.specs.Asked.{first as first_there}
@@ -42,7 +42,7 @@ use Rattle.ei_session.proofs.FirstObjects.{the_handshake, object_first, shut_mak
 use Rattle.ei_session.proofs.RefusalLaws.{refused_known, refused_early}
 use Rattle.ei_session.proofs.RefusedMeans.{refusal_asked}
 use Rattle.ei_session.proofs.RowsMean.{asks_means}
-use Rattle.ei_serve.specs.Asking.{AllKnown, is_sync, Takes, IsGone, Unreadable, bytes_refused}
+use Rattle.ei_serve.specs.AtFront.{AllKnown, is_sync, TakesOut, IsGone, Unreadable, bytes_refused}
 use Rattle.ei_serve.specs.Standing.{handshake_table}
 use Rattle.ei_serve.specs.Steps.{RefusesFront}
 use Rattle.ei_serve.proofs.Endpoints.{Memory, quiet_with}
@@ -92,7 +92,7 @@ pub record Front (rest : List ℕ) (handles : List Handle) (memory : Memory) (as
   pub after : List ℕ
   pub front_is : front rest ≡ Whole m after
   pub id_is : m.id ≡ 0
-  pub opcode_is : m.opcode ≡ handshake.code_of asked
+  pub opcode_is : m.opcode ≡ handshake.opcode_of asked
   pub args : request_args known.Handshake m ≡ Some (handshake.values_of asked)
   pub new_is : new ≡ quiet_with handshake_table after handles memory
 
@@ -109,7 +109,7 @@ no_sync : (m : Raw) {interface : KnownInterface} → known.Handshake ≡ interfa
 no_sync m e = ap (λ (k : KnownInterface). is_sync k m.opcode) (sym e)
 
 pub front_of : (rest : List ℕ) (handles : List Handle) (memory : Memory) (proxy : ObjectView) (asked : Asked) (new : BackendView) →
-    Takes (quiet_with handshake_table rest handles memory) (as_one_of known.Handshake proxy) (handshake.code_of asked) (handshake.values_of asked) new →
+    TakesOut (quiet_with handshake_table rest handles memory) (as_one_of known.Handshake proxy) (handshake.opcode_of asked) (handshake.values_of asked) new →
     (proxy.id ≡ 0) × Front rest handles memory asked new
 front_of rest handles memory proxy asked new h =
     let is = only_first h.m.id (as_one_of known.Handshake proxy) h.target_is in
@@ -128,7 +128,7 @@ front_of rest handles memory proxy asked new h =
 
 -- no other object is there
 no_other : (rest : List ℕ) (handles : List Handle) (memory : Memory) (wanted : KnownInterface) (proxy : ObjectView) (opcode : ℕ) (values : List Value) (new : BackendView) →
-    Takes (quiet_with handshake_table rest handles memory) (as_one_of wanted proxy) opcode values new → known.Handshake ≡ wanted
+    TakesOut (quiet_with handshake_table rest handles memory) (as_one_of wanted proxy) opcode values new → known.Handshake ≡ wanted
 no_other rest handles memory wanted proxy opcode values new h = (is_handshake h.m.id (as_one_of wanted proxy) h.interface wanted h.target_is h.interface_is refl).0
 
 -- a request of the handshake
@@ -136,7 +136,7 @@ abbrev pub IsShaking : Request → Type 0
 IsShaking (request.Handshake proxy m) = Unit {0}
 IsShaking other = ⊥
 
-pub only_shaking : (rest : List ℕ) (handles : List Handle) (memory : Memory) (r : Request) (new : BackendView) → Takes (quiet_with handshake_table rest handles memory) (target_of r) (code_of r) (values_of r) new → IsShaking r
+pub only_shaking : (rest : List ℕ) (handles : List Handle) (memory : Memory) (r : Request) (new : BackendView) → TakesOut (quiet_with handshake_table rest handles memory) (target_of r) (opcode_of r) (values_of r) new → IsShaking r
 only_shaking rest handles memory (request.Handshake proxy m) new h = tt
 only_shaking rest handles memory (request.Connection proxy m) new h = let e : known.Handshake ≡ known.Connection = no_other rest handles memory known.Connection proxy _ _ new h in absurd cc
 only_shaking rest handles memory (request.Pingpong proxy m) new h = let e : known.Handshake ≡ known.Pingpong = no_other rest handles memory known.Pingpong proxy _ _ new h in absurd cc
@@ -160,7 +160,7 @@ shake_of (asked.ContextType kind) = TellsContext (context_type_number kind)
 shake_of (asked.Name name) = TellsName name
 shake_of (asked.InterfaceVersion name version) = TellsInterface name version
 
-by_row : (a : Asked) → rows.Asks known.Handshake (handshake.code_of a) (handshake.values_of a) (Shakes (shake_of a))
+by_row : (a : Asked) → rows.Asks known.Handshake (handshake.opcode_of a) (handshake.values_of a) (Shakes (shake_of a))
 by_row (asked.HandshakeVersion version) = rows.Greeting version
 by_row asked.Finish = rows.Finish
 by_row (asked.ContextType kind) = rows.ContextType (context_type_number kind)
@@ -173,7 +173,7 @@ module _ (past : List Raw) (off : connected past ≡ false) where
 
   module _ {rest : List ℕ} {handles : List Handle} {memory : Memory} {new : BackendView} (a : Asked) (f : Front rest handles memory a new) where
     pub means : meaning known.Handshake f.m ≡ Some (Shakes (shake_of a))
-    means = asks_means f.m known.Handshake (handshake.code_of a) (handshake.values_of a) (Shakes (shake_of a)) (by_row a) f.opcode_is f.args
+    means = asks_means f.m known.Handshake (handshake.opcode_of a) (handshake.values_of a) (Shakes (shake_of a)) (by_row a) f.opcode_is f.args
 
     -- what becomes of it
     pub judged : (setup : Setup) (o : Option Refusal) → shake_refusal past (shake_of a) ≡ o → judge setup past f.m ≡ verdict o false
@@ -195,8 +195,8 @@ finish_by : (m : Raw) (n : ℕ) → m.id ≡ 0 → m.opcode ≡ n → is_finish 
 unfolding is_finish
 finish_by m n i o = ap (λ (x : ℕ). (x == 0) && (m.opcode == 1)) i ∙ ap (λ (x : ℕ). x == 1) o
 
-pub finishes : {rest : List ℕ} {handles : List Handle} {memory : Memory} {new : BackendView} (a : Asked) (f : Front rest handles memory a new) → is_finish f.m ≡ (handshake.code_of a == 1)
-finishes a f = finish_by f.m (handshake.code_of a) f.id_is f.opcode_is
+pub finishes : {rest : List ℕ} {handles : List Handle} {memory : Memory} {new : BackendView} (a : Asked) (f : Front rest handles memory a new) → is_finish f.m ≡ (handshake.opcode_of a == 1)
+finishes a f = finish_by f.m (handshake.opcode_of a) f.id_is f.opcode_is
 
 pub announced_this : (m : Raw) (name : List ℕ) (version : ℕ) → m.id ≡ 0 → m.opcode ≡ 4 → request_args known.Handshake m ≡ Some (Letters name ∷ Word version ∷ []) → announced m ≡ Some (record { name = name; version = version })
 unfolding announced

@@ -25,7 +25,7 @@ use Rattle.ei_server.specs.declared.request.Request.TheVariants as request
 use Rattle.ei_server.specs.declared.handshake.Request.{Request as Asked}
 use Rattle.ei_server.specs.declared.handshake.Request.TheVariants as asked
 use Rattle.ei_server.specs.Handshake as handshake
-use Rattle.ei_server.specs.Request.{target_of, code_of, values_of}
+use Rattle.ei_server.specs.Request.{target_of, opcode_of, values_of}
 use Rattle.ei_session.specs.Setup.{Setup, connection_id}
 use Rattle.ei_session.specs.Handshake.{connected, is_finish, settled, all_settled}
 use Rattle.ei_session.specs.SettledMap.{settled_map}
@@ -40,8 +40,8 @@ use Rattle.ei_handshake.specs.Pending.{ResultOf}
 use Rattle.ei_handshake.specs.declared.server.EisHandshakeResp.{EisHandshakeResp}
 use Rattle.ei_handshake.proofs.Sending.{sends-append}
 use Rattle.ei_handshake.proofs.SettledLaws.{announced_kept, required_kept, events_kept}
-use Rattle.ei_serve.specs.declared.shaking.Shaken.{Shaken}
-use Rattle.ei_serve.specs.Asking.{SaysOfFront, SaysWhy}
+use Rattle.ei_serve.specs.declared.handshaking.Shaken.{Shaken}
+use Rattle.ei_serve.specs.AtFront.{SaysOfFront, SaysWhy}
 use Rattle.ei_serve.specs.Standing.{ShakesHands, connection_table, handshake_table, most_capacity, quiet}
 use Rattle.ei_serve.specs.Steps.{HandsOver, Refuses, RefusesFront, Shakes}
 use Rattle.ei_serve.proofs.ShakingAsked.{says_of_front}
@@ -52,12 +52,12 @@ use Rattle.ei_serve.proofs.ShakingFront.{unread_refused}
 -- ---- asking
 
 -- what asking answers where it shakes hands
-pub said_here : (setup : Setup) (past : List Raw) (rest : List ℕ) (handles : List Handle) (b new : BackendView) (h : HandshakerView) (answer : Option (PendingRequestResult Request)) → ShakesHands setup past rest handles b h → Answers target_of code_of values_of answer new (next false b) → SaysOfFront (quiet_with handshake_table rest handles (memory_of b)) answer new
+pub said_here : (setup : Setup) (past : List Raw) (rest : List ℕ) (handles : List Handle) (b new : BackendView) (h : HandshakerView) (answer : Option (PendingRequestResult Request)) → ShakesHands setup past rest handles b h → Answers target_of opcode_of values_of answer new (next false b) → SaysOfFront (quiet_with handshake_table rest handles (memory_of b)) answer new
 said_here setup past rest handles b new h answer s a =
     says_of_front (quiet_with handshake_table rest handles (memory_of b)) new answer all_known
-    (subst (λ (x : BackendView). Answers target_of code_of values_of answer new (next false x)) (backend_is b (quiet handshake_table rest handles) s.endpoint) a)
+    (subst (λ (x : BackendView). Answers target_of opcode_of values_of answer new (next false x)) (backend_is b (quiet handshake_table rest handles) s.endpoint) a)
 
-pub waits : (setup : Setup) (past : List Raw) (rest : List ℕ) (handles : List Handle) (b new : BackendView) (h : HandshakerView) (answer : Option (PendingRequestResult Request)) → ShakesHands setup past rest handles b h → answer ≡ None → Answers target_of code_of values_of answer new (next false b) → (front rest ≡ Short) × ShakesHands setup past rest handles new h
+pub waits : (setup : Setup) (past : List Raw) (rest : List ℕ) (handles : List Handle) (b new : BackendView) (h : HandshakerView) (answer : Option (PendingRequestResult Request)) → ShakesHands setup past rest handles b h → answer ≡ None → Answers target_of opcode_of values_of answer new (next false b) → (front rest ≡ Short) × ShakesHands setup past rest handles new h
 waits setup past rest handles b new h answer s none a =
     let w : SaysOfFront (quiet_with handshake_table rest handles (memory_of b)) None new = subst (λ (x : Option (PendingRequestResult Request)). SaysOfFront (quiet_with handshake_table rest handles (memory_of b)) x new) none (said_here setup past rest handles b new h answer s a) in
     let same : new ≡ b = w.1 ∙ sym (backend_is b (quiet handshake_table rest handles) s.endpoint) in
@@ -93,7 +93,7 @@ refused_by setup past rest handles memory (pending.ParseError f) e new off is a 
 refused_by setup past rest handles memory (pending.InvalidObject id) e new off is a =
     subst (Refuses setup past rest) (sym (err_is e (error.Handshake (handshake_error.InvalidObject id)) is)) (gone_refused setup past rest handles memory id new off a)
 
-pub refuses_asked : (setup : Setup) (past : List Raw) (rest : List ℕ) (handles : List Handle) (b new : BackendView) (h : HandshakerView) (answer : Option (PendingRequestResult Request)) (p : PendingRequestResult Request) (e : Error) → ShakesHands setup past rest handles b h → answer ≡ Some p → Answers target_of code_of values_of answer new (next false b) → ResultOf p (Err e) → Refuses setup past rest e
+pub refuses_asked : (setup : Setup) (past : List Raw) (rest : List ℕ) (handles : List Handle) (b new : BackendView) (h : HandshakerView) (answer : Option (PendingRequestResult Request)) (p : PendingRequestResult Request) (e : Error) → ShakesHands setup past rest handles b h → answer ≡ Some p → Answers target_of opcode_of values_of answer new (next false b) → ResultOf p (Err e) → Refuses setup past rest e
 refuses_asked setup past rest handles b new h answer p e s some a is =
     refused_by setup past rest handles (memory_of b) p e new s.unfinished is
     (subst (λ (x : Option (PendingRequestResult Request)). SaysOfFront (quiet_with handshake_table rest handles (memory_of b)) x new) some (said_here setup past rest handles b new h answer s a))
@@ -114,7 +114,7 @@ given_by (pending.Request q) r rest handles memory new is a = let same : q ≡ r
 given_by (pending.ParseError f) r rest handles memory new is a = absurd (no_ok (error_of_parse f) r (sym is))
 given_by (pending.InvalidObject id) r rest handles memory new is a = absurd (no_ok (error.Handshake (handshake_error.InvalidObject id)) r (sym is))
 
-pub given : (setup : Setup) (past : List Raw) (rest : List ℕ) (handles : List Handle) (b new : BackendView) (h : HandshakerView) (answer : Option (PendingRequestResult Request)) (p : PendingRequestResult Request) (r : Request) → ShakesHands setup past rest handles b h → answer ≡ Some p → Answers target_of code_of values_of answer new (next false b) → ResultOf p (Ok r) → IsFront rest handles (memory_of b) new r
+pub given : (setup : Setup) (past : List Raw) (rest : List ℕ) (handles : List Handle) (b new : BackendView) (h : HandshakerView) (answer : Option (PendingRequestResult Request)) (p : PendingRequestResult Request) (r : Request) → ShakesHands setup past rest handles b h → answer ≡ Some p → Answers target_of opcode_of values_of answer new (next false b) → ResultOf p (Ok r) → IsFront rest handles (memory_of b) new r
 given setup past rest handles b new h answer p r s some a is =
     given_by p r rest handles (memory_of b) new is
     (subst (λ (x : Option (PendingRequestResult Request)). SaysOfFront (quiet_with handshake_table rest handles (memory_of b)) x new) some (said_here setup past rest handles b new h answer s a))
@@ -153,7 +153,7 @@ module _ (setup : Setup) (past : List Raw) (rest : List ℕ) (handles : List Han
   same_serial (asked.InterfaceVersion name version) = refl
 
   -- it shakes hands on
-  shakes_on : (a : Asked) (f : Front rest handles (memory_of first) a b) → (handshake.code_of a == 1) ≡ false → ShakesHands setup (f.m ∷ past) f.after handles b (told h a)
+  shakes_on : (a : Asked) (f : Front rest handles (memory_of first) a b) → (handshake.opcode_of a == 1) ≡ false → ShakesHands setup (f.m ∷ past) f.after handles b (told h a)
   shakes_on a f other = record {
     unfinished = connected_more past f.m ∙ ap (λ (x : Bool). x || connected past) (finishes a f ∙ other) ∙ s.unfinished;
     lawful = s.lawful;
@@ -167,7 +167,7 @@ module _ (setup : Setup) (past : List Raw) (rest : List ℕ) (handles : List Han
   }
 
   -- what is told for the first time isn't refused
-  unrefused : (a : Asked) → (handshake.code_of a == 1) ≡ false → is_repeated h a ≡ false → shake_refusal past (shake_of a) ≡ None
+  unrefused : (a : Asked) → (handshake.opcode_of a == 1) ≡ false → is_repeated h a ≡ false → shake_refusal past (shake_of a) ≡ None
   unrefused (asked.HandshakeVersion version) other r = refl
   unrefused asked.Finish other r = let g : true ≡ false = other in absurd cc
   unrefused (asked.ContextType kind) other r = rw (sym s.context_type ∙ r) refl
@@ -184,7 +184,7 @@ module _ (setup : Setup) (past : List Raw) (rest : List ℕ) (handles : List Han
   abbrev Handled : BackendView → HandshakerView → Type 0
   Handled sent new = (m : Raw) × (after : List ℕ) × (front rest ≡ Whole m after) × (judge setup past m ≡ Accepted) × (is_finish m ≡ false) × ShakesHands setup (m ∷ past) after handles sent new
 
-  told_so : (a : Asked) (f : Front rest handles (memory_of first) a b) (sent : BackendView) (new : HandshakerView) → (handshake.code_of a == 1) ≡ false → (is_repeated h a ≡ false) × (new ≡ told h a) × (sent ≡ b) → Handled sent new
+  told_so : (a : Asked) (f : Front rest handles (memory_of first) a b) (sent : BackendView) (new : HandshakerView) → (handshake.opcode_of a == 1) ≡ false → (is_repeated h a ≡ false) × (new ≡ told h a) × (sent ≡ b) → Handled sent new
   told_so a f sent new other d = (
     f.m,
     f.after,

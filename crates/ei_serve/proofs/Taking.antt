@@ -7,7 +7,7 @@ use Rattle.ei_spec.specs.declared.interface.KnownInterface.{KnownInterface}
 use Rattle.ei_spec.specs.declared.interface.KnownInterface.TheVariants as known
 use Rattle.ei_spec.specs.Value.{Value, New, U32}
 use Rattle.ei_spec.specs.Interface.{Known, ObjectView, short_of}
-use Rattle.ei_spec.specs.Reading.{Fault, InvalidId, InvalidOpcode, HeaderLength, MessageLength, Unread, Stop, ◌then◌, stopping, all_at}
+use Rattle.ei_spec.specs.Reading.{Fault, InvalidId, InvalidOpcode, HeaderLength, MessageLength, Unread, ArgumentStop, ◌then◌, stopping, all_at}
 use Rattle.ei_spec.specs.Rows.{Row, Nothing, Fixed, announcing, new_id, row_at}
 use Rattle.ei_spec.specs.Table.{table}
 use Rattle.ei_spec.specs.Message.{Raw, size, Short, Unlawful, Whole, front}
@@ -15,8 +15,8 @@ use Rattle.ei_spec.proofs.Faults.{IsNoHeader, StopsNoHeader, all_no_header}
 use Rattle.ei_spec.proofs.Handleless.{AreNoHandles, Got, got_of, all_alike}
 use Rattle.ei_backend.specs.Table.{TableView, found, peer_end}
 use Rattle.ei_backend.specs.Message.{Parsed, announce, with_new, some_row}
-use Rattle.ei_backend.specs.Backend.{BackendView, Outcome, outcome, body_read, Answer, Waits, Refused, Gone, Message, next, said_of}
-use Rattle.ei_serve.specs.Asking.{is_sync, bytes_refused_by, bytes_refused}
+use Rattle.ei_backend.specs.Backend.{BackendView, BodyOutcome, outcome, body_read, FrontAnswer, Waits, Refused, Gone, Message, next, said_of}
+use Rattle.ei_serve.specs.AtFront.{is_sync, bytes_refused_by, bytes_refused}
 use Rattle.ei_session.specs.Arguments.{whole, body_of, row_args, request_args}
 use Rattle.ei_session.specs.Asked.{first}
 use Rattle.ei_session.specs.Refusals.{Refusal, Parse, arguments, left_over}
@@ -51,7 +51,7 @@ plain_rows known.Touchscreen opcode h =
 plain_rows known.Text opcode h = choice (eqb opcode 0) _ _ (refl, tt) (choice (eqb opcode 1) _ _ (refl, (tt, (tt, tt))) (choice (eqb opcode 2) _ _ (refl, (tt, tt)) tt))
 
 -- what reading a body says, where the definitions read these arguments of it
-abbrev pub OutcomeIs : Option (List Value) → TableView → Outcome → Type 0
+abbrev pub OutcomeIs : Option (List Value) → TableView → BodyOutcome → Type 0
 OutcomeIs (Some values) t o = o ≡ record { said = Ok values; table = t; taken = 0 }
 OutcomeIs None t o = (f : Fault) × (o.said ≡ Err f) × IsNoHeader f
 
@@ -66,13 +66,13 @@ parsed_is : (len : ℕ) (t : TableView) (values : List Value) (s : Unread) (vs :
     OutcomeIs (cond (eqb (length rest) 0) (Some vs) None) t (outcome len t (Ok (record { values = values; table = t; unread = s })))
 parsed_is len t values s vs rest e r k = rw (← e, ← r) (with_rest (eqb (length s.bytes) 0) values (len + length s.bytes) len s.taken t k)
 
-abbrev announced : Row → TableView → Result (List Value × Unread) Stop → Result Parsed Stop
+abbrev announced : Row → TableView → Result (List Value × Unread) ArgumentStop → Result Parsed ArgumentStop
 announced r t a = a then λ x. stopping x.1.taken (announce r.announces r.kinds x.0 t) then λ u. Ok (record { values = x.0; table = u; unread = x.1 })
 
 abbrev got : List Value → List ℕ → Got (List Value)
 got value rest = record { value = value; rest = rest }
 
-row_case : (r : Row) (len : ℕ) (t : TableView) (a b : Result (List Value × Unread) Stop) → r.announces ≡ Nothing → got_of a ≡ got_of b → KeepsTaken {A = List Value} 0 a → StopsNoHeader a →
+row_case : (r : Row) (len : ℕ) (t : TableView) (a b : Result (List Value × Unread) ArgumentStop) → r.announces ≡ Nothing → got_of a ≡ got_of b → KeepsTaken {A = List Value} 0 a → StopsNoHeader a →
     OutcomeIs (whole b) t (outcome len t (announced r t a))
 unfolding whole
 row_case r len t (Ok x) (Ok y) n e k h =
@@ -99,7 +99,7 @@ body_is interface target m handles t e h = rw e (some_case (row_at m.opcode (tab
 -- ---- why it can't be read
 
 -- where an outcome is a fault, it is this refusal
-abbrev pub IsExact : Option Refusal → Outcome → Type 0
+abbrev pub IsExact : Option Refusal → BodyOutcome → Type 0
 IsExact refusal o = MatchResult o.said (λ values. Unit {0}) (λ f. refusal ≡ Some (Parse f))
 
 exact_left : (b : Bool) (values : List Value) (a n taken : ℕ) (t : TableView) → IsExact (cond b None (Some (Parse (MessageLength a n)))) (record { said = said_if b values a n; table = t; taken = taken })
@@ -114,7 +114,7 @@ alone : (o : Option Refusal) → first (None ∷ None ∷ o ∷ []) ≡ o
 alone None = refl
 alone (Some r) = refl
 
-exact_row : (interface : KnownInterface) (r : Row) (m : Raw) (t : TableView) (a b : Result (List Value × Unread) Stop) → r.announces ≡ Nothing → SameArgs a b →
+exact_row : (interface : KnownInterface) (r : Row) (m : Raw) (t : TableView) (a b : Result (List Value × Unread) ArgumentStop) → r.announces ≡ Nothing → SameArgs a b →
     IsExact (bytes_refused_by interface m (Some r) b) (outcome (size m) t (announced r t a))
 exact_row interface r m t (Ok x) (Ok y) n e = rw n (by (exact_ok m t x.0 x.1 y.1.bytes e.1))
   where
@@ -140,7 +140,7 @@ exact_is interface target m handles t e h = rw e (exact_some interface (row_at m
 -- ---- what a `sync` says
 
 -- a message, or a refusal that isn't that of a length
-abbrev pub SaysSome : Outcome → Type 0
+abbrev pub SaysSome : BodyOutcome → Type 0
 SaysSome o = MatchResult o.said (λ values. Unit {0}) (λ f. IsNoHeader f)
 
 said_some : (b : Bool) (values : List Value) (a n taken : ℕ) (t : TableView) → SaysSome (record { said = said_if b values a n; table = t; taken = taken })
@@ -159,7 +159,7 @@ accepted_if false id x = tt
 abbrev sync_row : Row
 sync_row = announcing (codes "sync") (New ∷ U32 ∷ []) (Fixed known.Callback)
 
-read_some : (len : ℕ) (t : TableView) (a : Result (List Value × Unread) Stop) → StopsNoHeader a → SaysSome (outcome len t (announced sync_row t a))
+read_some : (len : ℕ) (t : TableView) (a : Result (List Value × Unread) ArgumentStop) → StopsNoHeader a → SaysSome (outcome len t (announced sync_row t a))
 read_some len t (Ok x) h = made_some len x.1.taken t x.0 x.1 (announce (Fixed known.Callback) (New ∷ U32 ∷ []) x.0 t) (accepted_if (ltb (new_id (New ∷ U32 ∷ []) x.0) t.next_peer || leb (peer_end t) (new_id (New ∷ U32 ∷ []) x.0)) (new_id (New ∷ U32 ∷ []) x.0) _)
 read_some len t (Err f) h = h
 
@@ -171,13 +171,13 @@ sync_is target m handles t e h =
 
 -- ---- the next message, from what stands at the front
 
-abbrev said : Answer → BackendView → Answer × BackendView
+abbrev said : FrontAnswer → BackendView → FrontAnswer × BackendView
 said a b = (a, b)
 
-abbrev answer_of : Answer × BackendView → Answer
+abbrev answer_of : FrontAnswer × BackendView → FrontAnswer
 answer_of p = p.0
 
-abbrev backend_of : Answer × BackendView → BackendView
+abbrev backend_of : FrontAnswer × BackendView → BackendView
 backend_of p = p.1
 
 pub next_short : (b : BackendView) → front b.unread ≡ Short → next false b ≡ said Waits b
@@ -190,13 +190,13 @@ pub next_gone : (b : BackendView) (m : Raw) (rest : List ℕ) → front b.unread
 next_gone b m rest e n = rw (e, n) refl
 
 -- what is said of a body, and the endpoint after it
-pub record SaysOf (b : BackendView) (target : ObjectView) (m : Raw) (rest : List ℕ) (args : Option (List Value)) (o : Outcome) : Type 0 where
+pub record SaysOf (b : BackendView) (target : ObjectView) (m : Raw) (rest : List ℕ) (args : Option (List Value)) (o : BodyOutcome) : Type 0 where
   pub values : (vs : List Value) → args ≡ Some vs → (answer_of (said (said_of target m.opcode o.said) b) ≡ Message target m.opcode vs) × (o.table ≡ b.table) × (o.taken ≡ 0)
   pub none : args ≡ None → (f : Fault) × (said_of target m.opcode o.said ≡ Refused f) × IsNoHeader f × (o.said ≡ Err f)
 
-says : (b : BackendView) (target : ObjectView) (m : Raw) (rest : List ℕ) (args : Option (List Value)) (o : Outcome) → OutcomeIs args b.table o → SaysOf b target m rest args o
+says : (b : BackendView) (target : ObjectView) (m : Raw) (rest : List ℕ) (args : Option (List Value)) (o : BodyOutcome) → OutcomeIs args b.table o → SaysOf b target m rest args o
 says b target m rest (Some vs) o h = record {
-  values = λ ws e. let same : vs ≡ ws = cc in (ap (λ (x : Outcome). said_of target m.opcode x.said) h ∙ ap (Message target m.opcode) same, ap (λ (x : Outcome). x.table) h, ap (λ (x : Outcome). x.taken) h);
+  values = λ ws e. let same : vs ≡ ws = cc in (ap (λ (x : BodyOutcome). said_of target m.opcode x.said) h ∙ ap (Message target m.opcode) same, ap (λ (x : BodyOutcome). x.table) h, ap (λ (x : BodyOutcome). x.taken) h);
   none = λ e. absurd cc;
 }
 says b target m rest None o h = record {
@@ -223,7 +223,7 @@ next_refused b m rest target interface e f k plain a =
     rw (e, f) (h.0, h.1, h.2, why)
 
 -- what a `sync` is answered by
-abbrev pub AnswersSync : ObjectView → ℕ → Answer → Type 0
+abbrev pub AnswersSync : ObjectView → ℕ → FrontAnswer → Type 0
 AnswersSync target opcode (Message t op vs) = (t ≡ target) × (op ≡ opcode)
 AnswersSync target opcode (Refused f) = IsNoHeader f
 AnswersSync target opcode a = ⊥

@@ -9,7 +9,7 @@ use Rattle.ei_spec.specs.Message.{Raw}
 use Rattle.ei_spec.specs.History.{each}
 use Rattle.ei_spec.specs.Groups.{group, frames_made, gives, Plain as Given}
 use Rattle.ei_backend.specs.Table.{TableView, Announced}
-use Rattle.ei_backend.specs.Outside.{Reads}
+use Rattle.ei_backend.specs.Outside.{ReadsClock}
 use Rattle.ei_backend.specs.Endpoint.{endpoint_of}
 use Rattle.ei_types.specs.declared.capability.DeviceCapabilities.{DeviceCapabilities}
 use Rattle.ei_session.specs.Setup.{Setup, seat_id}
@@ -98,7 +98,7 @@ one_first : (told : List ℕ) → slice_index told 0 ∷ [] ≡ first_readings 1
 one_first [] = refl
 one_first (t ∷ told) = refl
 
-draws_one : (time : ℕ) (before after : Option (List ℕ)) → ((told : List ℕ) → before ≡ Some told → Reads told after time) → Draws (time ∷ []) before after
+draws_one : (time : ℕ) (before after : Option (List ℕ)) → ((told : List ℕ) → before ≡ Some told → ReadsClock told after time) → Draws (time ∷ []) before after
 draws_one time before after r = record {
   drawn = λ told is. ap (λ (n : ℕ). n ∷ []) (r told is).is ∙ one_first told;
   leaves = λ told is. (r told is).left;

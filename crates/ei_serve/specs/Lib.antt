@@ -1,4 +1,4 @@
-pub mod Asking
+pub mod AtFront
 pub mod Causes
 pub mod Refusing
 pub mod Around

@@ -27,8 +27,8 @@ use Rattle.ei_standing.specs.Standing.{handed_as}
 use Rattle.ei_types.specs.declared.error.Error.{Error}
 use Rattle.ei_types.specs.declared.error.Error.TheVariants as error
 use Rattle.ei_wire.specs.declared.error.ParseError.TheVariants as parse_error
-use Rattle.ei_serve.specs.declared.shaking.Shaken.{Shaken}
-use Rattle.ei_serve.specs.declared.shaking.Shaken.TheVariants as shaken
+use Rattle.ei_serve.specs.declared.handshaking.Shaken.{Shaken}
+use Rattle.ei_serve.specs.declared.handshaking.Shaken.TheVariants as shaken
 use Rattle.ei_serve.specs.declared.phase.Phase.{Phase}
 use Rattle.ei_serve.specs.declared.phase.Phase.TheVariants as phase
 use Rattle.ei_serve.specs.declared.phase.Step.{Step}
@@ -44,7 +44,7 @@ abbrev pub AreVersions : List Raw → (KnownInterface → ℕ) → Type 0
 AreVersions reached versions = connected reached ≡ true → (interface : KnownInterface) → version reached interface ≡ versions interface
 
 -- The requests grew by those that the messages reached give beyond those before, with these readings and any that follow them.
-pub record Gives (setup : Setup) (before reached : List Raw) (times used : List ℕ) (old new : List EisRequest) : Type 0 where
+pub record GivesOut (setup : Setup) (before reached : List Raw) (times used : List ℕ) (old new : List EisRequest) : Type 0 where
   pub more : List Asked
   pub grown : (versions : KnownInterface → ℕ) → AreVersions reached versions → new ≡ old ++ map (handed_as versions) more
   pub framed_is : (later : List ℕ) → framed setup ((times ++ used) ++ later) reached ≡ framed setup ((times ++ used) ++ later) before ++ more
@@ -68,7 +68,7 @@ RepliesInPart setup before reached old new = (held : Piece) → old ≡ Some hel
 -- what was given and answered on the way from some messages to others, and the readings used
 pub record Goes (setup : Setup) (before reached : List Raw) (times used : List ℕ) (old new : Around) : Type 0 where
   pub behind : (done : List Raw) × (reached ≡ done ++ before)
-  pub gives : Gives setup before reached times used old.out new.out
+  pub gives : GivesOut setup before reached times used old.out new.out
   pub replies : Replies setup before reached old.took new.took
   pub drawn : AreDrawn used old.readings
   pub leaves : LeavesReadings used old.readings new.readings
@@ -81,7 +81,7 @@ pub record GoesInPart (setup : Setup) (before last : List Raw) (times : List ℕ
   pub used : List ℕ
   pub behind : (done : List Raw) × (reached ≡ done ++ before)
   pub ahead : (more : List Raw) × (last ≡ more ++ reached)
-  pub gives : Gives setup before reached times used old.out new.out
+  pub gives : GivesOut setup before reached times used old.out new.out
   pub replies : RepliesInPart setup before reached old.took new.took
   pub drawn : AreDrawn used old.readings
 

@@ -5,12 +5,12 @@
 //! whole session, or with `Session`, which takes one piece a turn.
 #![tactic(auto)]
 
-mod conversing;
+mod connected;
+mod handshaking;
 mod phase;
 mod policy;
+mod serve_loop;
 mod session;
-mod shaking;
-mod whole;
 
+pub use serve_loop::serve;
 pub use session::{Ended, Session, Setup, Turn};
-pub use whole::serve;

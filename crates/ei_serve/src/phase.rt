@@ -18,9 +18,9 @@ ghost use Rattle.ei_serve.specs.Steps.{Steps, HandsOverIn, ConnectsPhase};
 ghost use Rattle.ei_serve.specs.Taking.{ReadsPhase};
 ghost use Rattle.ei_serve.specs.Turning.{HandlesAll};
 
-use crate::conversing::{connect, converse};
+use crate::connected::{connect, converse};
+use crate::handshaking::{Shaken, shake};
 use crate::session::{Setup, Turn};
-use crate::shaking::{Shaken, shake};
 use ei_backend::{Clock, Sink, Source};
 use ei_handshake::{EisHandshakeResp, EisHandshaker};
 use ei_request::{EisRequest, EisRequestConverter};

@@ -9,9 +9,9 @@ use Rattle.ei_server.specs.declared.button.Request.{Request}
 use Rattle.ei_server.specs.declared.button.Request.TheVariants.{Release, Button}
 
 -- the opcode of a request
-abbrev pub code_of : Request → ℕ
-code_of Release = 0
-code_of (Button button state) = 1
+abbrev pub opcode_of : Request → ℕ
+opcode_of Release = 0
+opcode_of (Button button state) = 1
 
 -- its arguments
 abbrev pub values_of : Request → List Value

@@ -9,9 +9,9 @@ use Rattle.ei_server.specs.declared.connection.Request.{Request}
 use Rattle.ei_server.specs.declared.connection.Request.TheVariants.{Sync, Disconnect}
 
 -- the opcode
-abbrev pub code_of : Request → ℕ
-code_of (Sync callback) = 0
-code_of Disconnect = 1
+abbrev pub opcode_of : Request → ℕ
+opcode_of (Sync callback) = 0
+opcode_of Disconnect = 1
 
 -- the arguments: of the callback its id and its version
 abbrev pub values_of : Request → List Value

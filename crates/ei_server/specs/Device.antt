@@ -8,12 +8,12 @@ use Rattle.ei_server.specs.declared.device.Request.{Request}
 use Rattle.ei_server.specs.declared.device.Request.TheVariants.{Release, StartEmulating, StopEmulating, Frame, Ready}
 
 -- the opcode
-abbrev pub code_of : Request → ℕ
-code_of Release = 0
-code_of (StartEmulating last_serial sequence) = 1
-code_of (StopEmulating last_serial) = 2
-code_of (Frame last_serial timestamp) = 3
-code_of Ready = 4
+abbrev pub opcode_of : Request → ℕ
+opcode_of Release = 0
+opcode_of (StartEmulating last_serial sequence) = 1
+opcode_of (StopEmulating last_serial) = 2
+opcode_of (Frame last_serial timestamp) = 3
+opcode_of Ready = 4
 
 -- the arguments
 abbrev pub values_of : Request → List Value

@@ -9,12 +9,12 @@ use Rattle.ei_server.specs.declared.handshake.Request.{Request}
 use Rattle.ei_server.specs.declared.handshake.Request.TheVariants.{HandshakeVersion, Finish, ContextType, Name, InterfaceVersion}
 
 -- the opcode
-abbrev pub code_of : Request → ℕ
-code_of (HandshakeVersion version) = 0
-code_of Finish = 1
-code_of (ContextType context_type) = 2
-code_of (Name name) = 3
-code_of (InterfaceVersion name version) = 4
+abbrev pub opcode_of : Request → ℕ
+opcode_of (HandshakeVersion version) = 0
+opcode_of Finish = 1
+opcode_of (ContextType context_type) = 2
+opcode_of (Name name) = 3
+opcode_of (InterfaceVersion name version) = 4
 
 -- the arguments
 abbrev pub values_of : Request → List Value

@@ -5,8 +5,8 @@ use Rattle.ei_server.specs.declared.pingpong.Request.{Request}
 use Rattle.ei_server.specs.declared.pingpong.Request.TheVariants.{Done}
 
 -- the opcode
-abbrev pub code_of : Request → ℕ
-code_of (Done callback_data) = 0
+abbrev pub opcode_of : Request → ℕ
+opcode_of (Done callback_data) = 0
 
 -- the arguments
 abbrev pub values_of : Request → List Value

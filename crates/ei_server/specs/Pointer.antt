@@ -8,9 +8,9 @@ use Rattle.ei_server.specs.declared.pointer.Request.{Request}
 use Rattle.ei_server.specs.declared.pointer.Request.TheVariants.{Release, MotionRelative}
 
 -- the opcode of a request
-abbrev pub code_of : Request → ℕ
-code_of Release = 0
-code_of (MotionRelative x y) = 1
+abbrev pub opcode_of : Request → ℕ
+opcode_of Release = 0
+opcode_of (MotionRelative x y) = 1
 
 -- its arguments
 abbrev pub values_of : Request → List Value

@@ -8,9 +8,9 @@ use Rattle.ei_server.specs.declared.pointer_absolute.Request.{Request}
 use Rattle.ei_server.specs.declared.pointer_absolute.Request.TheVariants.{Release, MotionAbsolute}
 
 -- the opcode of a request
-abbrev pub code_of : Request → ℕ
-code_of Release = 0
-code_of (MotionAbsolute x y) = 1
+abbrev pub opcode_of : Request → ℕ
+opcode_of Release = 0
+opcode_of (MotionAbsolute x y) = 1
 
 -- its arguments
 abbrev pub values_of : Request → List Value

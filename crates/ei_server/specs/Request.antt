@@ -39,19 +39,19 @@ target_of (request.Touchscreen proxy m) = as_one_of known.Touchscreen proxy
 target_of (request.Text proxy m) = as_one_of known.Text proxy
 
 -- the opcode
-abbrev pub code_of : Request → ℕ
-code_of (request.Handshake proxy m) = handshake.code_of m
-code_of (request.Connection proxy m) = connection.code_of m
-code_of (request.Pingpong proxy m) = pingpong.code_of m
-code_of (request.Seat proxy m) = seat.code_of m
-code_of (request.Device proxy m) = device.code_of m
-code_of (request.Pointer proxy m) = pointer.code_of m
-code_of (request.PointerAbsolute proxy m) = pointer_absolute.code_of m
-code_of (request.Scroll proxy m) = scroll.code_of m
-code_of (request.Button proxy m) = button.code_of m
-code_of (request.Keyboard proxy m) = keyboard.code_of m
-code_of (request.Touchscreen proxy m) = touchscreen.code_of m
-code_of (request.Text proxy m) = text.code_of m
+abbrev pub opcode_of : Request → ℕ
+opcode_of (request.Handshake proxy m) = handshake.opcode_of m
+opcode_of (request.Connection proxy m) = connection.opcode_of m
+opcode_of (request.Pingpong proxy m) = pingpong.opcode_of m
+opcode_of (request.Seat proxy m) = seat.opcode_of m
+opcode_of (request.Device proxy m) = device.opcode_of m
+opcode_of (request.Pointer proxy m) = pointer.opcode_of m
+opcode_of (request.PointerAbsolute proxy m) = pointer_absolute.opcode_of m
+opcode_of (request.Scroll proxy m) = scroll.opcode_of m
+opcode_of (request.Button proxy m) = button.opcode_of m
+opcode_of (request.Keyboard proxy m) = keyboard.opcode_of m
+opcode_of (request.Touchscreen proxy m) = touchscreen.opcode_of m
+opcode_of (request.Text proxy m) = text.opcode_of m
 
 -- the arguments
 abbrev pub values_of : Request → List Value

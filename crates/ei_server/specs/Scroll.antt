@@ -8,11 +8,11 @@ use Rattle.ei_server.specs.declared.scroll.Request.{Request}
 use Rattle.ei_server.specs.declared.scroll.Request.TheVariants.{Release, Scroll, ScrollDiscrete, ScrollStop}
 
 -- the opcode of a request
-abbrev pub code_of : Request → ℕ
-code_of Release = 0
-code_of (Scroll x y) = 1
-code_of (ScrollDiscrete x y) = 2
-code_of (ScrollStop x y is_cancel) = 3
+abbrev pub opcode_of : Request → ℕ
+opcode_of Release = 0
+opcode_of (Scroll x y) = 1
+opcode_of (ScrollDiscrete x y) = 2
+opcode_of (ScrollStop x y is_cancel) = 3
 
 -- its arguments
 abbrev pub values_of : Request → List Value

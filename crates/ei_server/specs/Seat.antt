@@ -8,10 +8,10 @@ use Rattle.ei_server.specs.declared.seat.Request.{Request}
 use Rattle.ei_server.specs.declared.seat.Request.TheVariants.{Release, Bind, RequestDevice}
 
 -- the opcode
-abbrev pub code_of : Request → ℕ
-code_of Release = 0
-code_of (Bind capabilities) = 1
-code_of (RequestDevice capabilities) = 2
+abbrev pub opcode_of : Request → ℕ
+opcode_of Release = 0
+opcode_of (Bind capabilities) = 1
+opcode_of (RequestDevice capabilities) = 2
 
 -- the arguments
 abbrev pub values_of : Request → List Value

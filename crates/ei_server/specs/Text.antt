@@ -9,10 +9,10 @@ use Rattle.ei_server.specs.declared.text.Request.{Request}
 use Rattle.ei_server.specs.declared.text.Request.TheVariants.{Release, Keysym, Utf8}
 
 -- the opcode of a request
-abbrev pub code_of : Request → ℕ
-code_of Release = 0
-code_of (Keysym keysym state) = 1
-code_of (Utf8 text) = 2
+abbrev pub opcode_of : Request → ℕ
+opcode_of Release = 0
+opcode_of (Keysym keysym state) = 1
+opcode_of (Utf8 text) = 2
 
 -- its arguments
 abbrev pub values_of : Request → List Value

@@ -8,12 +8,12 @@ use Rattle.ei_server.specs.declared.touchscreen.Request.{Request}
 use Rattle.ei_server.specs.declared.touchscreen.Request.TheVariants.{Release, Down, Motion, Up, Cancel}
 
 -- the opcode of a request
-abbrev pub code_of : Request → ℕ
-code_of Release = 0
-code_of (Down touchid x y) = 1
-code_of (Motion touchid x y) = 2
-code_of (Up touchid) = 3
-code_of (Cancel touchid) = 4
+abbrev pub opcode_of : Request → ℕ
+opcode_of Release = 0
+opcode_of (Down touchid x y) = 1
+opcode_of (Motion touchid x y) = 2
+opcode_of (Up touchid) = 3
+opcode_of (Cancel touchid) = 4
 
 -- its arguments
 abbrev pub values_of : Request → List Value

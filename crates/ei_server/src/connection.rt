@@ -8,7 +8,7 @@ ghost use Rattle.ei_spec.specs.Reading.{or_null};
 ghost use Rattle.ei_spec.specs.declared.interface.KnownInterface.TheVariants as known;
 ghost use Rattle.ei_types.specs.Enums.{disconnect_reason_number};
 ghost use Rattle.ei_wire.specs.Gives.{value_of_arg};
-ghost use Rattle.ei_server.specs.Connection.{code_of, values_of, announced_of, event};
+ghost use Rattle.ei_server.specs.Connection.{opcode_of, values_of, announced_of, event};
 
 use crate::callback::Callback;
 use crate::context::Context;
@@ -118,7 +118,7 @@ impl Request {
     ) -> Result<Request, ParseError>
         ensures read { ReadsRow values_of false known.Connection opcode
             bytes.old bytes.new objects.old objects.new result }
-        ensures code { IfOk result (λ m. code_of m ≡ opcode) }
+        ensures code { IfOk result (λ m. opcode_of m ≡ opcode) }
         ensures announced { IfOk result (λ m. Announced (announced_of m) objects.old objects.new) }
         ensures err { OnErr result (objects.new ≡ objects.old) }
     {
@@ -134,7 +134,7 @@ impl Request {
     }
 
     pub(crate) fn opcode(&self) -> u32
-        ensures { result ≡ code_of self.now }
+        ensures { result ≡ opcode_of self.now }
     {
         match self {
             Request::Sync { .. } => 0,
@@ -145,7 +145,7 @@ impl Request {
     /// The arguments in order.
     pub(crate) fn args(&self, alloc: Global) -> Result<Vec<Arg<'_>>, NoMemory>
         ensures { IfOk result
-            (λ args. Shows false known.Connection (code_of self.now) (values_of self.now) args.items) }
+            (λ args. Shows false known.Connection (opcode_of self.now) (values_of self.now) args.items) }
     {
         Ok(match self {
             Request::Sync { callback } => Vec::from_array(alloc, [callback.as_arg()])?,

@@ -9,7 +9,7 @@ ghost use Rattle.ei_backend.specs.Table.{found, new_table, first_server_id};
 ghost use Rattle.ei_backend.specs.Outgoing.{StopsAfter, Flushes};
 ghost use Rattle.ei_backend.specs.Backend.{new_backend, ReadsOn, ReadsPiece, Answers, Brings, Shortens, next, unsent_of, with_unsent};
 ghost use Rattle.ei_spec.specs.declared.limits.TheConstants.{MOST_MESSAGE_BYTES, MOST_PIECE_BYTES};
-ghost use Rattle.ei_server.specs.Request.{target_of, code_of, values_of, announced_of};
+ghost use Rattle.ei_server.specs.Request.{target_of, opcode_of, values_of, announced_of};
 
 use crate::handshake::Handshake;
 use crate::request::Request;
@@ -131,6 +131,13 @@ impl Context {
         self.backend.unread_len()
     }
 
+    /// How many bytes wait to be sent.
+    pub fn unsent_len(&self) -> usize
+        ensures { result ≡ length self.now.unsent }
+    {
+        self.backend.unsent_len()
+    }
+
     /// How many bytes may be unread before the ring that holds them grows.
     pub fn ring_capacity(&self) -> usize
         ensures { result ≡ self.now.capacity }
@@ -151,7 +158,7 @@ impl Context {
     /// A message to no object and one that is refused are taken out too. An unlawful length takes nothing
     /// out. Where memory runs out, nothing changes.
     pub fn pending_request(&mut self) -> Result<Option<PendingRequestResult<Request>>, NoMemory>
-        ensures ok { IfOk result (λ answer. Answers target_of code_of values_of answer self.new (next false self.old)) }
+        ensures ok { IfOk result (λ answer. Answers target_of opcode_of values_of answer self.new (next false self.old)) }
         ensures announced { IfOk result (λ answer. Brings announced_of answer self.old.table self.new.table) }
         ensures shorter { IfOk result (λ answer. Shortens self.old.unread self.new.unread answer) }
         ensures few_left { result ≡ Ok None → length self.new.unread < MOST_MESSAGE_BYTES }

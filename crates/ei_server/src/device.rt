@@ -5,7 +5,7 @@ ghost use Rattle.ei_backend.specs.Proxies.{Word, Long, Letters, ReadsRow, Shows,
 ghost use Rattle.ei_spec.specs.Interface.{name_of};
 ghost use Rattle.ei_spec.specs.declared.interface.KnownInterface.TheVariants as known;
 ghost use Rattle.ei_types.specs.Enums.{device_type_number};
-ghost use Rattle.ei_server.specs.Device.{code_of, values_of, event};
+ghost use Rattle.ei_server.specs.Device.{opcode_of, values_of, event};
 
 use crate::context::Context;
 use crate::interface as eis;
@@ -210,7 +210,7 @@ impl Request {
         objects: &mut Table,
     ) -> Result<Request, ParseError>
         ensures read { ReadsRow values_of false known.Device opcode bytes.old bytes.new objects.old objects.new result }
-        ensures code { IfOk result (λ m. code_of m ≡ opcode) }
+        ensures code { IfOk result (λ m. opcode_of m ≡ opcode) }
         ensures table { objects.new ≡ objects.old }
     {
         match opcode {
@@ -238,7 +238,7 @@ impl Request {
     }
 
     pub(crate) fn opcode(&self) -> u32
-        ensures { result ≡ code_of self.now }
+        ensures { result ≡ opcode_of self.now }
     {
         match self {
             Request::Release => 0,
@@ -251,7 +251,7 @@ impl Request {
 
     /// The arguments in order.
     pub(crate) fn args(&self, alloc: Global) -> Result<Vec<Arg<'_>>, NoMemory>
-        ensures { IfOk result (λ args. Shows false known.Device (code_of self.now) (values_of self.now) args.items) }
+        ensures { IfOk result (λ args. Shows false known.Device (opcode_of self.now) (values_of self.now) args.items) }
     {
         Ok(match self {
             Request::Release | Request::Ready => Vec::new(alloc),

@@ -3,7 +3,7 @@
 ghost use Rattle.std.specs.Prelude.{◌≡◌, IfOk, false, codes, [], ◌∷◌};
 ghost use Rattle.ei_backend.specs.Proxies.{Word, Long, Letters, ReadsRow, Shows, Sends, SendsText, SendsNew};
 ghost use Rattle.ei_spec.specs.declared.interface.KnownInterface.TheVariants as known;
-ghost use Rattle.ei_server.specs.Handshake.{code_of, values_of, event};
+ghost use Rattle.ei_server.specs.Handshake.{opcode_of, values_of, event};
 
 use crate::connection::Connection;
 use crate::{Context, Proxy};
@@ -91,7 +91,7 @@ impl Request {
     ) -> Result<Request, ParseError>
         ensures read { ReadsRow values_of false known.Handshake opcode
             bytes.old bytes.new objects.old objects.new result }
-        ensures code { IfOk result (λ m. code_of m ≡ opcode) }
+        ensures code { IfOk result (λ m. opcode_of m ≡ opcode) }
         ensures table { objects.new ≡ objects.old }
     {
         match opcode {
@@ -114,7 +114,7 @@ impl Request {
     }
 
     pub(crate) fn opcode(&self) -> u32
-        ensures { result ≡ code_of self.now }
+        ensures { result ≡ opcode_of self.now }
     {
         match self {
             Request::HandshakeVersion { .. } => 0,
@@ -127,7 +127,7 @@ impl Request {
 
     /// The arguments in order.
     pub(crate) fn args(&self, alloc: Global) -> Result<Vec<Arg<'_>>, NoMemory>
-        ensures { IfOk result (λ args. Shows false known.Handshake (code_of self.now) (values_of self.now) args.items) }
+        ensures { IfOk result (λ args. Shows false known.Handshake (opcode_of self.now) (values_of self.now) args.items) }
     {
         Ok(match self {
             Request::HandshakeVersion { version } => Vec::from_array(

@@ -4,7 +4,7 @@ ghost use Rattle.std.specs.Prelude.{◌≡◌, IfOk, false, codes, [], ◌∷◌
 ghost use Rattle.ei_backend.specs.Proxies.{Word, Fd, ReadsRow, Shows, Sends};
 ghost use Rattle.ei_spec.specs.declared.interface.KnownInterface.TheVariants as known;
 ghost use Rattle.ei_types.specs.Enums.{key_state_number, keymap_type_number};
-ghost use Rattle.ei_server.specs.Keyboard.{code_of, values_of, event};
+ghost use Rattle.ei_server.specs.Keyboard.{opcode_of, values_of, event};
 
 use crate::{Context, Proxy};
 use ei_backend::{Interface, Table, kinds};
@@ -98,7 +98,7 @@ impl Request {
     ) -> Result<Request, ParseError>
         ensures read { ReadsRow values_of false known.Keyboard opcode
             bytes.old bytes.new objects.old objects.new result }
-        ensures code { IfOk result (λ m. code_of m ≡ opcode) }
+        ensures code { IfOk result (λ m. opcode_of m ≡ opcode) }
         ensures table { objects.new ≡ objects.old }
     {
         match opcode {
@@ -112,7 +112,7 @@ impl Request {
     }
 
     pub(crate) fn opcode(&self) -> u32
-        ensures { result ≡ code_of self.now }
+        ensures { result ≡ opcode_of self.now }
     {
         match self {
             Request::Release => 0,
@@ -121,7 +121,7 @@ impl Request {
     }
 
     pub(crate) fn args(&self, alloc: Global) -> Result<Vec<Arg<'_>>, NoMemory>
-        ensures { IfOk result (λ args. Shows false known.Keyboard (code_of self.now) (values_of self.now) args.items) }
+        ensures { IfOk result (λ args. Shows false known.Keyboard (opcode_of self.now) (values_of self.now) args.items) }
     {
         Ok(match self {
             Request::Release => Vec::new(alloc),

@@ -1,7 +1,7 @@
 //! The requests of a client.
 
 ghost use Rattle.std.specs.Prelude.{◌≡◌, false};
-ghost use Rattle.ei_server.specs.Request.{target_of, code_of, values_of, announced_of};
+ghost use Rattle.ei_server.specs.Request.{target_of, opcode_of, values_of, announced_of};
 
 use crate::button::{self, Button};
 use crate::connection::{self, Connection};
@@ -42,7 +42,7 @@ impl MessageEnum for Request {
 
     ghost target = { target_of };
 
-    ghost code = { code_of };
+    ghost code = { opcode_of };
 
     ghost values = { values_of };
 

@@ -3,7 +3,7 @@
 ghost use Rattle.std.specs.Prelude.{◌≡◌, IfOk, false, codes, [], ◌∷◌};
 ghost use Rattle.ei_backend.specs.Proxies.{Word, Long, Letters, ReadsRow, Shows, Sends, SendsText, SendsNew};
 ghost use Rattle.ei_spec.specs.declared.interface.KnownInterface.TheVariants as known;
-ghost use Rattle.ei_server.specs.Seat.{code_of, values_of, event};
+ghost use Rattle.ei_server.specs.Seat.{opcode_of, values_of, event};
 
 use crate::context::Context;
 use crate::device::Device;
@@ -89,7 +89,7 @@ impl Request {
         objects: &mut Table,
     ) -> Result<Request, ParseError>
         ensures read { ReadsRow values_of false known.Seat opcode bytes.old bytes.new objects.old objects.new result }
-        ensures code { IfOk result (λ m. code_of m ≡ opcode) }
+        ensures code { IfOk result (λ m. opcode_of m ≡ opcode) }
         ensures table { objects.new ≡ objects.old }
     {
         match opcode {
@@ -105,7 +105,7 @@ impl Request {
     }
 
     pub(crate) fn opcode(&self) -> u32
-        ensures { result ≡ code_of self.now }
+        ensures { result ≡ opcode_of self.now }
     {
         match self {
             Request::Release => 0,
@@ -116,7 +116,7 @@ impl Request {
 
     /// The arguments in order.
     pub(crate) fn args(&self, alloc: Global) -> Result<Vec<Arg<'_>>, NoMemory>
-        ensures { IfOk result (λ args. Shows false known.Seat (code_of self.now) (values_of self.now) args.items) }
+        ensures { IfOk result (λ args. Shows false known.Seat (opcode_of self.now) (values_of self.now) args.items) }
     {
         Ok(match self {
             Request::Release => Vec::new(alloc),

@@ -3,7 +3,7 @@
 ghost use Rattle.std.specs.Prelude.{◌≡◌, IfOk, false, codes, [], ◌∷◌};
 ghost use Rattle.ei_backend.specs.Proxies.{Word, ReadsRow, Shows, Sends};
 ghost use Rattle.ei_spec.specs.declared.interface.KnownInterface.TheVariants as known;
-ghost use Rattle.ei_server.specs.Touchscreen.{code_of, values_of, event};
+ghost use Rattle.ei_server.specs.Touchscreen.{opcode_of, values_of, event};
 
 use crate::{Context, Proxy};
 use ei_backend::{Table, kinds};
@@ -112,7 +112,7 @@ impl Request {
     ) -> Result<Request, ParseError>
         ensures read { ReadsRow values_of false known.Touchscreen opcode
             bytes.old bytes.new objects.old objects.new result }
-        ensures code { IfOk result (λ m. code_of m ≡ opcode) }
+        ensures code { IfOk result (λ m. opcode_of m ≡ opcode) }
         ensures table { objects.new ≡ objects.old }
     {
         match opcode {
@@ -136,7 +136,7 @@ impl Request {
     }
 
     pub(crate) fn opcode(&self) -> u32
-        ensures { result ≡ code_of self.now }
+        ensures { result ≡ opcode_of self.now }
     {
         match self {
             Request::Release => 0,
@@ -149,7 +149,7 @@ impl Request {
 
     pub(crate) fn args(&self, alloc: Global) -> Result<Vec<Arg<'_>>, NoMemory>
         ensures { IfOk result
-            (λ args. Shows false known.Touchscreen (code_of self.now) (values_of self.now) args.items) }
+            (λ args. Shows false known.Touchscreen (opcode_of self.now) (values_of self.now) args.items) }
     {
         Ok(match self {
             Request::Release => Vec::new(alloc),

@@ -11,7 +11,7 @@ use Rattle.ei_spec.specs.declared.handle.Handle.{Handle as Descriptor}
 use Rattle.ei_spec.specs.declared.interface.KnownInterface.{KnownInterface}
 use Rattle.ei_spec.specs.Value.{Kind, U32, I32, U64, I64, Float, Text, Nullable, Handle, New, Choice, OpenChoice, Value, Word, Long, Signed, SignedLong}
 use Rattle.ei_spec.specs.Value.{Letters}
-use Rattle.ei_spec.specs.Reading.{Fault, Unread, Read, number_at, text_at, some_text, or_null, choice_at, of_bytes, of_handle, ◌>>=◌, read, Stop, stopping}
+use Rattle.ei_spec.specs.Reading.{Fault, Unread, Read, number_at, text_at, some_text, or_null, choice_at, of_bytes, of_handle, ◌>>=◌, read, ArgumentStop, stopping}
 use Rattle.ei_spec.specs.Reading.{◌then◌, all_at}
 use Rattle.ei_spec.specs.Rows.{Row, row_at, row_named}
 use Rattle.ei_spec.specs.Table.{table}
@@ -137,7 +137,7 @@ read_held Handle s = of_handle_held s (slice_get s.handles s.taken)
 read_held (Choice name values) s = of_bytes_held (Choice name values) Word s (choice_at name values s.bytes) (λ a. refl)
 read_held OpenChoice s = of_bytes_held OpenChoice Word s (number_at w32 s.bytes) (λ a. refl)
 
-abbrev AreHeld : List Kind → Result (List Value × Unread) Stop → Type 0
+abbrev AreHeld : List Kind → Result (List Value × Unread) ArgumentStop → Type 0
 AreHeld ks (Ok x) = are_held_as ks x.0 ≡ true
 AreHeld ks (Err e) = Unit {0}
 
@@ -145,7 +145,7 @@ all_held : (ks : List Kind) (s : Unread) → AreHeld ks (all_at ks s)
 all_held [] s = refl
 all_held (k ∷ ks) s = by (read k s) (read_held k s) (λ (t : Unread). all_held ks t)
   where
-    rest : (v : Value) (r : Result (List Value × Unread) Stop) → is_held_as k v ≡ true → AreHeld ks r → AreHeld (k ∷ ks) (r then λ xs. Ok (v ∷ xs.0, xs.1))
+    rest : (v : Value) (r : Result (List Value × Unread) ArgumentStop) → is_held_as k v ≡ true → AreHeld ks r → AreHeld (k ∷ ks) (r then λ xs. Ok (v ∷ xs.0, xs.1))
     rest v (Ok xs) h next = and_true (is_held_as k v) (are_held_as ks xs.0) h next
     rest v (Err e) h next = tt
 
@@ -153,7 +153,7 @@ all_held (k ∷ ks) s = by (read k s) (read_held k s) (λ (t : Unread). all_held
     by (Ok x) h next = rest x.0 (all_at ks x.1) h (next x.1)
     by (Err e) h next = tt
 
-pub whole_left : (r : Result (List Value × Unread) Stop) (args : List Value) → whole r ≡ Some args → (xs : List Value) × ((u : Unread) × ((r ≡ Ok (xs, u)) × (eqb (length u.bytes) 0 ≡ true)))
+pub whole_left : (r : Result (List Value × Unread) ArgumentStop) (args : List Value) → whole r ≡ Some args → (xs : List Value) × ((u : Unread) × ((r ≡ Ok (xs, u)) × (eqb (length u.bytes) 0 ≡ true)))
 unfolding whole
 whole_left (Ok x) args h = elim (chosen (eqb (length x.1.bytes) 0) _ _ _ h) [ inl a ↦ (x.0, (x.1, (refl, a.0))) | inr b ↦ absurd (none_some args b.1) ]
 whole_left (Err e) args h = absurd (none_some args h)

@@ -5,7 +5,7 @@ use Rattle.std.specs.Prelude.{codes}
 use Rattle.std.proofs.lemmas.Bool.{eqb-true, ltb-true}
 use Rattle.ei_spec.specs.declared.interface.KnownInterface.TheVariants as known
 use Rattle.ei_spec.specs.Value.{Value, New, U32, Word, Long}
-use Rattle.ei_spec.specs.Reading.{Unread, Stop, all_at}
+use Rattle.ei_spec.specs.Reading.{Unread, ArgumentStop, all_at}
 use Rattle.ei_spec.specs.Rows.{Row, announcing, Fixed, row_at}
 use Rattle.ei_spec.specs.Table.{table}
 use Rattle.ei_spec.specs.Message.{Raw}
@@ -47,7 +47,7 @@ is_sync before m c h =
       | inr b ↦ absurd (none_some c b.1)
     ]
 
-pub whole_is : (r : Result (List Value × Unread) Stop) (args : List Value) → whole r ≡ Some args → (u : Unread) × (r ≡ Ok (args, u))
+pub whole_is : (r : Result (List Value × Unread) ArgumentStop) (args : List Value) → whole r ≡ Some args → (u : Unread) × (r ≡ Ok (args, u))
 unfolding whole
 whole_is (Ok x) args h = elim (chosen (eqb (length x.1.bytes) 0) _ _ _ h) [ inl a ↦ (x.1, ap (λ (xs : List Value). Ok (xs, x.1)) (one x.0 args a.1)) | inr b ↦ absurd (none_some args b.1) ]
   where

@@ -2,13 +2,13 @@
 use Rattle.std.specs.Prelude.{ℕ, Bool, true, false, List, [], ◌∷◌, length, Option, Some, None, Result, Ok, Err, ◌==◌, if◌then◌else◌}
 use Rattle.ei_spec.specs.declared.interface.KnownInterface.{KnownInterface}
 use Rattle.ei_spec.specs.Value.{Value}
-use Rattle.ei_spec.specs.Reading.{Unread, Stop, all_at}
+use Rattle.ei_spec.specs.Reading.{Unread, ArgumentStop, all_at}
 use Rattle.ei_spec.specs.Rows.{Row, row_at, row_named}
 use Rattle.ei_spec.specs.Table.{table}
 use Rattle.ei_spec.specs.Message.{Raw, message}
 
 -- the arguments that are read, where no byte is left behind them
-unfoldable pub whole : Result (List Value × Unread) Stop → Option (List Value)
+unfoldable pub whole : Result (List Value × Unread) ArgumentStop → Option (List Value)
 whole (Ok x) = if length x.1.bytes == 0 then Some x.0 else None
 whole (Err e) = None
 

@@ -9,7 +9,7 @@ use Rattle.ei_types.specs.declared.error.RequestError.{RequestError}
 use Rattle.ei_types.specs.declared.error.RequestError.TheVariants as request
 use Rattle.ei_spec.specs.Interface.{name_of, short_of}
 use Rattle.ei_spec.specs.Value.{Value, Word, Long}
-use Rattle.ei_spec.specs.Reading.{Fault, InvalidOpcode, InvalidId, MessageLength, Unread, Stop, all_at}
+use Rattle.ei_spec.specs.Reading.{Fault, InvalidOpcode, InvalidId, MessageLength, Unread, ArgumentStop, all_at}
 use Rattle.ei_spec.specs.Rows.{Row, Announces, Nothing, row_at, new_id}
 use Rattle.ei_spec.specs.Table.{table}
 use Rattle.ei_spec.specs.Message.{Raw, size}
@@ -36,7 +36,7 @@ pub data Refusal : Type 0 where
 -- ---- what can't be read
 
 abbrev pub Arguments : Type 0
-Arguments = Result (List Value × Unread) Stop
+Arguments = Result (List Value × Unread) ArgumentStop
 
 -- the arguments that the body begins with, by the row of the message
 abbrev pub arguments : Option Row → Raw → Arguments

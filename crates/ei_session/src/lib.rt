@@ -14,6 +14,7 @@ mod all_requests;
 mod completeness;
 mod devices_held;
 mod kinds_of_messages;
+pub mod laws;
 mod meanings;
 mod next;
 mod objects_by_id;
@@ -21,29 +22,3 @@ mod told;
 mod versions;
 mod worked;
 mod worked_told;
-
-pub use all_requests::{
-    all_one_more, all_prefixes, all_sessions, all_streams, answers, bounds, devices_made, groups,
-    inputs, interfaces_after, items, objects_after, objects_there, refusals, steps_after, targets,
-    touches_after,
-};
-pub use completeness::complete_pieces;
-pub use devices_held::{fresh_devices, touch_counts};
-pub use kinds_of_messages::{
-    finish_message, frames_made_by_item, given_by_item, handshake_messages, ids_run_out,
-    other_inputs, plain_requests, seat_released,
-};
-pub use meanings::{
-    answered_by_meaning, asked_by_meaning, asked_rows, judged_by_meaning, refused_by_meaning,
-    requests_ask, words_by_meaning,
-};
-pub use next::{own_ids, peer_ids};
-pub use objects_by_id::{
-    interfaces_there, new_objects, objects_gone, objects_introduced, objects_placed,
-};
-pub use told::reply_targets;
-pub use versions::settled_versions;
-pub use worked::{
-    callbacks, devices, first_messages, handshakes, strangers, texts, touches, whole_session,
-};
-pub use worked_told::{given_ids, needed_pieces, settled_names, told_objects};

@@ -9,7 +9,7 @@ use Rattle.ei_spec.specs.declared.handle.Handle.{Handle as Descriptor}
 use Rattle.ei_spec.specs.Value.{Kind, U32, I32, U64, I64, Float, Text, Nullable, Handle, New, Choice, OpenChoice, Value, Word, Long, Signed, SignedLong}
 use Rattle.ei_spec.specs.Value.{Letters, padding}
 use Rattle.ei_spec.specs.Reading.{Fault, EndOfMessage, Utf8, InvalidVariant, HeaderLength, ◌>>=◌, Unread, number_at, letters_at, text_at, some_text, or_null}
-use Rattle.ei_spec.specs.Reading.{choice_at, of_bytes, of_handle, read, utf8, Stop, ◌then◌, stopping, all_at}
+use Rattle.ei_spec.specs.Reading.{choice_at, of_bytes, of_handle, read, utf8, ArgumentStop, ◌then◌, stopping, all_at}
 
 -- a fault that isn't the length of a header
 abbrev pub IsNoHeader : Fault → Type 0
@@ -73,14 +73,14 @@ read_no_header (Choice name values) s = of_bytes_no_header Word s (choice_at nam
     (λ n. either (λ r. NoHeader r) (list_any (nat_eq n.0) values) (Ok n) (Err (InvalidVariant name n.0)) tt tt))
 read_no_header OpenChoice s = of_bytes_no_header Word s (number_at w32 s.bytes) (number_no_header w32 s.bytes)
 
-abbrev pub StopsNoHeader : {A : Type 0} → Result A Stop → Type 0
+abbrev pub StopsNoHeader : {A : Type 0} → Result A ArgumentStop → Type 0
 StopsNoHeader r = MatchResult r (λ _. Unit {0}) (λ e. IsNoHeader e.0)
 
-stepped : {A B : Type 0} (n : ℕ) (r : Result A Fault) (f : A → Result B Stop) → NoHeader r → ((x : A) → StopsNoHeader (f x)) → StopsNoHeader (stopping n r then f)
+stepped : {A B : Type 0} (n : ℕ) (r : Result A Fault) (f : A → Result B ArgumentStop) → NoHeader r → ((x : A) → StopsNoHeader (f x)) → StopsNoHeader (stopping n r then f)
 stepped n (Ok x) f h k = k x
 stepped n (Err e) f h k = h
 
-consed : (v : Value) (r : Result (List Value × Unread) Stop) → StopsNoHeader r → StopsNoHeader {A = List Value × Unread} (r then λ xs. Ok (v ∷ xs.0, xs.1))
+consed : (v : Value) (r : Result (List Value × Unread) ArgumentStop) → StopsNoHeader r → StopsNoHeader {A = List Value × Unread} (r then λ xs. Ok (v ∷ xs.0, xs.1))
 consed v (Ok x) h = tt
 consed v (Err e) h = h
 

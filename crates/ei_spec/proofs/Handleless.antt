@@ -3,7 +3,7 @@ use Rattle.std.proofs.Common.{◌≡◌, ℕ, List, [], ◌∷◌, Option, Some,
 use Rattle.std.specs.Int.{w32, w64, cast_signed}
 use Rattle.ei_spec.specs.Value.{Kind, U32, I32, U64, I64, Float, Text, Nullable, Handle, New, Choice, OpenChoice, Value, Word, Long, Signed, SignedLong}
 use Rattle.ei_spec.specs.Value.{Letters}
-use Rattle.ei_spec.specs.Reading.{Fault, ◌>>=◌, Unread, Read, number_at, text_at, some_text, or_null, choice_at, of_bytes, read, Stop, ◌then◌, stopping, all_at}
+use Rattle.ei_spec.specs.Reading.{Fault, ◌>>=◌, Unread, Read, number_at, text_at, some_text, or_null, choice_at, of_bytes, read, ArgumentStop, ◌then◌, stopping, all_at}
 
 -- the kind is no handle
 abbrev pub IsNoHandle : Kind → Type 0
@@ -27,7 +27,7 @@ one_of (Ok x) = Some (got x.0 x.1.bytes)
 one_of (Err e) = None
 
 -- the values that were read, and the bytes behind them
-abbrev pub got_of : Result (List Value × Unread) Stop → Option (Got (List Value))
+abbrev pub got_of : Result (List Value × Unread) ArgumentStop → Option (Got (List Value))
 got_of (Ok x) = Some (got x.0 x.1.bytes)
 got_of (Err e) = None
 
@@ -51,10 +51,10 @@ read_alike Handle s t n e = absurd n
 read_alike (Choice name values) s t n e = bytes_alike Word s t (choice_at name values) e
 read_alike OpenChoice s t n e = bytes_alike Word s t (number_at w32) e
 
-abbrev list_then : Value → Result (List Value × Unread) Stop → Result (List Value × Unread) Stop
+abbrev list_then : Value → Result (List Value × Unread) ArgumentStop → Result (List Value × Unread) ArgumentStop
 list_then v r = r then λ xs. Ok (v ∷ xs.0, xs.1)
 
-consed : (v : Value) (a b : Result (List Value × Unread) Stop) → got_of a ≡ got_of b → got_of (list_then v a) ≡ got_of (list_then v b)
+consed : (v : Value) (a b : Result (List Value × Unread) ArgumentStop) → got_of a ≡ got_of b → got_of (list_then v a) ≡ got_of (list_then v b)
 consed v (Ok x) (Ok y) e =
     let same : got x.0 x.1.bytes ≡ got y.0 y.1.bytes = cc in
     ap (λ (g : Got (List Value)). Some (got (v ∷ g.value) g.rest)) same

@@ -5,7 +5,7 @@ use Rattle.std.specs.Int.{w32, w64, cast_signed}
 use Rattle.ei_spec.specs.declared.handle.Handle.{Handle as Descriptor}
 use Rattle.ei_spec.specs.Value.{Kind, U32, I32, U64, I64, Float, Text, Nullable, Handle, New, Choice, OpenChoice, Value, Word, Long, Signed, SignedLong}
 use Rattle.ei_spec.specs.Value.{Letters}
-use Rattle.ei_spec.specs.Reading.{Fault, NoFd, ◌>>=◌, Unread, Read, number_at, text_at, some_text, or_null, choice_at, of_bytes, of_handle, read, Stop, ◌then◌}
+use Rattle.ei_spec.specs.Reading.{Fault, NoFd, ◌>>=◌, Unread, Read, number_at, text_at, some_text, or_null, choice_at, of_bytes, of_handle, read, ArgumentStop, ◌then◌}
 use Rattle.ei_spec.specs.Reading.{stopping, all_at}
 
 -- the same bytes are left, and as many handles are taken; or the same refusal came
@@ -71,25 +71,25 @@ same_one OpenChoice s t g same other h = bytes_fault Word s t (number_at w32) g 
 
 -- ---- arguments, one after another
 
-abbrev list_then : Value → Result (List Value × Unread) Stop → Result (List Value × Unread) Stop
+abbrev list_then : Value → Result (List Value × Unread) ArgumentStop → Result (List Value × Unread) ArgumentStop
 list_then v r = r then λ xs. Ok (v ∷ xs.0, xs.1)
 
 -- the same refusal, or a handle that isn't there
-abbrev SameOrNoFd : Stop → Result (List Value × Unread) Stop → Type 0
+abbrev SameOrNoFd : ArgumentStop → Result (List Value × Unread) ArgumentStop → Type 0
 SameOrNoFd stop r = (r ≡ Err stop) ⊎ ((taken : ℕ) × (r ≡ Err (NoFd, taken)))
 
-then_stop : (v : Value) (r : Result (List Value × Unread) Stop) (stop : Stop) → list_then v r ≡ Err stop → r ≡ Err stop
+then_stop : (v : Value) (r : Result (List Value × Unread) ArgumentStop) (stop : ArgumentStop) → list_then v r ≡ Err stop → r ≡ Err stop
 then_stop v (Ok x) stop h = absurd cc
 then_stop v (Err e) stop h = cc
 
-stop_then : (v : Value) (r : Result (List Value × Unread) Stop) (stop : Stop) → SameOrNoFd stop r → SameOrNoFd stop (list_then v r)
+stop_then : (v : Value) (r : Result (List Value × Unread) ArgumentStop) (stop : ArgumentStop) → SameOrNoFd stop r → SameOrNoFd stop (list_then v r)
 stop_then v r stop (inl e) = inl (ap (list_then v) e)
 stop_then v r stop (inr e) = inr (e.0, ap (list_then v) e.1)
 
-same_fault : (f : Fault) (m : ℕ) (stop : Stop) → ◌≡◌ {A = Result (List Value × Unread) Stop} (Err (f, m)) (Err stop) → f ≡ stop.0
-same_fault f m stop h = let pair : ◌≡◌ {A = Stop} (f, m) stop = cc in ap (λ (p : Stop). p.0) pair
+same_fault : (f : Fault) (m : ℕ) (stop : ArgumentStop) → ◌≡◌ {A = Result (List Value × Unread) ArgumentStop} (Err (f, m)) (Err stop) → f ≡ stop.0
+same_fault f m stop h = let pair : ◌≡◌ {A = ArgumentStop} (f, m) stop = cc in ap (λ (p : ArgumentStop). p.0) pair
 
-stepped : (m n : ℕ) (r q : Read) (ks : List Kind) (stop : Stop) → m ≡ n → Alike r q → stop.0 ≢ NoFd →
+stepped : (m n : ℕ) (r q : Read) (ks : List Kind) (stop : ArgumentStop) → m ≡ n → Alike r q → stop.0 ≢ NoFd →
     ((x y : Unread) → x.bytes ≡ y.bytes → x.taken ≡ y.taken → all_at ks x ≡ Err stop → SameOrNoFd stop (all_at ks y)) →
     (stopping m r then λ x. list_then x.0 (all_at ks x.1)) ≡ Err stop → SameOrNoFd stop (stopping n q then λ x. list_then x.0 (all_at ks x.1))
 stepped m n (Ok x) (Ok y) ks stop e alike other behind h =
@@ -99,7 +99,7 @@ stepped m n (Err f) (Ok y) ks stop e alike other behind h = absurd (other (sym (
 stepped m n (Err f) (Err g) ks stop e alike other behind h =
     inl (ap (λ (k : ℕ). Err (g, k)) (sym e) ∙ ap (λ (k : Fault). Err (k, m)) (sym alike) ∙ h)
 
-pub same_all : (ks : List Kind) (s t : Unread) (stop : Stop) → s.bytes ≡ t.bytes → s.taken ≡ t.taken → stop.0 ≢ NoFd → all_at ks s ≡ Err stop → SameOrNoFd stop (all_at ks t)
+pub same_all : (ks : List Kind) (s t : Unread) (stop : ArgumentStop) → s.bytes ≡ t.bytes → s.taken ≡ t.taken → stop.0 ≢ NoFd → all_at ks s ≡ Err stop → SameOrNoFd stop (all_at ks t)
 same_all [] s t stop same e other h = absurd cc
 same_all (k ∷ ks) s t stop same e other h =
     stepped s.taken t.taken (read k s) (read k t) ks stop e (read_alike k s t same e) other (λ x y b n stops. same_all ks x y stop b n other stops) h

@@ -92,20 +92,20 @@ read (Choice name values) s = of_bytes Word s (choice_at name values s.bytes)
 read OpenChoice s = of_bytes Word s (number_at w32 s.bytes)
 
 -- a refusal, and how many handles were taken before it
-abbrev pub Stop : Type 0
-Stop = Fault × ℕ
+abbrev pub ArgumentStop : Type 0
+ArgumentStop = Fault × ℕ
 
 infixl 10 ◌then◌
-abbrev pub ◌then◌ : {A B : Type 0} → Result A Stop → (A → Result B Stop) → Result B Stop
+abbrev pub ◌then◌ : {A B : Type 0} → Result A ArgumentStop → (A → Result B ArgumentStop) → Result B ArgumentStop
 (Ok x) then f = f x
 (Err e) then f = Err e
 
 -- a step: a refusal keeps the handles that were taken before
-abbrev pub stopping : {A : Type 0} → ℕ → Result A Fault → Result A Stop
+abbrev pub stopping : {A : Type 0} → ℕ → Result A Fault → Result A ArgumentStop
 stopping n (Ok x) = Ok x
 stopping n (Err f) = Err (f, n)
 
 -- a value of each kind, one after another
-abbrev pub all_at : List Kind → Unread → Result (List Value × Unread) Stop
+abbrev pub all_at : List Kind → Unread → Result (List Value × Unread) ArgumentStop
 all_at [] s = Ok ([], s)
 all_at (k ∷ ks) s = stopping s.taken (read k s) then λ x. all_at ks x.1 then λ xs. Ok (x.0 ∷ xs.0, xs.1)

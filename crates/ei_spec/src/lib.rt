@@ -7,11 +7,8 @@
 
 mod handle;
 mod interface;
-mod laws;
+pub mod laws;
 pub mod limits;
 
 pub use handle::Handle;
 pub use interface::KnownInterface;
-pub use laws::{
-    all_messages, enums, groups, lasting, messages, refusals, spelling, waiting_inputs,
-};

@@ -19,7 +19,7 @@ use Rattle.ei_server.specs.declared.button.Request.TheVariants as button
 use Rattle.ei_server.specs.declared.keyboard.Request.TheVariants as keyboard
 use Rattle.ei_server.specs.declared.touchscreen.Request.TheVariants as touchscreen
 use Rattle.ei_server.specs.declared.text.Request.TheVariants as text
-use Rattle.ei_server.specs.Request.{code_of, values_of}
+use Rattle.ei_server.specs.Request.{opcode_of, values_of}
 use Rattle.ei_session.specs.Arguments.{request_args}
 use Rattle.ei_session.specs.Meaning.{meaning, Greeting, Finish, ContextType, Name, InterfaceVersion, Sync, Disconnect, Pong, SeatRelease, Bind}
 use Rattle.ei_session.specs.Meaning.{RequestDevice, DeviceRelease, Start, Stop, Frame, Ready, PointerRelease, MotionRelative, PointerAbsoluteRelease}
@@ -31,7 +31,7 @@ use Rattle.ei_standing.specs.Standing.{interface_asked}
 
 -- the message of a typed request: its opcode and its arguments
 pub record Spells (m : Raw) (r : Request) : Type 0 where
-  pub opcode : m.opcode ≡ code_of r
+  pub opcode : m.opcode ≡ opcode_of r
   pub args : request_args (interface_asked r) m ≡ Some (values_of r)
 
 pub meant : (m : Raw) (r : Request) → Spells m r → meaning (interface_asked r) m ≡ Some (meaning_of r)

@@ -19,7 +19,7 @@ ghost use Rattle.ei_backend.specs.Table.{TableView, Announced, new_table, first_
 ghost use Rattle.ei_backend.specs.Backend.{BackendView, new_backend};
 ghost use Rattle.ei_backend.specs.Endpoint.{endpoint_of};
 ghost use Rattle.ei_server.specs.declared.request.Request.{Request};
-ghost use Rattle.ei_server.specs.Request.{code_of, values_of};
+ghost use Rattle.ei_server.specs.Request.{opcode_of, values_of};
 ghost use Rattle.ei_handshake.specs.declared.server.EisHandshakeResp.{EisHandshakeResp};
 ghost use Rattle.ei_session.specs.Setup.{Setup, connection_id, seat_id};
 ghost use Rattle.ei_session.specs.Arguments.{request_args};
@@ -47,7 +47,7 @@ ghost use Rattle.ei_standing.specs.Standing.{seat_events, tells_no_object, with_
 
 /// A typed request asks what its message asks.
 pub fn meanings()
-    ensures asks { (m : Raw) (r : Request) → m.opcode ≡ code_of r → request_args (interface_asked r) m ≡ Some (values_of r) →
+    ensures asks { (m : Raw) (r : Request) → m.opcode ≡ opcode_of r → request_args (interface_asked r) m ≡ Some (values_of r) →
         meaning (interface_asked r) m ≡ Some (meaning_of r) }
 {}
 

@@ -7,15 +7,14 @@
 mod capability;
 mod enums;
 mod error;
-mod laws;
-mod operation;
-mod twelve;
+mod interface_list;
+pub mod laws;
+mod operation_names;
 
 pub use capability::{DeviceCapabilities, DeviceCapability};
 pub use enums::{
     ButtonState, ContextType, DeviceType, DisconnectReason, KeyState, KeymapType, OtherReason,
 };
 pub use error::{Error, EventError, HandshakeError, RequestError};
-pub use laws::{enum_numbers, enums_read_back, reasons};
-pub use operation::op_name;
-pub use twelve::{interfaces, known_interfaces};
+pub use interface_list::{interfaces, known_interfaces};
+pub use operation_names::op_name;

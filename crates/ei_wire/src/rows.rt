@@ -2,7 +2,7 @@
 
 ghost use Rattle.std.specs.Prelude.{[], ◌∷◌};
 ghost use Rattle.ei_spec.specs.Reading.{all_at};
-ghost use Rattle.ei_wire.specs.Rows.{Reads};
+ghost use Rattle.ei_wire.specs.Rows.{ReadsArguments};
 
 use crate::arg::OwnedArg;
 use crate::error::ParseError;
@@ -10,7 +10,7 @@ use crate::stream::ByteStream;
 
 /// Takes the one argument of a row.
 pub fn read_one<A: OwnedArg + Drop>(bytes: &mut ByteStream<'_>) -> Result<A, ParseError>
-    ensures read { Reads (λ x. (A.value x ∷ [], bytes.new)) bytes.new.taken result (all_at (A.kind ∷ []) bytes.old) }
+    ensures read { ReadsArguments (λ x. (A.value x ∷ [], bytes.new)) bytes.new.taken result (all_at (A.kind ∷ []) bytes.old) }
 {
     bytes.read_arg()
 }
@@ -19,7 +19,7 @@ pub fn read_one<A: OwnedArg + Drop>(bytes: &mut ByteStream<'_>) -> Result<A, Par
 pub fn read_two<A: OwnedArg + Drop, B: OwnedArg + Drop>(
     bytes: &mut ByteStream<'_>,
 ) -> Result<(A, B), ParseError>
-    ensures read { Reads (λ x. (A.value x.0 ∷ B.value x.1 ∷ [], bytes.new)) bytes.new.taken result
+    ensures read { ReadsArguments (λ x. (A.value x.0 ∷ B.value x.1 ∷ [], bytes.new)) bytes.new.taken result
         (all_at (A.kind ∷ B.kind ∷ []) bytes.old) }
 {
     let a = bytes.read_arg()?;
@@ -31,7 +31,7 @@ pub fn read_two<A: OwnedArg + Drop, B: OwnedArg + Drop>(
 pub fn read_three<A: OwnedArg + Drop, B: OwnedArg + Drop, C: OwnedArg + Drop>(
     bytes: &mut ByteStream<'_>,
 ) -> Result<(A, B, C), ParseError>
-    ensures read { Reads (λ x. (A.value x.0 ∷ B.value x.1 ∷ C.value x.2 ∷ [], bytes.new)) bytes.new.taken result
+    ensures read { ReadsArguments (λ x. (A.value x.0 ∷ B.value x.1 ∷ C.value x.2 ∷ [], bytes.new)) bytes.new.taken result
         (all_at (A.kind ∷ B.kind ∷ C.kind ∷ []) bytes.old) }
 {
     let a = bytes.read_arg()?;
@@ -48,7 +48,7 @@ where
     C: OwnedArg + Drop,
     D: OwnedArg + Drop,
     E: OwnedArg + Drop,
-    ensures read { Reads (λ x. (A.value x.0 ∷ B.value x.1 ∷ C.value x.2 ∷ D.value x.3 ∷ E.value x.4 ∷ [], bytes.new))
+    ensures read { ReadsArguments (λ x. (A.value x.0 ∷ B.value x.1 ∷ C.value x.2 ∷ D.value x.3 ∷ E.value x.4 ∷ [], bytes.new))
         bytes.new.taken result (all_at (A.kind ∷ B.kind ∷ C.kind ∷ D.kind ∷ E.kind ∷ []) bytes.old) }
 {
     let a = bytes.read_arg()?;

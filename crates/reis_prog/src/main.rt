@@ -1,32 +1,15 @@
-//! The program `reis`: it serves a session from a text of hexadecimal lines, and reports.
+//! The program `reis`: the words that it was started with, over standard input, standard output and the clock.
 //!
-//! The protocol itself is not here. Begin with `run`, the program over any input, output and clock,
-//! and `HexSource`, the pieces that a text spells.
+//! What it does with them is `reis_run::run`.
 #![tactic(auto)]
-
-#[cfg(test)]
-mod client_tests;
-#[cfg(test)]
-mod device_tests;
-mod fields;
-mod held;
-mod hex_source;
-mod report;
-mod request_line;
-mod run;
-#[cfg(test)]
-mod run_tests;
-mod std_io;
-#[cfg(test)]
-mod tests;
-mod words;
 
 ghost use Rattle.std.specs.Prelude.{◌≡◌, map, drop, IfOk};
 ghost use Rattle.std.specs.String.{string_bytes};
 ghost use Rattle.std.specs.Vec.Iter.{into_iter_items};
 
-use crate::std_io::{StdClock, StdInput, StdOutput};
 use ei_wire::{EiText, NoMemory};
+use reis_run::std_io::{StdClock, StdInput, StdOutput};
+use reis_run::{NO_MEMORY, run};
 use std::alloc::Global;
 use std::env::Args;
 use std::process::ExitCode;
@@ -56,10 +39,10 @@ fn started_with<R: Env + AllocGlobal>(rt: &R) -> Result<Vec<EiText>, NoMemory> {
 
 fn main(rt: HostRuntime) -> ExitCode {
     let Ok(words) = started_with(&rt) else {
-        return ExitCode::from(run::NO_MEMORY);
+        return ExitCode::from(NO_MEMORY);
     };
     let mut input = StdInput::new(rt.stdin());
     let mut output = StdOutput::new(rt.stdout());
     let mut clock = StdClock::new(&rt);
-    ExitCode::from(run::run(rt.alloc(), &words, &mut input, &mut output, &mut clock))
+    ExitCode::from(run(rt.alloc(), &words, &mut input, &mut output, &mut clock))
 }

@@ -7,12 +7,12 @@ ghost use Rattle.ei_spec.specs.Table.{key_state};
 ghost use Rattle.ei_spec.specs.Value.{Word};
 ghost use Rattle.ei_types.specs.Enums.{key_state_number};
 
-use ei_backend::{bursts, ring_laws, tables};
-use ei_spec::{Handle, all_messages, enums, groups, messages, spelling, waiting_inputs};
+use ei_backend::laws::{bursts, ring_laws, tables};
+use ei_spec::Handle;
+use ei_spec::laws::{all_messages, enums, groups, messages, spelling, waiting_inputs};
 use ei_types::KeyState;
-use ei_wire::{
-    EiText, OwnedArg, interface_names, no_proper_prefix, no_spelling, read_back, spelled,
-};
+use ei_wire::laws::{interface_names, no_proper_prefix, no_spelling, read_back, spelled};
+use ei_wire::{EiText, OwnedArg};
 
 /// The laws of the kinds, through their bound.
 fn laws_of<T: OwnedArg>(value: &T)

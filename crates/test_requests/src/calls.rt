@@ -1,6 +1,6 @@
 //! The calls of the table by their names.
 
-use crate::asking::{ask, ask_elsewhere};
+use crate::client_requests::{ask, ask_elsewhere};
 use crate::connecting::Greeting;
 use crate::ends::{disconnect, read, remove_device, remove_seat};
 use crate::making::{add_device, add_object, add_seat, bear, leave_ids};

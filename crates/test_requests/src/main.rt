@@ -9,8 +9,8 @@
 //! Begin with `calls`.
 #![tactic(auto)]
 
-mod asking;
 mod calls;
+mod client_requests;
 mod connecting;
 mod ends;
 mod making;

@@ -1,0 +1,133 @@
+//! The connection, message by message.
+
+ghost use Rattle.std.specs.Prelude.{◌≡◌, ◌≤◌, ◌<◌, ◌++◌, List, [], ℕ, IfErr, IsErrOf, OnErr, OnOk, IfOk, None, true, false};
+ghost use Rattle.ei_spec.specs.declared.handle.Handle.{Handle};
+ghost use Rattle.ei_spec.specs.Message.{Raw};
+ghost use Rattle.ei_types.specs.declared.error.Error.TheVariants as error;
+ghost use Rattle.ei_backend.specs.Outside.{Rose};
+ghost use Rattle.ei_session.specs.Setup.{Setup as Started};
+ghost use Rattle.ei_session.specs.Handshake.{connected, is_finish};
+ghost use Rattle.ei_serve.specs.Around.{around};
+ghost use Rattle.ei_serve.specs.Standing.{IsConnected, setup_of};
+ghost use Rattle.ei_serve.specs.Steps.{HandsOver, Connects, Steps};
+ghost use Rattle.ei_serve.specs.AtFront.{IsAsked};
+ghost use Rattle.ei_serve.specs.Policy.{policy_behind};
+ghost use Rattle.ei_serve.specs.declared.phase.Phase.TheVariants as phases;
+
+use crate::phase::Step;
+use crate::policy::{Policy, policy_of};
+use crate::session::Setup;
+use ei_backend::{Clock, PendingRequestResult, Sink};
+use ei_handshake::EisHandshakeResp;
+use ei_request::{EisRequest, EisRequestConverter};
+use ei_server::{Context, Request};
+use ei_types::Error;
+use std::alloc::Global;
+
+/// Goes over to the connection, and announces the seat.
+pub(crate) fn connect<K: Sink>(
+    alloc: Global,
+    context: Context,
+    resp: EisHandshakeResp,
+    setup: Setup,
+    sink: &mut K,
+) -> Result<EisRequestConverter, Error>
+    ensures connects { (before : List Raw) (finish : Raw) (after : List ℕ) (handles : List Handle) →
+        connected before ≡ false → is_finish finish ≡ true →
+        HandsOver (setup_of setup) before after handles resp context →
+        Connects (setup_of setup) before finish after handles result (K.taken sink.old) (K.taken sink.new) }
+    ensures write_fault { IsErrOf result error.WriteFault → Rose (K.faults sink.old) (K.faults sink.new) }
+    ensures write_risen { K.faults sink.old < K.faults sink.new → IsErrOf result error.WriteFault }
+    ensures write_faults { K.faults sink.old ≤ K.faults sink.new }
+    ensures later_sink { K.later sink.old sink.new }
+    ensures no_read_fault { IsErrOf result error.ReadFault → ⊥ }
+{
+    let mut converter = EisRequestConverter::new(alloc, context, resp, setup.initial_serial);
+    let handle = converter.handle_mut();
+    handle.add_seat(None, setup.capabilities)?;
+    handle.context_mut().flush(sink)?;
+    Ok(converter)
+}
+
+/// Handles the message at the front of the connection.
+pub(crate) fn converse<K: Sink, C: Clock>(
+    converter: &mut EisRequestConverter,
+    sink: &mut K,
+    clock: &mut C,
+    out: &mut Vec<EisRequest>,
+) -> Result<Step, Error>
+    ensures converses { (setup : Started) (past : List Raw) (times rest : List ℕ) (handles : List Handle) →
+        IsConnected setup past times rest handles converter.old →
+        Steps setup past times rest handles result (phases.Connected converter.new)
+        (around None out.old.items (K.taken sink.old) (C.readings clock.old)) (around None out.new.items (K.taken sink.new) (C.readings clock.new)) }
+    ensures write_fault { IsErrOf result error.WriteFault → Rose (K.faults sink.old) (K.faults sink.new) }
+    ensures write_risen { K.faults sink.old < K.faults sink.new → IsErrOf result error.WriteFault }
+    ensures write_faults { K.faults sink.old ≤ K.faults sink.new }
+    ensures later_sink { K.later sink.old sink.new }
+    ensures no_read_fault { IsErrOf result error.ReadFault → ⊥ }
+    ensures later_clock { C.later clock.old clock.new }
+{
+    let Some(pending) = converter.handle_mut().context_mut().pending_request()? else {
+        return Ok(Step::Waiting);
+    };
+    match pending {
+        PendingRequestResult::Request(request) => {
+            take_request(converter, sink, clock, out, request)
+        }
+        PendingRequestResult::ParseError(error) => Err(Error::Parse(error)),
+        PendingRequestResult::InvalidObject(id) => {
+            let handle = converter.handle_mut();
+            handle.invalid_object(id)?;
+            handle.flush(sink)?;
+            Ok(Step::Handled)
+        }
+    }
+}
+
+/// Takes a request: it is handled, what is queued is handed out, then comes what the policy does behind it, and all
+/// that this sends is flushed.
+fn take_request<K: Sink, C: Clock>(
+    converter: &mut EisRequestConverter,
+    sink: &mut K,
+    clock: &mut C,
+    out: &mut Vec<EisRequest>,
+    request: Request,
+) -> Result<Step, Error>
+    ensures takes { (setup : Started) (past : List Raw) (times rest : List ℕ) (handles : List Handle) →
+        IsAsked setup past times rest handles request converter.old →
+        Steps setup past times rest handles result (phases.Connected converter.new)
+        (around None out.old.items (K.taken sink.old) (C.readings clock.old)) (around None out.new.items (K.taken sink.new) (C.readings clock.new)) }
+    ensures write_fault { IsErrOf result error.WriteFault → Rose (K.faults sink.old) (K.faults sink.new) }
+    ensures write_risen { K.faults sink.old < K.faults sink.new → IsErrOf result error.WriteFault }
+    ensures write_faults { K.faults sink.old ≤ K.faults sink.new }
+    ensures later_sink { K.later sink.old sink.new }
+    ensures no_read_fault { IsErrOf result error.ReadFault → ⊥ }
+    ensures later_clock { C.later clock.old clock.new }
+{
+    converter.handle_request(clock, request)?;
+    let policy = hand_out(converter, out)?;
+    let handle = converter.handle_mut();
+    policy.follow(handle)?;
+    handle.flush(sink)?;
+    Ok(match policy {
+        Policy::End => Step::Disconnect,
+        _ => Step::Handled,
+    })
+}
+
+/// Hands out the requests that are queued, all or none, and answers what is done behind the last of them.
+fn hand_out(converter: &mut EisRequestConverter, out: &mut Vec<EisRequest>) -> Result<Policy, Error>
+    ensures hands_out { OnOk result (out.new.items ≡ out.old.items ++ converter.old.queue) }
+    ensures policy { IfOk result (λ p. p ≡ policy_behind converter.old.queue) }
+    ensures queue { OnOk result (converter.new ≡ record converter.old { queue = [] }) }
+    ensures kept { OnErr result (out.new.items ≡ out.old.items) }
+    ensures only { IfErr result (λ e. e ≡ error.NoMemory) }
+{
+    out.reserve(converter.queued_len())?;
+    let mut policy = Policy::Nothing;
+    while let Some(request) = converter.next_request() {
+        policy = policy_of(&request);
+        out.push_reserved(request);
+    }
+    Ok(policy)
+}

@@ -1,0 +1,198 @@
+-- What becomes of the unread text where a line is handed out, or is bad, or none comes.
+use Rattle.std.proofs.Common.{◌≡◌, ◌<◌, inl, inr, ℕ, ◌+◌, ◌-◌, ◌^◌, zero, suc, List, [], ◌∷◌, ◌++◌, length, take, drop, refl, ap, sym, ◌∙◌, subst, append_assoc}
+use Rattle.std.proofs.Common.{arith, Some}
+use Rattle.std.proofs.lemmas.List.{append-nil, take-append-drop}
+use Rattle.std.specs.Prelude.{min, Option, None, is_some}
+use Rattle.std.specs.Prelude.{true, false, slice_get}
+use Rattle.std.specs.Option.{option_map}
+use Rattle.ei_spec.specs.declared.handle.Handle.{Handle}
+use Rattle.ei_spec.specs.Piece.{Piece}
+use Rattle.ei_backend.specs.Outside.{HandsOut}
+use Rattle.reis_lines.specs.Text.{line_bytes, piece_before, pieces_of, bad_line_before, bad_line_of, number_from}
+use Rattle.reis_lines.specs.Held.{FindsNewline, Moves, line_len, line_skip}
+use Rattle.reis_lines.specs.HexSource.{Reading, text_reading, fresh, LaterText, LaterReading, LaterSource, HandsLine, IsAtEnd}
+use Rattle.reis_lines.specs.declared.hex_source.HexSource.{HexSource}
+use Rattle.reis_lines.proofs.TextLaws.{pieces_of-first, bad_line_of-first}
+
+pub some_not_none : (o : Option ℕ) → is_some o ≡ true → o ≡ None → ⊥
+some_not_none None e n = cc
+some_not_none (Some x) e n = cc
+
+pub none_if_not_some : (o : Option ℕ) → is_some o ≡ false → o ≡ None
+none_if_not_some None e = refl
+none_if_not_some (Some x) e = cc
+
+pub not_both : (o : Option ℕ) (n : ℕ) → o ≡ None → o ≡ Some n → ⊥
+not_both o n none some = cc
+
+rest_is : (left : Option (List ℕ)) (rest : List ℕ) → left ≡ Some rest → left ≡ Some [] → rest ≡ []
+rest_is left rest is none = cc
+
+mapped : (f : List ℕ → List Piece) (o : Option (List ℕ)) (ps : List Piece) → option_map f o ≡ Some ps → (t : List ℕ) × (o ≡ Some t) × (f t ≡ ps)
+mapped f None ps e = cc
+mapped f (Some t) ps e = (t, refl, cc)
+
+-- the first line of the unread text, as it was found among the bytes held
+pub record FindsFirst (held text mid rest : List ℕ) (found : Option ℕ) : Type 0 where
+  pub same : held ++ text ≡ mid ++ rest
+  pub place : FindsNewline found mid
+  pub ends : found ≡ None → length mid < 131073 → rest ≡ []
+
+pub first_of : (held text mid : List ℕ) (left : Option (List ℕ)) (found : Option ℕ) (m : Moves held text mid left) → FindsNewline found mid →
+    (found ≡ None → length mid < 131073 → left ≡ Some []) → FindsFirst held text mid m.rest found
+first_of held text mid left found m place ends =
+    record { same = m.same; place = place; ends = λ is less. rest_is left m.rest m.left_is (ends is less) }
+
+-- the line, as a slice of what is seen of the bytes held
+pub line_is : (found : Option ℕ) (seen held : List ℕ) (count : ℕ) → count ≡ line_len found seen → seen ≡ held → take count seen ≡ take (line_len found held) held
+line_is found seen held count is same = ap (λ n. take n seen) is ∙ ap (λ t. take (line_len found t) t) same
+
+-- what is held once the line was removed
+pub removed_is : (found : Option ℕ) (seen held new : List ℕ) (skip : ℕ) → skip ≡ line_skip found seen → seen ≡ held → new ≡ drop skip held → new ≡ drop (line_skip found held) held
+removed_is found seen held new skip is same gone = gone ∙ ap (λ n. drop n held) (is ∙ ap (line_skip found) same)
+
+-- no byte stands in the line
+pub no_line : (found : Option ℕ) (seen held : List ℕ) (count : ℕ) → count ≡ line_len found seen → seen ≡ held → count ≡ 0 → line_len found held ≡ 0
+no_line found seen held count is same none = ap (line_len found) (sym same) ∙ sym is ∙ none
+
+first_pieces : (held text mid rest slice : List ℕ) (found : Option ℕ) → FindsFirst held text mid rest found → slice ≡ take (line_len found mid) mid →
+    pieces_of (held ++ text) ≡ piece_before (line_bytes slice) (pieces_of (drop (line_skip found mid) mid ++ rest))
+first_pieces held text mid rest slice found f is =
+    ap pieces_of f.same ∙ pieces_of-first found mid rest f.place f.ends
+    ∙ ap (λ t. piece_before (line_bytes t) (pieces_of (drop (line_skip found mid) mid ++ rest))) (sym is)
+
+first_bad : (held text mid rest slice : List ℕ) (found : Option ℕ) → FindsFirst held text mid rest found → slice ≡ take (line_len found mid) mid →
+    bad_line_of (held ++ text) ≡ bad_line_before slice (bad_line_of (drop (line_skip found mid) mid ++ rest))
+first_bad held text mid rest slice found f is =
+    ap bad_line_of f.same ∙ bad_line_of-first found mid rest f.place f.ends
+    ∙ ap (λ t. bad_line_before t (bad_line_of (drop (line_skip found mid) mid ++ rest))) (sym is)
+
+spelled_before : (l bytes : List ℕ) (others : Option ℕ) → line_bytes l ≡ Some bytes → bad_line_before l others ≡ option_map (λ n. n + 1) others
+spelled_before [] bytes others is = cc
+spelled_before (b ∷ bs) bytes others is = rw is refl
+
+bad_before : (l : List ℕ) (others : Option ℕ) → line_bytes l ≡ None → 0 < length l → bad_line_before l others ≡ Some 1
+bad_before [] others is some = absurd (omega arith)
+bad_before (b ∷ bs) others is some = rw is refl
+
+number_next : (line now : ℕ) (o : Option ℕ) → now ≡ min (line + 1) (2 ^ 64 - 1) → number_from line (option_map (λ n. n + 1) o) ≡ number_from now o
+number_next line now None is = refl
+number_next line now (Some n) is =
+    let e : min (line + (n + 1)) (2 ^ 64 - 1) ≡ min (now + n) (2 ^ 64 - 1) = omega arith in
+    ap (λ k. Some k) e
+
+-- a line was handed out
+pub handed_out : (held text mid rest slice new bytes : List ℕ) (left : Option (List ℕ)) (found : Option ℕ) (line now : ℕ) → FindsFirst held text mid rest found →
+    slice ≡ take (line_len found mid) mid → line_bytes slice ≡ Some bytes → new ≡ drop (line_skip found mid) mid → left ≡ Some rest → now ≡ min (line + 1) (2 ^ 64 - 1) →
+    LaterText held text new left line now
+handed_out held text mid rest slice new bytes left found line now f is spells gone left_is next =
+    let skip = line_skip found mid in
+    record {
+      lines = take skip mid ∷ [];
+      pieces = record { bytes = bytes; handles = [] } ∷ [];
+      rest = rest;
+      left_is = left_is;
+      same =
+          f.same ∙ ap (λ t. t ++ rest) (sym (take-append-drop skip mid)) ∙ append_assoc (take skip mid) (drop skip mid) rest
+          ∙ ap (λ t. take skip mid ++ (t ++ rest)) (sym gone) ∙ ap (λ t. t ++ (new ++ rest)) (sym (append-nil (take skip mid)));
+      one_each = refl;
+      handed =
+          first_pieces held text mid rest slice found f is ∙ ap (λ o. piece_before o (pieces_of (drop skip mid ++ rest))) spells
+          ∙ ap (λ t. record { bytes = bytes; handles = [] } ∷ pieces_of (t ++ rest)) (sym gone);
+      grown = omega (arith, next);
+      bad =
+          ap (number_from line) (first_bad held text mid rest slice found f is ∙ spelled_before slice bytes (bad_line_of (drop skip mid ++ rest)) spells)
+          ∙ number_next line now (bad_line_of (drop skip mid ++ rest)) next ∙ ap (λ t. number_from now (bad_line_of (t ++ rest))) (sym gone);
+    }
+
+-- its bytes are the first piece
+pub hands_line : (held text mid rest slice new bytes : List ℕ) (left : Option (List ℕ)) (found : Option ℕ) (n : ℕ) → FindsFirst held text mid rest found →
+    slice ≡ take (line_len found mid) mid → line_bytes slice ≡ Some (take n bytes) → new ≡ drop (line_skip found mid) mid → left ≡ Some rest → 0 < n →
+    HandsLine held text new left n bytes
+hands_line held text mid rest slice new bytes left found n f is spells gone left_is some = record {
+  rest = rest;
+  left_is = left_is;
+  ends = λ none. absurd (omega arith);
+  piece = λ _. first_pieces held text mid rest slice found f is ∙ ap (λ o. piece_before o (pieces_of (drop (line_skip found mid) mid ++ rest))) spells
+      ∙ ap (λ t. record { bytes = take n bytes; handles = [] } ∷ pieces_of (t ++ rest)) (sym gone);
+}
+
+-- a bad line has the number behind the lines that went
+pub bad_number : (held text mid rest slice : List ℕ) (found : Option ℕ) (line now : ℕ) → FindsFirst held text mid rest found →
+    slice ≡ take (line_len found mid) mid → line_bytes slice ≡ None → 0 < length slice → now ≡ min (line + 1) (2 ^ 64 - 1) →
+    number_from line (bad_line_of (held ++ text)) ≡ Some now
+bad_number held text mid rest slice found line now f is spells some next =
+    ap (number_from line) (first_bad held text mid rest slice found f is ∙ bad_before slice (bad_line_of (drop (line_skip found mid) mid ++ rest)) spells some)
+    ∙ ap (λ n. Some n) (sym next)
+
+-- and no piece is left
+pub none_left : (held text mid rest slice : List ℕ) (left : Option (List ℕ)) (found : Option ℕ) → FindsFirst held text mid rest found →
+    slice ≡ take (line_len found mid) mid → line_bytes slice ≡ None → left ≡ Some rest → option_map (λ t. pieces_of (mid ++ t)) left ≡ Some []
+none_left held text mid rest slice left found f is spells left_is =
+    ap (option_map (λ t. pieces_of (mid ++ t))) left_is
+    ∙ ap (λ v. Some v) (ap pieces_of (sym f.same) ∙ first_pieces held text mid rest slice found f is ∙ ap (λ o. piece_before o (pieces_of (drop (line_skip found mid) mid ++ rest))) spells)
+
+-- nothing stands before the first newline, or nothing is held
+at_end : (found : Option ℕ) (mid rest : List ℕ) → FindsNewline found mid → (found ≡ None → length mid < 131073 → rest ≡ []) → line_len found mid ≡ 0 → IsAtEnd (mid ++ rest)
+at_end None [] rest f ends none = inl (ends refl (omega arith))
+at_end None (b ∷ bs) rest f ends none = absurd (omega arith)
+at_end (Some n) mid rest f ends none =
+    let start : mid ≡ 10 ∷ drop 1 mid = subst (λ (k : ℕ). drop k mid ≡ 10 ∷ drop (k + 1) mid) none f.here in
+    inr (ap (λ t. slice_get (t ++ rest) 0) start)
+
+-- no line comes
+pub ends_here : (held text mid rest bytes : List ℕ) (left : Option (List ℕ)) (found : Option ℕ) → FindsFirst held text mid rest found →
+    line_len found mid ≡ 0 → left ≡ Some rest → HandsLine held text mid left 0 bytes
+ends_here held text mid rest bytes left found f none left_is =
+    let P : ℕ → Type 0 = λ n. pieces_of (held ++ text) ≡ piece_before (line_bytes (take n mid)) (pieces_of (drop (line_skip found mid) mid ++ rest)) in
+    record {
+      rest = rest;
+      left_is = left_is;
+      ends = λ _. (subst P none (first_pieces held text mid rest (take (line_len found mid) mid) found f refl), f.same, at_end found mid rest f.place f.ends none);
+      piece = λ some. absurd (omega arith);
+    }
+
+pub take_hands : (old new : Option (List ℕ)) (held held_new : List ℕ) (pieces : List Piece) (n : ℕ) (bytes : List ℕ) (handles : List Handle) →
+    option_map (λ t. pieces_of (held ++ t)) old ≡ Some pieces → ((t : List ℕ) → old ≡ Some t → HandsLine held t held_new new n bytes) →
+    HandsOut pieces (option_map (λ t. pieces_of (held_new ++ t)) new) (record { bytes = n; handles = 0 }) bytes handles
+take_hands old new held held_new pieces zero bytes handles told does =
+    let h = mapped (λ t. pieces_of (held ++ t)) old pieces told in
+    let l = does h.0 h.1 in
+    let end = l.ends refl in
+    let none : pieces ≡ [] = sym h.2 ∙ end.0 in
+    record {
+      left = ap (option_map (λ t. pieces_of (held_new ++ t))) l.left_is ∙ ap (λ t. Some t) (ap pieces_of (sym end.1) ∙ end.0 ∙ ap (drop 1) (sym none));
+      ends = λ z. none;
+      piece = λ some. absurd (omega arith);
+    }
+take_hands old new held held_new pieces (suc n) bytes handles told does =
+    let h = mapped (λ t. pieces_of (held ++ t)) old pieces told in
+    let l = does h.0 h.1 in
+    let some : 0 < suc n = omega arith in
+    let first = sym h.2 ∙ l.piece some in
+    record {
+      left = ap (option_map (λ t. pieces_of (held_new ++ t))) l.left_is ∙ ap (λ t. Some (drop 1 t)) (sym first);
+      ends = λ z. absurd (omega arith);
+      piece = λ lt. rw first refl;
+    }
+
+pub take_keeps : (old new : Option (List ℕ)) (held held_new : List ℕ) (pieces : List Piece) →
+    option_map (λ t. pieces_of (held ++ t)) old ≡ Some pieces → ((t : List ℕ) → old ≡ Some t → Moves held t held_new new) →
+    option_map (λ t. pieces_of (held_new ++ t)) new ≡ Some pieces
+take_keeps old new held held_new pieces told does =
+    let h = mapped (λ t. pieces_of (held ++ t)) old pieces told in
+    let m = does h.0 h.1 in
+    ap (option_map (λ t. pieces_of (held_new ++ t))) m.left_is ∙ ap (λ t. Some t) (ap pieces_of (sym m.same) ∙ h.2)
+
+-- the same of what the input tells then
+pub told_at_end : (left : Option (List ℕ)) (held rest t : List ℕ) → left ≡ Some rest → left ≡ Some t → IsAtEnd (held ++ rest) → IsAtEnd (held ++ t)
+told_at_end left held rest t is told end =
+    let same : rest ≡ t = cc in
+    subst (λ (v : List ℕ). IsAtEnd (held ++ v)) same end
+
+-- the bad line that a source over a fresh input met is the first of the text
+pub first_bad_line : {I : Type 0} (text : I → Option (List ℕ)) (later : I → I → Type 0) (x y : HexSource I) (input : I) (t : List ℕ) (n : ℕ) →
+    text_reading x ≡ fresh input → LaterSource text later x y → text input ≡ Some t → (text_reading y).bad ≡ Some n → number_from 0 (bad_line_of t) ≡ Some n
+first_bad_line text later x y input t n new l told met =
+    let r : LaterReading text later (fresh input) (text_reading y) = subst (λ (v : Reading _). LaterReading text later v (text_reading y)) new l.reading in
+    r.number refl n met t told

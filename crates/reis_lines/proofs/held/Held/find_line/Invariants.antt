@@ -1,0 +1,16 @@
+use Rattle.std.proofs.Common.{◌≡◌, ◌-◌, List, ℕ, Some, true, length}
+use Rattle.reis_lines.specs.Text.{has_newline}
+use Rattle.reis_lines.specs.Held.{Moves}
+use Rattle.reis_lines.proofs.held.Held.find_line.Given as goal
+
+abbrev pub invariant-lines : goal.invariant-lines
+invariant-lines g l = record {
+  text : (text : List ℕ) → g.I.Input.text l.fn.input ≡ Some text → Moves l.fn.self text l.self (g.I.Input.text l.input);
+  unasked : has_newline l.fn.self ≡ true → l.input ≡ l.fn.input;
+  kept : has_newline l.fn.self ≡ true → l.self ≡ l.fn.self;
+  kept_count : g.I.Input.faults l.input ≡ g.I.Input.faults l.fn.input;
+  later : g.I.Input.later l.fn.input l.input;
+}
+
+abbrev pub decreases-lines : goal.decreases-lines
+decreases-lines g l = 131073 - length l.self

@@ -1,0 +1,28 @@
+use Rattle.std.proofs.Common.{ap, sym, Ok, refl}
+use Rattle.reis_lines.proofs.SourceLaws.{take_hands, take_keeps, told_at_end}
+use Rattle.reis_lines.proofs.hex_source.HexSourceSource.take.Goals as goal
+
+pub returns-in-Ok-eq0-clause-pieces : goal.returns-in-Ok-eq0-clause-pieces
+returns-in-Ok-eq0-clause-pieces g c = λ pieces told.
+    take_hands (g.I.Input.text c.args.self.now.input.now) (g.I.Input.text c.next_piece.new.self.input.now) c.args.self.now.held c.next_piece.new.self.held pieces 0 _ _ told
+    (λ t is. rw c.in-Ok-eq0.field-0-test at (c.in-Ok-eq0.ensures.pieces t is))
+
+pub returns-in-Ok-clause-pieces : goal.returns-in-Ok-clause-pieces
+returns-in-Ok-clause-pieces g c = λ pieces told.
+    take_hands (g.I.Input.text c.args.self.now.input.now) (g.I.Input.text c.next_piece.new.self.input.now) c.args.self.now.held c.next_piece.new.self.held pieces _ _ _ told
+    (λ t is. c.in-Ok.ensures.pieces t is)
+
+pub returns-in-Err-clause-pieces : goal.returns-in-Err-clause-pieces
+returns-in-Err-clause-pieces g c = λ pieces told.
+    take_keeps (g.I.Input.text c.args.self.now.input.now) (g.I.Input.text c.next_piece.new.self.input.now) c.args.self.now.held c.next_piece.new.self.held pieces told
+    (λ t is. c.in-Err.ensures.pieces t is)
+
+pub returns-in-Ok-eq0-clause-later : goal.returns-in-Ok-eq0-clause-later
+returns-in-Ok-eq0-clause-later g c = record {
+  same_reference = sym c.in-Ok-eq0.ensures.same_reference;
+  reading = c.in-Ok-eq0.ensures.later;
+  truly = λ true. record { ends = λ end. c.in-Ok-eq0.ensures.end (ap (λ n. Ok n) c.in-Ok-eq0.field-0-test); fails = λ fault. absurd (cc) };
+  ends = λ t told true end now is.
+      let l = rw c.in-Ok-eq0.field-0-test at (c.in-Ok-eq0.ensures.pieces t told) in
+      told_at_end _ _ l.rest now l.left_is is (l.ends refl).2;
+}

@@ -1,0 +1,119 @@
+-- Readings of a source go on: in no step, and in two steps as in one. These are proofs; they stand here since the
+-- ghost members of `HexSource` name them, and such a member names nothing of its own crate but what stands in `specs`.
+use Rattle.std.specs.Prelude.{◌≡◌, ◌⊎◌, ℕ, List, [], ◌∷◌, ◌++◌, length, Option, Some, None, refl}
+use Rattle.std.specs.Option.{option_map}
+use Rattle.std.proofs.Common.{◌∙◌, sym, ap, append_assoc, arith, length-append, inl, inr}
+use Rattle.ei_spec.specs.Piece.{Piece}
+use Rattle.reis_lines.specs.Text.{pieces_of, bad_line_of, number_from}
+use Rattle.reis_lines.specs.Held.{Moves}
+use Rattle.reis_lines.specs.HexSource.{Reading, text_reading, left_of, joined_lines, LaterText, LaterReading, LaterSource}
+use Rattle.reis_lines.specs.declared.hex_source.HexSource.{HexSource}
+
+joined_lines-append : (a b : List (List ℕ)) → joined_lines (a ++ b) ≡ joined_lines a ++ joined_lines b
+joined_lines-append [] b = refl
+joined_lines-append (l ∷ a) b = ap (λ t. l ++ t) (joined_lines-append a b) ∙ sym (append_assoc l (joined_lines a) (joined_lines b))
+
+-- no line went
+pub LaterText-none : (held text held_new : List ℕ) (left : Option (List ℕ)) (line : ℕ) → Moves held text held_new left → LaterText held text held_new left line line
+LaterText-none held text held_new left line m = record {
+  lines = [];
+  pieces = [];
+  rest = m.rest;
+  left_is = m.left_is;
+  same = m.same;
+  one_each = refl;
+  handed = ap pieces_of m.same;
+  grown = omega arith;
+  bad = ap (λ t. number_from line (bad_line_of t)) m.same;
+}
+
+LaterReading-refl : {I : Type 0} (text : I → Option (List ℕ)) (later : I → I → Type 0) → ((x : I) → later x x) → (x : Reading I) → x.bad ≡ x.bad → LaterReading text later x x
+LaterReading-refl text later r x same = record {
+  input = r x.input;
+  kept = λ n is. is;
+  unmet = λ none. (none, refl);
+  number = λ none n is t told. cc;
+  spent = λ none n is t told. cc;
+  lines = λ t told. LaterText-none x.held t x.held (text x.input) x.line (record { rest = t; left_is = told; same = refl });
+}
+
+pub LaterSource-refl : {I : Type 0} (text : I → Option (List ℕ)) (later : I → I → Type 0) → ((x : I) → later x x) → (x : HexSource I) → LaterSource text later x x
+LaterSource-refl text later r x = record {
+  same_reference = refl;
+  reading = LaterReading-refl text later r (text_reading x) refl;
+  truly = λ true. true;
+  ends = λ t told true. true;
+}
+
+LaterText-trans : (a t b u c : List ℕ) (mid left : Option (List ℕ)) (i j k : ℕ) (p : LaterText a t b mid i j) → p.rest ≡ u → LaterText b u c left j k → LaterText a t c left i k
+LaterText-trans a t b u c mid left i j k p is q = record {
+  lines = p.lines ++ q.lines;
+  pieces = p.pieces ++ q.pieces;
+  rest = q.rest;
+  left_is = q.left_is;
+  same = p.same ∙ ap (λ v. joined_lines p.lines ++ (b ++ v)) is ∙ ap (λ v. joined_lines p.lines ++ v) q.same
+      ∙ sym (append_assoc (joined_lines p.lines) (joined_lines q.lines) (c ++ q.rest))
+      ∙ ap (λ v. v ++ (c ++ q.rest)) (sym (joined_lines-append p.lines q.lines));
+  one_each = omega (arith, p.one_each, q.one_each, length-append p.lines q.lines, length-append p.pieces q.pieces);
+  handed = p.handed ∙ ap (λ v. p.pieces ++ pieces_of (b ++ v)) is ∙ ap (λ v. p.pieces ++ v) q.handed ∙ sym (append_assoc p.pieces q.pieces (pieces_of (c ++ q.rest)));
+  grown = omega (arith, p.grown, q.grown, length-append p.lines q.lines);
+  bad = p.bad ∙ ap (λ v. number_from j (bad_line_of (b ++ v))) is ∙ q.bad;
+}
+
+some_or_none : (o : Option ℕ) → (o ≡ None) ⊎ ((n : ℕ) × (o ≡ Some n))
+some_or_none None = inl refl
+some_or_none (Some n) = inr (n, refl)
+
+number_on : {I : Type 0} (text : I → Option (List ℕ)) (later : I → I → Type 0) (x y z : Reading I) → LaterReading text later x y → LaterReading text later y z →
+    x.bad ≡ None → (n : ℕ) → z.bad ≡ Some n → (t : List ℕ) → text x.input ≡ Some t → number_from x.line (bad_line_of (x.held ++ t)) ≡ Some n
+number_on text later x y z a b none n is t told =
+    let p = a.lines t told in
+    elim (some_or_none y.bad) [
+      | inl unmet ↦ p.bad ∙ b.number unmet n is p.rest p.left_is
+      | inr met ↦
+          let here = a.number none met.0 met.1 t told in
+          let still : z.bad ≡ Some met.0 = b.kept met.0 met.1 in
+          here ∙ sym still ∙ is
+    ]
+
+none_behind : (a b : List Piece) → a ++ b ≡ [] → b ≡ []
+none_behind [] b e = e
+none_behind (p ∷ a) b e = cc
+
+none_of_some : (pieces : List Piece) → Some pieces ≡ Some [] → pieces ≡ []
+none_of_some pieces e = cc
+
+spent_on : {I : Type 0} (text : I → Option (List ℕ)) (later : I → I → Type 0) (x y z : Reading I) → LaterReading text later x y → LaterReading text later y z →
+    x.bad ≡ None → (n : ℕ) → z.bad ≡ Some n → (t : List ℕ) → text x.input ≡ Some t → left_of text z ≡ Some []
+spent_on text later x y z a b none n is t told =
+    let p = a.lines t told in
+    elim (some_or_none y.bad) [
+      | inl unmet ↦ b.spent unmet n is p.rest p.left_is
+      | inr met ↦
+          let q = b.lines p.rest p.left_is in
+          let gone = none_of_some (pieces_of (y.held ++ p.rest)) (sym (ap (option_map (λ v. pieces_of (y.held ++ v))) p.left_is) ∙ a.spent none met.0 met.1 t told) in
+          ap (option_map (λ v. pieces_of (z.held ++ v))) q.left_is ∙ ap (λ v. Some v) (none_behind q.pieces (pieces_of (z.held ++ q.rest)) (sym q.handed ∙ gone))
+    ]
+
+LaterReading-trans : {I : Type 0} (text : I → Option (List ℕ)) (later : I → I → Type 0) → ((x y z : I) → later x y → later y z → later x z) →
+    (x y z : Reading I) → LaterReading text later x y → LaterReading text later y z → LaterReading text later x z
+LaterReading-trans text later r x y z a b = record {
+  input = r x.input y.input z.input a.input b.input;
+  kept = λ n is. b.kept n (a.kept n is);
+  unmet = λ none. let k = b.unmet none in let h = a.unmet k.0 in (h.0, h.1 ∙ k.1);
+  number = number_on text later x y z a b;
+  spent = spent_on text later x y z a b;
+  lines = λ t told.
+      let p = a.lines t told in
+      let q = b.lines p.rest p.left_is in
+      LaterText-trans x.held t y.held p.rest z.held (text y.input) (text z.input) x.line y.line z.line p refl q;
+}
+
+pub LaterSource-trans : {I : Type 0} (text : I → Option (List ℕ)) (later : I → I → Type 0) → ((x y z : I) → later x y → later y z → later x z) →
+    (x y z : HexSource I) → LaterSource text later x y → LaterSource text later y z → LaterSource text later x z
+LaterSource-trans text later r x y z a b = record {
+  same_reference = a.same_reference ∙ b.same_reference;
+  reading = LaterReading-trans text later r (text_reading x) (text_reading y) (text_reading z) a.reading b.reading;
+  truly = λ true. b.truly (a.truly true);
+  ends = λ t told true. let p = a.reading.lines t told in b.ends p.rest p.left_is (a.ends t told true);
+}

@@ -1,0 +1,4 @@
+pub mod Held
+pub mod HexSource
+pub mod LaterReadings
+pub mod Text

@@ -1,0 +1,189 @@
+//! Pieces as lines of hexadecimal digits.
+
+ghost use Rattle.std.specs.Prelude.{◌≡◌, ◌<◌, ◌≤◌, ◌+◌, ◌⊎◌, ℕ, List, [], None, Some, Ok, true, false, length, take, IfOk, IfSome, IsErr, IsSome, MatchOption};
+ghost use Rattle.std.specs.Prelude.{OnErr};
+ghost use Rattle.reis_lines.specs.Text.{line_bytes, has_newline};
+ghost use Rattle.ei_spec.specs.declared.limits.TheConstants.{MOST_PIECE_BYTES};
+
+use crate::held::{Held, LONGEST_LINE, line_extent};
+use ei_backend::{Fault, Input, LastAnswer, Source, Taken};
+use ei_spec::Handle;
+use ei_wire::NoMemory;
+use std::alloc::Global;
+
+/// The pieces that the lines of an input spell.
+///
+/// A line has 2 to 131072 hexadecimal digits of either case, an even number, and ends at a newline or
+/// at the end of the text. An empty line ends the pieces. Any other line is bad: it counts as a fault
+/// at each call from then on.
+#[derive(Drop)]
+pub struct HexSource<'a, I: Input> {
+    input: &'a mut I,
+    held: Held,
+    /// How many lines were handed out.
+    line: u64,
+    bad: Option<u64>,
+    bad_faults: u64,
+    last: LastAnswer,
+}
+
+/// The bytes that a line spells, at the front of the slice.
+fn decode_line(line: &[u8], bytes: &mut [u8]) -> Option<usize>
+    requires some { 0 < length line.now }
+    requires room { MOST_PIECE_BYTES ≤ length bytes.old }
+    ensures spells { MatchOption result (line_bytes line.now ≡ None) (λ n. line_bytes line.now ≡ Some (take n bytes.new)) }
+    ensures size { IfSome result (λ n. (0 < n) × (n ≤ MOST_PIECE_BYTES)) }
+{
+    if line.len() > LONGEST_LINE {
+        return None;
+    }
+    let count = line.len() / 2;
+    match hex::decode_to_slice(line, &mut bytes[..count]) {
+        Ok(()) => Some(count),
+        Err(_) => None,
+    }
+}
+
+impl<'a, I: Input> HexSource<'a, I> {
+    ghost use Rattle.ei_backend.specs.Outside.{HasCause};
+    ghost use Rattle.ei_backend.specs.declared.outside.LastAnswer.TheVariants as answers;
+    ghost use Rattle.reis_lines.specs.HexSource.{reference_of, text_reading, answer_of, fresh, faults_of, LaterReading, NextPiece, IsAtEnd};
+
+    /// `NoMemory` where there is none for the longest line.
+    pub fn new(alloc: Global, input: &'a mut I) -> Result<HexSource<'a, I>, NoMemory>
+        ensures same_reference { IfOk result (λ s. reference_of s ≡ input.entry.ghost_name) }
+        ensures fresh { IfOk result (λ s. text_reading s ≡ fresh input.old) }
+        ensures unasked { IfOk result (λ s. answer_of s ≡ answers.Nothing) }
+    {
+        let held = Held::new(alloc)?;
+        Ok(HexSource::over(held, input))
+    }
+
+    /// The same with the room made before, so that the input is not lent where there is no memory.
+    pub fn over(held: Held, input: &'a mut I) -> HexSource<'a, I>
+        requires { held ≡ [] }
+        ensures same_reference { reference_of result ≡ input.entry.ghost_name }
+        ensures fresh { text_reading result ≡ fresh input.old }
+        ensures unasked { answer_of result ≡ answers.Nothing }
+    {
+        HexSource {
+            input,
+            held,
+            line: 0,
+            bad: None,
+            bad_faults: 0,
+            last: LastAnswer::Nothing,
+        }
+    }
+
+    /// Gives the input back.
+    pub fn close(self) -> &'a mut I
+        ensures same_reference { result.ghost_name ≡ reference_of self.entry }
+        ensures same { result.now ≡ (text_reading self.entry).input }
+    {
+        self.input
+    }
+
+    /// The number, from 1, of the bad line that a `take` has met.
+    pub fn bad_line(&self) -> Option<u64>
+        ensures { result ≡ (text_reading self.now).bad }
+    {
+        self.bad
+    }
+
+    /// The next line's bytes. No byte is the end.
+    fn next_piece(&mut self, bytes: &mut [u8]) -> Result<usize, Fault>
+        requires { MOST_PIECE_BYTES ≤ length bytes.old }
+        ensures size { IfOk result (λ n. n ≤ MOST_PIECE_BYTES) }
+        ensures pieces { (text : List ℕ) → I.text (text_reading self.old).input ≡ Some text →
+            NextPiece (text_reading self.old).held text result (text_reading self.new).held (I.text (text_reading self.new).input) bytes.new }
+        ensures end { result ≡ Ok 0 → IsAtEnd (text_reading self.new).held }
+        ensures fault { IsErr result → (has_newline (text_reading self.new).held ≡ false) ⊎ IsSome (text_reading self.new).bad }
+        ensures unasked { has_newline (text_reading self.old).held ≡ true → (text_reading self.new).input ≡ (text_reading self.old).input }
+        ensures refused { IsSome (text_reading self.old).bad → IsErr result × ((text_reading self.new).input ≡ (text_reading self.old).input) }
+        ensures cause { HasCause (faults_of I.faults (text_reading self.old)) (faults_of I.faults (text_reading self.new)) result }
+        ensures input_cause { (text_reading self.new).bad ≡ None → HasCause (I.faults (text_reading self.old).input) (I.faults (text_reading self.new).input) result }
+        ensures same_reference { reference_of self.new ≡ reference_of self.old }
+        ensures later { LaterReading I.text I.later (text_reading self.old) (text_reading self.new) }
+    {
+        if self.bad.is_some() {
+            self.bad_faults = self.bad_faults.saturating_add(1);
+            return Err(Fault);
+        }
+        let found = self.held.find_line(self.input)?;
+        let line = self.held.bytes();
+        let (count, skip) = line_extent(found, line);
+        if count == 0 {
+            return Ok(0);
+        }
+        match decode_line(&line[..count], bytes) {
+            Some(n) => {
+                self.held.remove(skip);
+                self.line = self.line.saturating_add(1);
+                Ok(n)
+            }
+            None => {
+                self.bad = Some(self.line.saturating_add(1));
+                self.bad_faults = self.bad_faults.saturating_add(1);
+                Err(Fault)
+            }
+        }
+    }
+}
+
+impl<'a, I: Input> Source for HexSource<'a, I> {
+    ghost use Rattle.std.specs.Prelude.{◌≡◌, ◌≤◌, ℕ, Some, None, length, IfOk, IsErr, true};
+    ghost use Rattle.ei_backend.specs.Outside.{Piece, HasCause, IsPieceSize, TakesTold, last_of};
+    ghost use Rattle.reis_lines.specs.Text.{has_newline};
+    ghost use Rattle.reis_lines.specs.HexSource.{text_reading, answer_of, left_of, faults_of, LaterSource};
+    ghost use Rattle.reis_lines.specs.LaterReadings.{LaterSource-refl, LaterSource-trans};
+
+    ghost left = { λ s. left_of I.text (text_reading s) };
+
+    ghost faults = { λ s. faults_of I.faults (text_reading s) };
+
+    ghost last = { λ s. answer_of s };
+
+    ghost later = { λ x y. LaterSource I.text I.later x y };
+
+    ghost later_refl = { λ x. LaterSource-refl I.text I.later I.later_refl x };
+
+    ghost later_trans = { λ x y z a b. LaterSource-trans I.text I.later I.later_trans x y z a b };
+
+    fn take(&mut self, bytes: &mut [u8], _handles: &mut [Handle]) -> Result<Taken, Fault>
+        requires room { MOST_PIECE_BYTES ≤ length bytes.old }
+        requires handle_room { 64 ≤ length _handles.old }
+        ensures size { IfOk result IsPieceSize }
+        ensures pieces { TakesTold (left_of I.text (text_reading self.old)) (left_of I.text (text_reading self.new)) result bytes.new _handles.new }
+        ensures cause { HasCause (faults_of I.faults (text_reading self.old)) (faults_of I.faults (text_reading self.new)) result }
+        ensures last { answer_of self.new ≡ last_of result }
+        ensures later { LaterSource I.text I.later self.old self.new }
+        // the input isn't asked while a whole line is held, nor behind a bad line
+        ensures unasked { has_newline (text_reading self.old).held ≡ true → (text_reading self.new).input ≡ (text_reading self.old).input }
+        ensures refused { (n : ℕ) → (text_reading self.old).bad ≡ Some n →
+            IsErr result × ((text_reading self.new).input ≡ (text_reading self.old).input) }
+        // where no bad line was met, a fault is the input's
+        ensures input_cause { (text_reading self.new).bad ≡ None → HasCause (I.faults (text_reading self.old).input) (I.faults (text_reading self.new).input) result }
+    {
+        match self.next_piece(bytes) {
+            Ok(0) => {
+                self.last = LastAnswer::End;
+                Ok(Taken {
+                    bytes: 0,
+                    handles: 0,
+                })
+            }
+            Ok(n) => {
+                self.last = LastAnswer::Piece;
+                Ok(Taken {
+                    bytes: n,
+                    handles: 0,
+                })
+            }
+            Err(e) => {
+                self.last = LastAnswer::Fault;
+                Err(e)
+            }
+        }
+    }
+}

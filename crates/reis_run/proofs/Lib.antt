@@ -1,0 +1,4 @@
+pub mod TellLaws
+pub mod SessionLaws
+pub mod ReadFaults
+pub mod WordLaws

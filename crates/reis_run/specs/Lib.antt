@@ -1,0 +1,4 @@
+pub mod Run
+pub mod SessionReport
+pub mod Words
+pub mod StdIo

@@ -1,0 +1,188 @@
+//! Standard input, standard output and the clock, as the outside of the program.
+//!
+//! They tell nothing of what they give and take. Each error of theirs counts as a fault.
+
+ghost use Rattle.std.specs.Prelude.{◌≡◌, ◌<◌, ◌≤◌, ℕ, List, None, Some, IfOk, IfSome, length};
+ghost use Rattle.std.specs.Duration.{as_nanos};
+ghost use Rattle.ei_backend.specs.Memory.{counted};
+ghost use Rattle.ei_backend.specs.Outside.{HasCause, HasPutCause, HasPutWant, Fetches, Puts, IsPutSize, ReadsClock};
+ghost use Rattle.reis_run.specs.StdIo.{Counts, IsSince, ReadsOrRepeats, faults_of_start, whole_micros};
+
+use ei_backend::{Clock, Fault, Input, PutError, Sink};
+use ei_spec::Handle;
+use std::io::{Read, Write};
+use std::time::{Clock as TimeSource, Duration, Instant};
+
+/// One fault more, up to the last value of the count.
+fn count_fault(faults: &mut u64)
+    ensures counted { faults.new ≡ counted faults.old }
+    ensures later { faults.old ≤ faults.new }
+{
+    *faults = faults.saturating_add(1);
+}
+
+/// Standard input, of any reader.
+#[derive(Drop)]
+pub struct StdInput<R: Read + Drop> {
+    reader: R,
+    faults: u64,
+}
+
+impl<R: Read + Drop> StdInput<R> {
+    pub fn new(reader: R) -> Self
+        ensures { result.faults ≡ 0 }
+    {
+        StdInput { reader, faults: 0 }
+    }
+}
+
+impl<R: Read + Drop> Input for StdInput<R> {
+    ghost text = { λ _. None };
+
+    ghost faults = { λ s. s.faults };
+
+    ghost later = { λ _ _. Unit {0} };
+
+    ghost later_refl = { λ _. tt };
+
+    ghost later_trans = { λ _ _ _ _ _. tt };
+
+    fn fetch(&mut self, bytes: &mut [u8]) -> Result<usize, Fault>
+        requires { 0 < length bytes.old }
+        ensures size { IfOk result (λ n. n ≤ length bytes.new) }
+        ensures text { Fetches None None result bytes.new }
+        ensures cause { HasCause self.old.faults self.new.faults result }
+        // beyond the trait's
+        ensures counts { Counts result self.old.faults self.new.faults }
+    {
+        match self.reader.read(bytes) {
+            Ok(n) => Ok(n),
+            Err(_) => {
+                count_fault(&mut self.faults);
+                Err(Fault)
+            }
+        }
+    }
+}
+
+/// Standard output, of any writer. It has no place for handles, and never wants memory.
+#[derive(Drop)]
+pub struct StdOutput<W: Write + Drop> {
+    writer: W,
+    faults: u64,
+}
+
+impl<W: Write + Drop> StdOutput<W> {
+    pub fn new(writer: W) -> Self
+        ensures { result.faults ≡ 0 }
+    {
+        StdOutput { writer, faults: 0 }
+    }
+}
+
+impl<W: Write + Drop> Sink for StdOutput<W> {
+    ghost taken = { λ _. None };
+
+    ghost faults = { λ s. s.faults };
+
+    ghost wants = { λ _. 0 };
+
+    ghost later = { λ _ _. Unit {0} };
+
+    ghost later_refl = { λ _. tt };
+
+    ghost later_trans = { λ _ _ _ _ _. tt };
+
+    fn put(&mut self, bytes: &[u8], _handles: &[Handle]) -> Result<usize, PutError>
+        ensures size { IfOk result (λ n. IsPutSize n bytes.now) }
+        ensures taken { Puts None None result bytes.now _handles.now }
+        ensures cause { HasPutCause self.old.faults self.new.faults result }
+        ensures want { HasPutWant 0 0 result }
+        // beyond the trait's
+        ensures counts { Counts result self.old.faults self.new.faults }
+    {
+        match self.writer.write(bytes) {
+            Ok(n) if n > 0 || bytes.is_empty() => Ok(n),
+            _ => {
+                count_fault(&mut self.faults);
+                Err(PutError::Fault)
+            }
+        }
+    }
+}
+
+/// The whole microseconds since it was made; where its source fails, its last answer, at first 0.
+///
+/// Of the time that a source tells, std says only that it is within a clock's range: it may go back.
+#[derive(Drop)]
+pub struct StdClock<'a, C: TimeSource> {
+    source: &'a C,
+    start: Option<Instant>,
+    last: u64,
+    faults: u64,
+}
+
+/// The whole microseconds of a duration, up to the last value.
+fn micros_of(elapsed: Duration) -> u64
+    ensures { result ≡ whole_micros (as_nanos elapsed) }
+{
+    u64::try_from(elapsed.as_micros()).unwrap_or(u64::MAX)
+}
+
+impl<'a, C: TimeSource> StdClock<'a, C> {
+    /// Where the source has no time now, no later reading has one.
+    pub fn new(source: &'a C) -> Self
+        ensures last { result.last ≡ 0 }
+        ensures faults { result.faults ≡ faults_of_start result.start }
+    {
+        let start = Instant::now(source).ok();
+        let faults = if start.is_none() { 1 } else { 0 };
+        StdClock {
+            source,
+            start,
+            last: 0,
+            faults,
+        }
+    }
+
+    /// The microseconds from the start to the time that the source tells.
+    fn reading(&self) -> Option<u64>
+        ensures { IfSome result (IsSince self.now.start) }
+    {
+        let start = self.start?;
+        let now = Instant::now(self.source).ok()?;
+        Some(micros_of(now.duration_since(start)))
+    }
+}
+
+impl<C: TimeSource> Clock for StdClock<'_, C> {
+    ghost readings = { λ _. None };
+
+    ghost faults = { λ s. s.faults };
+
+    ghost later = { λ _ _. Unit {0} };
+
+    ghost later_refl = { λ _. tt };
+
+    ghost later_trans = { λ _ _ _ _ _. tt };
+
+    fn now(&mut self) -> u64
+        ensures reading { (told : List ℕ) → None ≡ Some told → ReadsClock told None result }
+        ensures cause { self.old.faults ≤ self.new.faults }
+        // beyond the trait's
+        ensures answers { ReadsOrRepeats self.old.start self.old.faults self.new.faults self.old.last result }
+        ensures last { self.new.last ≡ result }
+        ensures same_start { self.new.start ≡ self.old.start }
+    {
+        match self.reading() {
+            Some(micros) => {
+                self.last = micros;
+                micros
+            }
+            None => {
+                count_fault(&mut self.faults);
+                self.last
+            }
+        }
+    }
+}
