@@ -1,5 +1,5 @@
 pub mod Endpoints
-pub mod Ringing
+pub mod BetweenTurns
 pub mod FewUnread
 pub mod Following
 pub mod ReadFront

@@ -15,7 +15,7 @@ use Rattle.ei_session.specs.Refusals.{Refusal as Cause}
 use Rattle.ei_session.specs.Served.{reading_by, accepted, reading_of}
 use Rattle.ei_backend.specs.Outside.{with_more}
 use Rattle.ei_request.specs.declared.event.EisRequest.{EisRequest}
-use Rattle.ei_serve.specs.declared.session.Session.{Session}
+use Rattle.ei_serve.specs.declared.state.SessionState.{SessionState}
 use Rattle.ei_serve.specs.Around.{Around, around, AreDrawn, LeavesReadings}
 use Rattle.ei_serve.specs.Standing.{Stands, StandsAt, setup_of}
 use Rattle.ei_serve.specs.Steps.{GivesOut, Replies}
@@ -31,7 +31,7 @@ pub record Took (told : List Piece) (left : Option (List Piece)) (n : ℕ) (piec
   pub are : take n told ≡ pieces
 
 -- after n turns
-pub record Running (setup : Setup) (n : ℕ) (s : Session) (old new : Around) : Type 0 where
+pub record Running (setup : Setup) (n : ℕ) (s : SessionState) (old new : Around) : Type 0 where
   pub pieces : List Piece
   pub times : List ℕ
   pub count : length pieces ≡ n
@@ -78,7 +78,7 @@ replied_then setup a b x y z r s held told =
 
 -- ---- one turn more
 
-pub goes_on : (setup : Setup) (n : ℕ) (s t : Session) (x y z : Around) (r : Running setup n s x y) → GoesOn setup r.pieces r.times t y z → Running setup (n + 1) t x z
+pub goes_on : (setup : Setup) (n : ℕ) (s t : SessionState) (x y z : Around) (r : Running setup n s x y) → GoesOn setup r.pieces r.times t y z → Running setup (n + 1) t x z
 goes_on setup n s t x y z r g = record {
   pieces = with_next r.pieces g.piece;
   times = r.times ++ g.used;
@@ -101,7 +101,7 @@ none_accepted : (setup : Setup) → accepted setup (stream []) ≡ []
 none_accepted setup = ap (λ (r : Reading Cause). r.past) (nothing_read setup)
 
 -- a session that just started stands for no pieces
-pub stands_for_none : (setup : Setup) (s : Session) → setup_of s.setup ≡ setup → StandsAt setup [] [] [] [] s.phase → s.taken ≡ 0 → Stands setup [] [] s
+pub stands_for_none : (setup : Setup) (s : SessionState) → setup_of s.setup ≡ setup → StandsAt setup [] [] [] [] s.phase → s.taken ≡ 0 → Stands setup [] [] s
 unfolding handle_count
 stands_for_none setup s started phase taken = record {
   started = started;
@@ -113,7 +113,7 @@ stands_for_none setup s started phase taken = record {
   taken = taken;
 }
 
-pub starts : (setup : Setup) (s : Session) (left : Option (List Piece)) (out : List EisRequest) (old new : Option Piece) (readings : Option (List ℕ)) → Stands setup [] [] s → Replied setup [] old new → Running setup 0 s (around left out old readings) (around left out new readings)
+pub starts : (setup : Setup) (s : SessionState) (left : Option (List Piece)) (out : List EisRequest) (old new : Option Piece) (readings : Option (List ℕ)) → Stands setup [] [] s → Replied setup [] old new → Running setup 0 s (around left out old readings) (around left out new readings)
 starts setup s left out old new readings stands r = record {
   pieces = [];
   times = [];

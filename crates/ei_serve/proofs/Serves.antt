@@ -29,7 +29,7 @@ use Rattle.ei_types.specs.declared.error.Error.{Error}
 use Rattle.ei_types.specs.declared.error.Error.TheVariants as error
 use Rattle.ei_serve.specs.declared.session.Ended.{Ended as HowEnded}
 use Rattle.ei_serve.specs.declared.session.Ended.TheVariants as ended
-use Rattle.ei_serve.specs.declared.session.Session.{Session}
+use Rattle.ei_serve.specs.declared.state.SessionState.{SessionState}
 use Rattle.ei_serve.specs.Around.{Around, around, first_readings, AreDrawn, LeavesReadings}
 use Rattle.ei_serve.specs.Causes.{Greeted, GreetedInPart, RefusesToStart}
 use Rattle.ei_serve.specs.Steps.{GivesOut, Replies, RepliesInPart, Goes}
@@ -292,7 +292,7 @@ not_started setup told left out old new readings e r same h is replied =
     subst (λ (q : Result HowEnded Error). Serves setup told q (around left out old readings) (around left out new readings)) (sym same)
     (cut_so setup told (around left out old readings) (around left out new readings) e 0 (start_cut e h) (omega arith) (none_taken told left is) (none_handled setup told left readings out old new is replied))
 
-module _ (setup : Setup) (n : ℕ) (s : Session) (x y z : Around) (run : Running setup n s x y) (few : n ≤ setup.pieces) (told : List Piece) (left_is : x.left ≡ Some told) where
+module _ (setup : Setup) (n : ℕ) (s : SessionState) (x y z : Around) (run : Running setup n s x y) (few : n ≤ setup.pieces) (told : List Piece) (left_is : x.left ≡ Some told) where
   took_now : Took told y.left n run.pieces
   took_now = run.took told left_is
 
@@ -499,7 +499,7 @@ module _ (setup : Setup) (n : ℕ) (s : Session) (x y z : Around) (run : Running
   refused e None d no_end answers h = absurd h
   refused e (Some r) d no_end answers h = closed (Err e) (Refused r) d no_end tt (answers (Refused r) refl) h tt
 
-  pub fails : (e : Error) (t : Session) → Turns setup run.pieces run.times (Err e) t y z → Serves setup told (Err e) x z
+  pub fails : (e : Error) (t : SessionState) → Turns setup run.pieces run.times (Err e) t y z → Serves setup told (Err e) x z
   fails error.UnexpectedEof t h = found (Err error.UnexpectedEof) UnexpectedEof tt tt refl h tt
   fails error.PieceLimit t h = closed (Err error.PieceLimit) PieceLimit tt tt tt refl h tt
   fails error.HandleLimit t h = closed (Err error.HandleLimit) HandleLimit tt tt tt refl h tt
@@ -510,7 +510,7 @@ module _ (setup : Setup) (n : ℕ) (s : Session) (x y z : Around) (run : Running
   fails error.NoMemory t (inr h) = breaks_off error.NoMemory tt h
   fails e t h = refused e (refusal_of e) tt tt (λ a r. r) h
 
-  pub failed : (t : Session) (e : Error) (r : Result HowEnded Error) → r ≡ Err e → Turns setup run.pieces run.times (Err e) t y z → Serves setup told r x z
+  pub failed : (t : SessionState) (e : Error) (r : Result HowEnded Error) → r ≡ Err e → Turns setup run.pieces run.times (Err e) t y z → Serves setup told r x z
   failed t e r same h = subst (λ (q : Result HowEnded Error). Serves setup told q x z) (sym same) (fails e t h)
 
 -- ---- a good end that is sure
@@ -549,7 +549,7 @@ unfolding is_over_by
 over_limit setup pieces k lt = rw (lt-ltb setup.pieces k lt) refl
 
 -- no session goes on after more turns than pieces may be taken
-pub too_many_turns : (setup : Setup) (n : ℕ) (s : Session) (x y : Around) → Running setup n s x y → setup.pieces < n → ⊥
+pub too_many_turns : (setup : Setup) (n : ℕ) (s : SessionState) (x y : Around) → Running setup n s x y → setup.pieces < n → ⊥
 too_many_turns setup n s x y r lt =
     let g : true ≡ false = sym (over_limit setup r.pieces n lt) ∙ r.stands.goes_on n (omega (arith, lt)) (omega (arith, r.count)) in
     absurd cc
@@ -566,7 +566,7 @@ closed_so : (setup : Setup) (pieces : List Piece) (times : List ℕ) (refusal : 
 closed_so setup pieces times None x y h = absurd h
 closed_so setup pieces times (Some r) x y h = refl
 
-turn_only : (setup : Setup) (pieces : List Piece) (times : List ℕ) (e : Error) (t : Session) (x y : Around) → Turns setup pieces times (Err e) t x y → IsOfSession e
+turn_only : (setup : Setup) (pieces : List Piece) (times : List ℕ) (e : Error) (t : SessionState) (x y : Around) → Turns setup pieces times (Err e) t x y → IsOfSession e
 turn_only setup pieces times error.UnexpectedEof t x y h = tt
 turn_only setup pieces times error.PieceLimit t x y h = tt
 turn_only setup pieces times error.HandleLimit t x y h = tt
@@ -576,5 +576,5 @@ turn_only setup pieces times error.WriteFault t x y h = tt
 turn_only setup pieces times error.NoMemory t x y h = tt
 turn_only setup pieces times e t x y h = closed_so setup pieces times (refusal_of e) x y h
 
-pub turn_is_of_session : (setup : Setup) (pieces : List Piece) (times : List ℕ) (e : Error) (r : Result HowEnded Error) (t : Session) (x y : Around) → r ≡ Err e → Turns setup pieces times (Err e) t x y → IfErr r IsOfSession
+pub turn_is_of_session : (setup : Setup) (pieces : List Piece) (times : List ℕ) (e : Error) (r : Result HowEnded Error) (t : SessionState) (x y : Around) → r ≡ Err e → Turns setup pieces times (Err e) t x y → IfErr r IsOfSession
 turn_is_of_session setup pieces times e r t x y same h = rw same (turn_only setup pieces times e t x y h)

@@ -20,7 +20,7 @@ use Rattle.ei_wire.specs.declared.error.ReadError.{ReadError}
 use Rattle.ei_wire.specs.declared.error.ReadError.TheVariants as read_error
 use Rattle.ei_serve.specs.declared.phase.Phase.{Phase}
 use Rattle.ei_serve.specs.declared.session.Setup.{Setup as Started}
-use Rattle.ei_serve.specs.declared.session.Session.{Session}
+use Rattle.ei_serve.specs.declared.state.SessionState.{SessionState}
 use Rattle.ei_serve.specs.declared.session.Turn.{Turn}
 use Rattle.ei_serve.specs.declared.session.Turn.TheVariants as turn
 use Rattle.ei_serve.specs.Standing.{Stands, StandsAt, setup_of}
@@ -35,12 +35,12 @@ use Rattle.ei_serve.proofs.Histories.{count_more, reading_more, goes_on_more, go
 
 -- ---- taking a piece
 
-module _ (setup : Setup) (pieces : List Piece) (times : List ℕ) (s : Session) (stands : Stands setup pieces times s) (left_old left_new : Option (List Piece)) (p : Phase) where
+module _ (setup : Setup) (pieces : List Piece) (times : List ℕ) (s : SessionState) (stands : Stands setup pieces times s) (left_old left_new : Option (List Piece)) (p : Phase) where
   -- what is unread after the piece
   unread_more : (piece : Piece) → length (stands.unread ++ piece.handles) ≡ handle_count (with_next pieces piece)
   unread_more piece = length-append stands.unread piece.handles ∙ ap (λ (n : ℕ). n + length piece.handles) stands.handles ∙ sym (count_more pieces piece)
 
-  pub holds : (n taken : ℕ) (t : Session) → ReadsPhase setup (accepted setup (stream pieces)) times (reading_of setup (stream pieces)).rest stands.unread (Ok n) p left_old left_new → s.taken < s.setup.pieces → t.setup ≡ s.setup → t.phase ≡ p → t.taken ≡ s.taken + 1 →
+  pub holds : (n taken : ℕ) (t : SessionState) → ReadsPhase setup (accepted setup (stream pieces)) times (reading_of setup (stream pieces)).rest stands.unread (Ok n) p left_old left_new → s.taken < s.setup.pieces → t.setup ≡ s.setup → t.phase ≡ p → t.taken ≡ s.taken + 1 →
       (piece : Piece) × Hands left_old piece left_new × Holds setup pieces times piece t
   holds n taken t r less same_setup same_phase same_taken =
       let piece = r.0 in
@@ -73,7 +73,7 @@ module _ (setup : Setup) (pieces : List Piece) (times : List ℕ) (s : Session) 
       (piece : Piece) × Hands left_old piece left_new × (length pieces < setup.pieces) × (4096 < handle_count (with_next pieces piece))
   overflows r less = (r.0, r.1, omega (arith, less, stands.taken, ap (λ (x : Setup). x.pieces) stands.started), omega (arith, unread_more r.0, r.2.limit, length-append stands.unread r.0.handles))
 
-  pub ends : (t : Session) → ReadsPhase setup (accepted setup (stream pieces)) times (reading_of setup (stream pieces)).rest stands.unread (Err read_error.UnexpectedEof) p left_old left_new → t.setup ≡ s.setup → t.phase ≡ p → t.taken ≡ s.taken →
+  pub ends : (t : SessionState) → ReadsPhase setup (accepted setup (stream pieces)) times (reading_of setup (stream pieces)).rest stands.unread (Err read_error.UnexpectedEof) p left_old left_new → t.setup ≡ s.setup → t.phase ≡ p → t.taken ≡ s.taken →
       HasNone left_old left_new × Stands setup pieces times t
   ends t r same_setup same_phase same_taken = (
     r.0,
@@ -93,7 +93,7 @@ module _ (setup : Setup) (pieces : List Piece) (times : List ℕ) (s : Session) 
   abbrev Reads : Result ℕ ReadError → Type 0
   Reads read = ReadsPhase setup (accepted setup (stream pieces)) times (reading_of setup (stream pieces)).rest stands.unread read p left_old left_new
 
-  err_takes_by : (full : Bool) (read : Result ℕ ReadError) (e : Error) (t : Session) → nat_le s.setup.pieces s.taken ≡ full → Reads read → piece_came full read ≡ Err e → TakesPiece setup pieces times s (Err e) t left_old left_new
+  err_takes_by : (full : Bool) (read : Result ℕ ReadError) (e : Error) (t : SessionState) → nat_le s.setup.pieces s.taken ≡ full → Reads read → piece_came full read ≡ Err e → TakesPiece setup pieces times s (Err e) t left_old left_new
   err_takes_by true (Ok n) e t f r c = let same : error.PieceLimit ≡ e = cc in rw (← same) (at_limit n r (leb-true _ _ f))
   err_takes_by false (Ok n) e t f r c = absurd cc
   err_takes_by true (Err read_error.HandleLimit) e t f r c = let same : error.PieceLimit ≡ e = cc in rw (← same) (at_limit_too r (leb-true _ _ f))
@@ -105,10 +105,10 @@ module _ (setup : Setup) (pieces : List Piece) (times : List ℕ) (s : Session) 
   err_takes_by true (Err read_error.NoMemory) e t f r c = let same : error.NoMemory ≡ e = cc in rw (← same) r
   err_takes_by false (Err read_error.NoMemory) e t f r c = let same : error.NoMemory ≡ e = cc in rw (← same) r
 
-  pub err_takes : (full : Bool) (read : Result ℕ ReadError) (e : Error) (r : Result Bool Error) (t : Session) → full ≡ nat_le s.setup.pieces s.taken → Reads read → Err e ≡ piece_came full read → r ≡ Err e → TakesPiece setup pieces times s r t left_old left_new
+  pub err_takes : (full : Bool) (read : Result ℕ ReadError) (e : Error) (r : Result Bool Error) (t : SessionState) → full ≡ nat_le s.setup.pieces s.taken → Reads read → Err e ≡ piece_came full read → r ≡ Err e → TakesPiece setup pieces times s r t left_old left_new
   err_takes full read e r t f h c same = rw same (err_takes_by full read e t (sym f) h (sym c))
 
-  none_takes_by : (full : Bool) (read : Result ℕ ReadError) (t : Session) → Reads read → piece_came full read ≡ Ok false → t.setup ≡ s.setup → t.phase ≡ p → t.taken ≡ s.taken → HasNone left_old left_new × Stands setup pieces times t
+  none_takes_by : (full : Bool) (read : Result ℕ ReadError) (t : SessionState) → Reads read → piece_came full read ≡ Ok false → t.setup ≡ s.setup → t.phase ≡ p → t.taken ≡ s.taken → HasNone left_old left_new × Stands setup pieces times t
   none_takes_by true (Ok n) t r c a b d = absurd cc
   none_takes_by false (Ok n) t r c a b d = let g : true ≡ false = cc in absurd cc
   none_takes_by true (Err read_error.HandleLimit) t r c a b d = absurd cc
@@ -120,10 +120,10 @@ module _ (setup : Setup) (pieces : List Piece) (times : List ℕ) (s : Session) 
   none_takes_by true (Err read_error.NoMemory) t r c a b d = absurd cc
   none_takes_by false (Err read_error.NoMemory) t r c a b d = absurd cc
 
-  pub none_takes : (full : Bool) (read : Result ℕ ReadError) (came : Bool) (t : Session) → Reads read → Ok came ≡ piece_came full read → came ≡ false → t.setup ≡ s.setup → t.phase ≡ p → t.taken ≡ s.taken → HasNone left_old left_new × Stands setup pieces times t
+  pub none_takes : (full : Bool) (read : Result ℕ ReadError) (came : Bool) (t : SessionState) → Reads read → Ok came ≡ piece_came full read → came ≡ false → t.setup ≡ s.setup → t.phase ≡ p → t.taken ≡ s.taken → HasNone left_old left_new × Stands setup pieces times t
   none_takes full read came t r c no_piece a b d = none_takes_by full read t r (sym c ∙ ap (λ (x : Bool). Ok x) no_piece) a b d
 
-  some_takes_by : (full : Bool) (read : Result ℕ ReadError) (t : Session) → nat_le s.setup.pieces s.taken ≡ full → Reads read → piece_came full read ≡ Ok true → t.setup ≡ s.setup → t.phase ≡ p → t.taken ≡ s.taken + 1 → (piece : Piece) × Hands left_old piece left_new × Holds setup pieces times piece t
+  some_takes_by : (full : Bool) (read : Result ℕ ReadError) (t : SessionState) → nat_le s.setup.pieces s.taken ≡ full → Reads read → piece_came full read ≡ Ok true → t.setup ≡ s.setup → t.phase ≡ p → t.taken ≡ s.taken + 1 → (piece : Piece) × Hands left_old piece left_new × Holds setup pieces times piece t
   some_takes_by true (Ok n) t f r c a b d = absurd cc
   some_takes_by false (Ok n) t f r c a b d = holds n n t r (leb-false _ _ f) a b d
   some_takes_by true (Err read_error.HandleLimit) t f r c a b d = absurd cc
@@ -144,7 +144,7 @@ module _ (setup : Setup) (pieces : List Piece) (times : List ℕ) (s : Session) 
   room_left true (Err read_error.ReadFault) f c = absurd cc
   room_left true (Err read_error.NoMemory) f c = absurd cc
 
-  pub some_takes : (full : Bool) (read : Result ℕ ReadError) (came : Bool) (t : Session) → full ≡ nat_le s.setup.pieces s.taken → s.setup.pieces < 2 ^ 32 → Reads read → Ok came ≡ piece_came full read → came ≡ true → t.setup ≡ s.setup → t.phase ≡ p → t.taken ≡ min (s.taken + 1) (2 ^ 32 - 1) → (piece : Piece) × Hands left_old piece left_new × Holds setup pieces times piece t
+  pub some_takes : (full : Bool) (read : Result ℕ ReadError) (came : Bool) (t : SessionState) → full ≡ nat_le s.setup.pieces s.taken → s.setup.pieces < 2 ^ 32 → Reads read → Ok came ≡ piece_came full read → came ≡ true → t.setup ≡ s.setup → t.phase ≡ p → t.taken ≡ min (s.taken + 1) (2 ^ 32 - 1) → (piece : Piece) × Hands left_old piece left_new × Holds setup pieces times piece t
   some_takes full read came t f small r c some a b d =
       let g : piece_came full read ≡ Ok true = sym c ∙ ap (λ (x : Bool). Ok x) some in
       let less = room_left full read (sym f) g in
@@ -153,14 +153,14 @@ module _ (setup : Setup) (pieces : List Piece) (times : List ℕ) (s : Session) 
 -- ---- the answers that come before the piece is looked at
 
 module _ (setup : Setup) (pieces : List Piece) (times : List ℕ) (left_old left_new : Option (List Piece)) (out : List EisRequest) (took : Option Piece) (readings : Option (List ℕ)) where
-  abbrev Turned : Result Turn Error → Session → Type 0
+  abbrev Turned : Result Turn Error → SessionState → Type 0
   Turned r u = Turns setup pieces times r u (around left_old out took readings) (around left_new out took readings)
 
   -- nothing was given or answered
   nothing : Goes setup (accepted setup (stream pieces)) (accepted setup (stream pieces)) times [] (around left_old out took readings) (around left_new out took readings)
   nothing = goes_beside setup (accepted setup (stream pieces)) (accepted setup (stream pieces)) times [] (around None out took readings) (around None out took readings) left_old left_new (goes_none setup (accepted setup (stream pieces)) times (around None out took readings))
 
-  refused : (s t u : Session) (e : Error) → Stands setup pieces times s → TakesPiece setup pieces times s (Err e) t left_old left_new → Turned (Err e) u
+  refused : (s t u : SessionState) (e : Error) → Stands setup pieces times s → TakesPiece setup pieces times s (Err e) t left_old left_new → Turned (Err e) u
   refused s t u error.PieceLimit stands h =
       let is = too_many_pieces setup pieces h.0 stands.goes_on h.2 in
       record { piece = h.0; used = []; hands = h.1; answer_is = ap (λ (o : Outcome). o.answer) is; goes = rw is nothing }
@@ -171,10 +171,10 @@ module _ (setup : Setup) (pieces : List Piece) (times : List ℕ) (left_old left
   refused s t u error.NoMemory stands h = inl (record { keeps = h; out = refl; took = refl; readings = refl })
   refused s t u e stands h = absurd h
 
-  pub refused_as : (s t u : Session) (e : Error) (r : Result Turn Error) → r ≡ Err e → Stands setup pieces times s → TakesPiece setup pieces times s (Err e) t left_old left_new → Turned r u
+  pub refused_as : (s t u : SessionState) (e : Error) (r : Result Turn Error) → r ≡ Err e → Stands setup pieces times s → TakesPiece setup pieces times s (Err e) t left_old left_new → Turned r u
   refused_as s t u e r same stands h = rw same (refused s t u e stands h)
 
-  end_of : (t : Session) (b : Bool) → Stands setup pieces times t → connected (accepted setup (stream pieces)) ≡ b → HasNone left_old left_new → Turned (ended_by b) t
+  end_of : (t : SessionState) (b : Bool) → Stands setup pieces times t → connected (accepted setup (stream pieces)) ≡ b → HasNone left_old left_new → Turned (ended_by b) t
   end_of t true stands c none =
       let is = going setup pieces stands.goes_on in
       record { none = none; answer_is = ap (λ (o : Outcome). o.answer) is ∙ ap (λ (x : Bool). cond x End UnexpectedEof) c; goes = rw is nothing }
@@ -182,12 +182,12 @@ module _ (setup : Setup) (pieces : List Piece) (times : List ℕ) (left_old left
       let is = going setup pieces stands.goes_on in
       record { none = none; answer_is = ap (λ (o : Outcome). o.answer) is ∙ ap (λ (x : Bool). cond x End UnexpectedEof) c; goes = rw is nothing }
 
-  pub found_end : (t : Session) (b : Bool) (r : Result Turn Error) → r ≡ ended_by b → b ≡ connected (accepted setup (stream pieces)) → HasNone left_old left_new × Stands setup pieces times t → Turned r t
+  pub found_end : (t : SessionState) (b : Bool) (r : Result Turn Error) → r ≡ ended_by b → b ≡ connected (accepted setup (stream pieces)) → HasNone left_old left_new × Stands setup pieces times t → Turned r t
   found_end t b r same c h = rw same (end_of t b h.1 (sym c) h.0)
 
 -- ---- the piece is looked at
 
-module _ (setup : Setup) (pieces : List Piece) (times : List ℕ) (s t u : Session) (piece : Piece) (stands : Stands setup pieces times s) (holds_it : Holds setup pieces times piece t) (left_old left_new : Option (List Piece)) (hands : Hands left_old piece left_new) (x y : Around) where
+module _ (setup : Setup) (pieces : List Piece) (times : List ℕ) (s t u : SessionState) (piece : Piece) (stands : Stands setup pieces times s) (holds_it : Holds setup pieces times piece t) (left_old left_new : Option (List Piece)) (hands : Hands left_old piece left_new) (x y : Around) where
   abbrev before : List Raw
   before = accepted setup (stream pieces)
 
@@ -252,12 +252,12 @@ module _ (setup : Setup) (pieces : List Piece) (times : List ℕ) (s t u : Sessi
 
 -- ---- the source's end
 
-no_end_of : (setup : Setup) (pieces : List Piece) (times : List ℕ) (s t : Session) (left_old left_new : Option (List Piece)) (e : Error) → TakesPiece setup pieces times s (Err e) t left_old left_new → IsAtEnd (Err e) → ⊥
+no_end_of : (setup : Setup) (pieces : List Piece) (times : List ℕ) (s t : SessionState) (left_old left_new : Option (List Piece)) (e : Error) → TakesPiece setup pieces times s (Err e) t left_old left_new → IsAtEnd (Err e) → ⊥
 no_end_of setup pieces times s t left_old left_new error.UnexpectedEof h at = h
 no_end_of setup pieces times s t left_old left_new e h at = at
 
 -- a piece that is refused is no end
-pub no_end_refused : (setup : Setup) (pieces : List Piece) (times : List ℕ) (s t : Session) (left_old left_new : Option (List Piece)) (e : Error) (r : Result Turn Error) (P : Type 0) → r ≡ Err e → TakesPiece setup pieces times s (Err e) t left_old left_new → IsAtEnd r → P
+pub no_end_refused : (setup : Setup) (pieces : List Piece) (times : List ℕ) (s t : SessionState) (left_old left_new : Option (List Piece)) (e : Error) (r : Result Turn Error) (P : Type 0) → r ≡ Err e → TakesPiece setup pieces times s (Err e) t left_old left_new → IsAtEnd r → P
 no_end_refused setup pieces times s t left_old left_new e r P same h at = absurd (no_end_of setup pieces times s t left_old left_new e h (rw same at at))
 
 -- nor is what the messages give
@@ -288,7 +288,7 @@ pub none_is_end : (full : Bool) (read : Result ℕ ReadError) (came : Bool) → 
 none_is_end full read came c no_piece = none_by full read (sym c ∙ ap (λ (x : Bool). Ok x) no_piece)
 
 -- an answer that ends the session says nothing of what it is then
-pub over_now : (setup : Setup) (pieces : List Piece) (times : List ℕ) (r : Result Turn Error) (t u : Session) (x y : Around) → going_on r ≡ false → Turns setup pieces times r t x y → Turns setup pieces times r u x y
+pub over_now : (setup : Setup) (pieces : List Piece) (times : List ℕ) (r : Result Turn Error) (t u : SessionState) (x y : Around) → going_on r ≡ false → Turns setup pieces times r t x y → Turns setup pieces times r u x y
 over_now setup pieces times (Ok turn.GoOn) t u x y e h = let g : true ≡ false = e in absurd cc
 over_now setup pieces times (Ok turn.Disconnect) t u x y e h = h
 over_now setup pieces times (Ok turn.End) t u x y e h = h

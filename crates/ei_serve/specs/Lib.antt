@@ -2,6 +2,7 @@ pub mod AtFront
 pub mod Causes
 pub mod Refusing
 pub mod Around
+pub mod SessionCode
 pub mod Standing
 pub mod Steps
 pub mod Taking

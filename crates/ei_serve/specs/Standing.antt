@@ -1,5 +1,5 @@
 -- What a session stands for: the pieces that it took.
-use Rattle.std.specs.Prelude.{◌≡◌, ℕ, ◌≤◌, ◌<◌, ◌^◌, false, List, [], length, is_some, codes}
+use Rattle.std.specs.Prelude.{◌≡◌, ℕ, ◌≤◌, ◌<◌, ◌^◌, ◌⊎◌, false, List, [], length, is_some, codes}
 use Rattle.ei_spec.specs.declared.handle.Handle.{Handle}
 use Rattle.ei_spec.specs.declared.interface.KnownInterface.TheVariants as known
 use Rattle.ei_spec.specs.Interface.{Known, ObjectView}
@@ -18,10 +18,11 @@ use Rattle.ei_backend.specs.Backend.{BackendView, new_backend}
 use Rattle.ei_handshake.specs.Handshaker.{HandshakerView}
 use Rattle.ei_request.specs.Converter.{ConverterView}
 use Rattle.ei_standing.specs.Standing.{IsHeld}
+use Rattle.ei_spec.specs.declared.limits.TheConstants.{MOST_MESSAGE_BYTES}
 use Rattle.ei_serve.specs.declared.phase.Phase.{Phase}
 use Rattle.ei_serve.specs.declared.phase.Phase.TheVariants as phase
 use Rattle.ei_serve.specs.declared.session.Setup.{Setup as Started}
-use Rattle.ei_serve.specs.declared.session.Session.{Session}
+use Rattle.ei_serve.specs.declared.state.SessionState.{SessionState}
 
 -- the setup as the definitions see it
 abbrev pub setup_of : Started → Setup
@@ -81,17 +82,35 @@ StandsAt setup past times rest handles (phase.Handshake b h) = (times ≡ []) ×
 StandsAt setup past times rest handles (phase.Connected c) = IsConnected setup past times rest handles c
 StandsAt setup past times rest handles phase.Over = ⊥
 
--- how many bytes the ring of a phase holds
+-- how many bytes wait to be sent in a phase, and how many its ring of unread ones holds
+abbrev pub unsent_in : Phase → ℕ
+unsent_in (phase.Handshake b h) = length b.unsent
+unsent_in (phase.Connected c) = length c.handle.ctx.unsent
+unsent_in phase.Over = 0
+
 abbrev pub capacity_in : Phase → ℕ
 capacity_in (phase.Handshake b h) = b.capacity
 capacity_in (phase.Connected c) = c.handle.ctx.capacity
 capacity_in phase.Over = 0
 
+-- an open endpoint that has nothing to send, with fewer bytes unread than the longest message has
+pub record HoldsFewBytes (b : BackendView) : Type 0 where
+  pub opened : b.closed ≡ false
+  pub unsent : b.unsent ≡ []
+  pub unread : length b.unread < MOST_MESSAGE_BYTES
+  pub ring : b.capacity ≤ most_capacity
+
+-- the same of a phase's endpoint; over, it has none
+abbrev pub HoldsFewBytesIn : Phase → Type 0
+HoldsFewBytesIn (phase.Handshake b h) = HoldsFewBytes b
+HoldsFewBytesIn (phase.Connected c) = HoldsFewBytes c.handle.ctx
+HoldsFewBytesIn phase.Over = Unit {0}
+
 -- ---- the session
 
 -- The session was started with the setup, took these pieces and used these readings, and goes on: it handled the
 -- messages of their stream, and what follows them is unread.
-pub record Stands (setup : Setup) (pieces : List Piece) (times : List ℕ) (s : Session) : Type 0 where
+pub record Stands (setup : Setup) (pieces : List Piece) (times : List ℕ) (s : SessionState) : Type 0 where
   pub started : setup_of s.setup ≡ setup
   pub goes_on : (k : ℕ) → 1 ≤ k → k ≤ length pieces → is_over setup pieces k ≡ false
   pub waits : (reading_of setup (stream pieces)).stop ≡ Waiting
@@ -101,5 +120,27 @@ pub record Stands (setup : Setup) (pieces : List Piece) (times : List ℕ) (s : 
   pub taken : s.taken ≡ length pieces
 
 -- whether an answer other than `GoOn` came
-abbrev pub IsOver : Session → Type 0
+abbrev pub IsOver : SessionState → Type 0
 IsOver s = s.phase ≡ phase.Over
+
+-- it stands for some pieces that it took, with some setup and some readings
+pub record StandsForSome (s : SessionState) : Type 0 where
+  pub setup : Setup
+  pub pieces : List Piece
+  pub times : List ℕ
+  pub stands : Stands setup pieces times s
+
+-- what every session is between its turns: over, or one that stands for the pieces that it took
+abbrev pub IsSession : SessionState → Type 0
+IsSession s = IsOver s ⊎ StandsForSome s
+
+-- how many bytes of it wait for the sink, and how many it can hold that aren't read
+abbrev pub unsent_of : SessionState → ℕ
+unsent_of s = unsent_in s.phase
+
+abbrev pub capacity_of : SessionState → ℕ
+capacity_of s = capacity_in s.phase
+
+-- where it isn't over, its endpoint is open, has nothing to send, and holds few bytes
+abbrev pub HoldsLittle : SessionState → Type 0
+HoldsLittle s = HoldsFewBytesIn s.phase

@@ -12,7 +12,7 @@ use Rattle.ei_types.specs.declared.error.Error.TheVariants as error
 use Rattle.ei_wire.specs.declared.error.ReadError.{ReadError}
 use Rattle.ei_wire.specs.declared.error.ReadError.TheVariants as read_error
 use Rattle.ei_serve.specs.declared.phase.Phase.{Phase}
-use Rattle.ei_serve.specs.declared.session.Session.{Session}
+use Rattle.ei_serve.specs.declared.state.SessionState.{SessionState}
 use Rattle.ei_serve.specs.Standing.{Stands, StandsAt, setup_of}
 use Rattle.ei_spec.specs.declared.limits.TheConstants.{MOST_UNREAD_HANDLES}
 
@@ -41,7 +41,7 @@ abbrev pub with_next : List Piece → Piece → List Piece
 with_next pieces piece = pieces ++ piece ∷ []
 
 -- the session took one more piece and has not looked at it
-pub record Holds (setup : Setup) (pieces : List Piece) (times : List ℕ) (piece : Piece) (s : Session) : Type 0 where
+pub record Holds (setup : Setup) (pieces : List Piece) (times : List ℕ) (piece : Piece) (s : SessionState) : Type 0 where
   pub started : setup_of s.setup ≡ setup
   pub room : length pieces < setup.pieces
   pub unread : List Handle
@@ -59,7 +59,7 @@ piece_came full (Err read_error.UnexpectedEof) = Ok false
 piece_came full (Err e) = Err (error_of_read e)
 
 -- what taking a piece answers
-abbrev pub TakesPiece : Setup → List Piece → List ℕ → Session → Result Bool Error → Session → Option (List Piece) → Option (List Piece) → Type 0
+abbrev pub TakesPiece : Setup → List Piece → List ℕ → SessionState → Result Bool Error → SessionState → Option (List Piece) → Option (List Piece) → Type 0
 TakesPiece setup pieces times s (Ok true) t old new = (piece : Piece) × Hands old piece new × Holds setup pieces times piece t
 TakesPiece setup pieces times s (Ok false) t old new = HasNone old new × Stands setup pieces times t
 TakesPiece setup pieces times s (Err error.PieceLimit) t old new = (piece : Piece) × Hands old piece new × (setup.pieces ≤ length pieces)

@@ -10,7 +10,7 @@ use Rattle.ei_session.specs.Served.{Answer, Disconnect, End, UnexpectedEof, IdsE
 use Rattle.ei_types.specs.declared.error.Error.{Error}
 use Rattle.ei_types.specs.declared.error.Error.TheVariants as error
 use Rattle.ei_serve.specs.declared.phase.Phase.{Phase}
-use Rattle.ei_serve.specs.declared.session.Session.{Session}
+use Rattle.ei_serve.specs.declared.state.SessionState.{SessionState}
 use Rattle.ei_serve.specs.declared.session.Turn.{Turn}
 use Rattle.ei_serve.specs.declared.session.Turn.TheVariants as turn
 use Rattle.ei_serve.specs.Refusing.{refusal_of}
@@ -80,7 +80,7 @@ pub record Finds (setup : Setup) (pieces : List Piece) (times : List ℕ) (answe
   pub goes : Goes setup (accepted setup (stream pieces)) (session setup pieces).handled times [] old new
 
 -- the session goes on
-pub record GoesOn (setup : Setup) (pieces : List Piece) (times : List ℕ) (t : Session) (old new : Around) : Type 0 where
+pub record GoesOn (setup : Setup) (pieces : List Piece) (times : List ℕ) (t : SessionState) (old new : Around) : Type 0 where
   pub piece : Piece
   pub used : List ℕ
   pub hands : Hands old.left piece new.left
@@ -103,7 +103,7 @@ pub record BreaksOff (setup : Setup) (pieces : List Piece) (times : List ℕ) (o
   pub goes : GoesInPart setup (accepted setup (stream pieces)) (accepted setup (stream (with_next pieces piece))) times old new
 
 -- what a turn answers, over a session that stands for these pieces and readings
-abbrev pub Turns : Setup → List Piece → List ℕ → Result Turn Error → Session → Around → Around → Type 0
+abbrev pub Turns : Setup → List Piece → List ℕ → Result Turn Error → SessionState → Around → Around → Type 0
 Turns setup pieces times (Ok turn.GoOn) t old new = GoesOn setup pieces times t old new
 Turns setup pieces times (Ok turn.Disconnect) t old new = Closes setup pieces times Disconnect old new
 Turns setup pieces times (Ok turn.End) t old new = Finds setup pieces times End old new

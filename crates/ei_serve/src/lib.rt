@@ -11,6 +11,7 @@ mod phase;
 mod policy;
 mod serve_loop;
 mod session;
+mod state;
 
 pub use serve_loop::serve;
 pub use session::{Ended, Session, Setup, Turn};

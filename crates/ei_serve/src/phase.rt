@@ -13,7 +13,7 @@ ghost use Rattle.ei_session.specs.Handshake.{connected, is_finish};
 ghost use Rattle.ei_serve.specs.declared.phase.Phase.TheVariants as phases;
 ghost use Rattle.ei_serve.specs.Around.{around};
 ghost use Rattle.ei_serve.specs.Causes.{Greeted, GreetedInPart, RefusesToStart};
-ghost use Rattle.ei_serve.specs.Standing.{capacity_in, most_capacity, StandsAt, setup_of};
+ghost use Rattle.ei_serve.specs.Standing.{unsent_in, capacity_in, StandsAt, setup_of};
 ghost use Rattle.ei_serve.specs.Steps.{Steps, HandsOverIn, ConnectsPhase};
 ghost use Rattle.ei_serve.specs.Taking.{ReadsPhase};
 ghost use Rattle.ei_serve.specs.Turning.{HandlesAll};
@@ -101,12 +101,20 @@ impl Phase {
         }
     }
 
+    /// How many bytes wait to be sent.
+    pub(crate) fn unsent_len(&self) -> usize
+        ensures { result ≡ unsent_in self.now }
+    {
+        match self {
+            Phase::Handshake(context, _) => context.unsent_len(),
+            Phase::Connected(converter) => converter.handle().context().unsent_len(),
+            Phase::Over => 0,
+        }
+    }
+
     /// How many bytes may be unread before the ring that holds them grows.
-    #[tactic(auto, using(crate::proofs::Ringing::phase_most))]
     pub(crate) fn ring_capacity(&self) -> usize
-        ensures value { result ≡ capacity_in self.now }
-        ensures most { (setup : Started) (past : List Raw) (times rest : List ℕ) (handles : List Handle) → StandsAt setup past times rest handles self.now
-            → result ≤ most_capacity }
+        ensures { result ≡ capacity_in self.now }
     {
         match self {
             Phase::Handshake(context, _) => context.ring_capacity(),

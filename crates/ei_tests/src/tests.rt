@@ -149,8 +149,10 @@ fn a_session_is_over_behind_the_disconnect(rt: HostRuntime) -> Result<(), Fail> 
         (Turn::GoOn, false, 131072),
         (Turn::Disconnect, true, 0),
     ] {
+        assert!(rt; !session.is_over(), "{turn:?}");
         let answer = session.turn(&mut source, &mut sink, &mut clock, &mut out);
         assert!(rt; answer == Ok(turn));
+        assert_eq!(rt; session.unsent_len(), 0, "{turn:?}");
         assert_eq!(rt; session.is_over(), is_over, "{turn:?}");
         assert_eq!(rt; session.buffer_capacity(), held, "{turn:?}");
     }

@@ -6,7 +6,7 @@ use Rattle.ei_spec.specs.Piece.{stream}
 use Rattle.ei_serve.specs.Around.{around}
 use Rattle.ei_serve.specs.Standing.{setup_of}
 use Rattle.ei_serve.proofs.Turns.{refused_as, found_end, handled, no_end_refused, no_end_handled, with_setup}
-use Rattle.ei_serve.proofs.session.Session.try_turn.Goals as goal
+use Rattle.ei_serve.proofs.state.SessionState.try_turn.Goals as goal
 
 pub returns-in_err-take_piece-clause-turns : goal.returns-in_err-take_piece-clause-turns
 returns-in_err-take_piece-clause-turns g c = λ setup pieces times s.

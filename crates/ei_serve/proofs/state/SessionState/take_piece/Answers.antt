@@ -5,7 +5,7 @@ use Rattle.ei_session.specs.Served.{accepted, reading_of}
 use Rattle.ei_spec.specs.Piece.{stream}
 use Rattle.ei_serve.proofs.FewUnread.{unread_few}
 use Rattle.ei_serve.proofs.Turns.{err_takes, none_takes, some_takes, none_is_end}
-use Rattle.ei_serve.proofs.session.Session.take_piece.Goals as goal
+use Rattle.ei_serve.proofs.state.SessionState.take_piece.Goals as goal
 
 pub returns-in_err-piece_came-clause-takes : goal.returns-in_err-piece_came-clause-takes
 returns-in_err-piece_came-clause-takes g c = λ setup pieces times s.

@@ -1,0 +1,155 @@
+//! What a session holds, and a turn over it.
+
+ghost use Rattle.std.specs.Prelude.{◌≡◌, ◌≤◌, List, ℕ, ◌<◌, ◌^◌, nat_le, Ok, false, IsErrOf};
+ghost use Rattle.ei_session.specs.Setup.{Setup as Started};
+ghost use Rattle.ei_types.specs.declared.error.Error.TheVariants as error;
+ghost use Rattle.ei_backend.specs.Outside.{Piece, Rose};
+ghost use Rattle.ei_backend.specs.declared.outside.LastAnswer.TheVariants as answers;
+ghost use Rattle.ei_serve.specs.Around.{around};
+ghost use Rattle.ei_serve.specs.Standing.{Stands, IsOver};
+ghost use Rattle.ei_serve.specs.Taking.{TakesPiece, piece_came};
+ghost use Rattle.ei_serve.specs.Turning.{Turns, IsAtEnd, goes_on, at_end};
+
+use crate::phase::Phase;
+use crate::session::{Setup, Turn};
+use ei_backend::{Clock, Sink, Source};
+use ei_request::EisRequest;
+use ei_types::Error;
+use ei_wire::ReadError;
+use std::alloc::Global;
+
+/// What a session holds: between two turns, and while one is under way.
+#[derive(Drop)]
+pub(crate) struct SessionState {
+    pub(crate) alloc: Global,
+    pub(crate) setup: Setup,
+    pub(crate) phase: Phase,
+    pub(crate) taken: u32,
+}
+
+impl SessionState {
+    /// The turn. The session is over after an answer other than `GoOn`.
+    pub(crate) fn take_turn<S: Source, K: Sink, C: Clock>(
+        &mut self,
+        source: &mut S,
+        sink: &mut K,
+        clock: &mut C,
+        out: &mut Vec<EisRequest>,
+    ) -> Result<Turn, Error>
+        ensures turns { (setup : Started) (pieces : List Piece) (times : List ℕ) → Stands setup pieces times self.old →
+            Turns setup pieces times result self.new (around (S.left source.old) out.old.items (K.taken sink.old) (C.readings clock.old))
+            (around (S.left source.new) out.new.items (K.taken sink.new) (C.readings clock.new)) }
+        ensures last_end { (setup : Started) (pieces : List Piece) (times : List ℕ) → Stands setup pieces times self.old → IsAtEnd result
+            → S.last source.new ≡ answers.End }
+        ensures last_fault { IsErrOf result error.ReadFault → S.last source.new ≡ answers.Fault }
+        ensures over { goes_on result ≡ false → IsOver self.new }
+        ensures read_fault { IsErrOf result error.ReadFault → Rose (S.faults source.old) (S.faults source.new) }
+        ensures read_risen { S.faults source.old < S.faults source.new → IsErrOf result error.ReadFault }
+        ensures read_faults { S.faults source.old ≤ S.faults source.new }
+        ensures later_source { S.later source.old source.new }
+        ensures write_fault { IsErrOf result error.WriteFault → Rose (K.faults sink.old) (K.faults sink.new) }
+        ensures write_risen { K.faults sink.old < K.faults sink.new → IsErrOf result error.WriteFault }
+        ensures write_faults { K.faults sink.old ≤ K.faults sink.new }
+        ensures later_sink { K.later sink.old sink.new }
+        ensures later_clock { C.later clock.old clock.new }
+    {
+        let answer = self.try_turn(source, sink, clock, out);
+        if goes_on(&answer) {
+            return answer;
+        }
+        self.phase = Phase::Over;
+        answer
+    }
+
+    /// The turn, with the phase left as it is at an answer.
+    fn try_turn<S: Source, K: Sink, C: Clock>(
+        &mut self,
+        source: &mut S,
+        sink: &mut K,
+        clock: &mut C,
+        out: &mut Vec<EisRequest>,
+    ) -> Result<Turn, Error>
+        ensures turns { (setup : Started) (pieces : List Piece) (times : List ℕ) → Stands setup pieces times self.old →
+            Turns setup pieces times result self.new (around (S.left source.old) out.old.items (K.taken sink.old) (C.readings clock.old))
+            (around (S.left source.new) out.new.items (K.taken sink.new) (C.readings clock.new)) }
+        ensures last_end { (setup : Started) (pieces : List Piece) (times : List ℕ) → Stands setup pieces times self.old → IsAtEnd result
+            → S.last source.new ≡ answers.End }
+        ensures last_fault { IsErrOf result error.ReadFault → S.last source.new ≡ answers.Fault }
+        ensures read_fault { IsErrOf result error.ReadFault → Rose (S.faults source.old) (S.faults source.new) }
+        ensures read_risen { S.faults source.old < S.faults source.new → IsErrOf result error.ReadFault }
+        ensures read_faults { S.faults source.old ≤ S.faults source.new }
+        ensures later_source { S.later source.old source.new }
+        ensures write_fault { IsErrOf result error.WriteFault → Rose (K.faults sink.old) (K.faults sink.new) }
+        ensures write_risen { K.faults sink.old < K.faults sink.new → IsErrOf result error.WriteFault }
+        ensures write_faults { K.faults sink.old ≤ K.faults sink.new }
+        ensures later_sink { K.later sink.old sink.new }
+        ensures later_clock { C.later clock.old clock.new }
+    {
+        if !self.take_piece(source)? {
+            return at_end(self.phase.is_connected());
+        }
+        self.phase
+            .handle_messages(self.alloc, self.setup, sink, clock, out)
+    }
+
+    /// Takes a piece; false at the source's end.
+    fn take_piece<S: Source>(&mut self, source: &mut S) -> Result<bool, Error>
+        ensures takes { (setup : Started) (pieces : List Piece) (times : List ℕ) → Stands setup pieces times self.old →
+            TakesPiece setup pieces times self.old result self.new (S.left source.old) (S.left source.new) }
+        ensures read_fault { IsErrOf result error.ReadFault → Rose (S.faults source.old) (S.faults source.new) }
+        ensures read_risen { S.faults source.old < S.faults source.new → IsErrOf result error.ReadFault }
+        ensures read_faults { S.faults source.old ≤ S.faults source.new }
+        ensures later_source { S.later source.old source.new }
+        ensures no_write_fault { IsErrOf result error.WriteFault → ⊥ }
+        ensures last_end { (setup : Started) (pieces : List Piece) (times : List ℕ) → Stands setup pieces times self.old → result ≡ Ok false
+            → S.last source.new ≡ answers.End }
+        ensures last_fault { IsErrOf result error.ReadFault → S.last source.new ≡ answers.Fault }
+    {
+        let is_full = is_full(self.taken, self.setup.pieces);
+        let read = self.phase.read(source);
+        if !piece_came(is_full, read)? {
+            return Ok(false);
+        }
+        self.taken = self.taken.saturating_add(1);
+        Ok(true)
+    }
+}
+
+/// Whether as many pieces were taken as may be.
+fn is_full(taken: u32, limit: u32) -> bool
+    ensures is { result ≡ nat_le limit taken }
+    ensures in_range { limit < 2 ^ 32 }
+{
+    taken >= limit
+}
+
+/// Whether a piece came, where no more may be taken or where one may.
+fn piece_came(is_full: bool, read: Result<usize, ReadError>) -> Result<bool, Error>
+    ensures { result ≡ piece_came is_full read }
+{
+    match read {
+        Ok(_) if is_full => Err(Error::PieceLimit),
+        Ok(_) => Ok(true),
+        Err(ReadError::HandleLimit) if is_full => Err(Error::PieceLimit),
+        Err(ReadError::UnexpectedEof) => Ok(false),
+        Err(error) => Err(Error::from(error)),
+    }
+}
+
+/// What the source's end means, after the connection or before it.
+fn at_end(is_connected: bool) -> Result<Turn, Error>
+    ensures { result ≡ at_end is_connected }
+{
+    if is_connected {
+        Ok(Turn::End)
+    } else {
+        Err(Error::UnexpectedEof)
+    }
+}
+
+/// Whether the session goes on after the answer.
+fn goes_on(answer: &Result<Turn, Error>) -> bool
+    ensures { result ≡ goes_on answer.now }
+{
+    matches!(answer, Ok(Turn::GoOn))
+}
