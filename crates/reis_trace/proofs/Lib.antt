@@ -1,0 +1,10 @@
+pub mod GoingOn
+pub mod Shows
+pub mod OnePieces
+pub mod Tracing
+pub mod Climbing
+pub mod ClientTable
+pub mod ShortReplies
+pub mod ReadByClient
+pub mod Dones
+pub mod WorkedLines

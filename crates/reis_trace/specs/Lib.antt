@@ -1,0 +1,4 @@
+pub mod TraceLine
+pub mod Pieces
+pub mod Traced
+pub mod SoFar
