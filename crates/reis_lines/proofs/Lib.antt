@@ -1,3 +1,4 @@
 pub mod HeldLaws
 pub mod SourceLaws
 pub mod TextLaws
+pub mod GivenLaws

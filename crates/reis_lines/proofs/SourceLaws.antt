@@ -1,18 +1,18 @@
 -- What becomes of the unread text where a line is handed out, or is bad, or none comes.
 use Rattle.std.proofs.Common.{◌≡◌, ◌<◌, inl, inr, ℕ, ◌+◌, ◌-◌, ◌^◌, zero, suc, List, [], ◌∷◌, ◌++◌, length, take, drop, refl, ap, sym, ◌∙◌, subst, append_assoc}
 use Rattle.std.proofs.Common.{arith, Some}
-use Rattle.std.proofs.lemmas.List.{append-nil, take-append-drop}
+use Rattle.std.proofs.lemmas.List.{append-nil, take-append-drop, take_all, drop_all}
 use Rattle.std.specs.Prelude.{min, Option, None, is_some}
 use Rattle.std.specs.Prelude.{true, false, slice_get}
 use Rattle.std.specs.Option.{option_map}
 use Rattle.ei_spec.specs.declared.handle.Handle.{Handle}
 use Rattle.ei_spec.specs.Piece.{Piece}
 use Rattle.ei_backend.specs.Outside.{HandsOut}
-use Rattle.reis_lines.specs.Text.{line_bytes, piece_before, pieces_of, bad_line_before, bad_line_of, number_from}
+use Rattle.reis_lines.specs.Text.{has_newline, before_newline, line_bytes, piece_before, pieces_of, bad_line_before, bad_line_of, number_from}
 use Rattle.reis_lines.specs.Held.{FindsNewline, Moves, line_len, line_skip}
-use Rattle.reis_lines.specs.HexSource.{Reading, text_reading, fresh, LaterText, LaterReading, LaterSource, HandsLine, IsAtEnd}
+use Rattle.reis_lines.specs.HexSource.{Reading, text_reading, fresh, AreLines, LaterText, LaterReading, LaterSource, HandsLine, IsAtEnd}
 use Rattle.reis_lines.specs.declared.hex_source.HexSource.{HexSource}
-use Rattle.reis_lines.proofs.TextLaws.{pieces_of-first, bad_line_of-first}
+use Rattle.reis_lines.proofs.TextLaws.{pieces_of-first, bad_line_of-first, full_or, too_long, spelled_none, before_all, before_of_quiet, ended_at}
 
 pub some_not_none : (o : Option ℕ) → is_some o ≡ true → o ≡ None → ⊥
 some_not_none None e n = cc
@@ -81,12 +81,36 @@ number_next line now (Some n) is =
     let e : min (line + (n + 1)) (2 ^ 64 - 1) ≡ min (now + n) (2 ^ 64 - 1) = omega arith in
     ap (λ k. Some k) e
 
+first_none : (mid rest bytes : List ℕ) → has_newline mid ≡ false → (length mid < 131073 → rest ≡ []) → line_bytes mid ≡ Some bytes → rest ≡ []
+first_none mid rest bytes quiet ends spells = elim (full_or (length mid)) [ inl full ↦ absurd (spelled_none mid bytes (too_long mid (omega arith)) spells) | inr less ↦ ends less ]
+
+spelled_some : (mid bytes : List ℕ) → line_bytes mid ≡ Some bytes → 0 < length mid
+spelled_some [] bytes spells = cc
+spelled_some (b ∷ bs) bytes spells = omega arith
+
+-- the first line as it stands in the text: with its newline, or without, where nothing follows
+pub first_line : (found : Option ℕ) (mid rest bytes : List ℕ) → FindsNewline found mid → (found ≡ None → length mid < 131073 → rest ≡ []) →
+    line_bytes (take (line_len found mid) mid) ≡ Some bytes →
+    AreLines (take (line_skip found mid) mid ∷ []) (drop (line_skip found mid) mid ++ rest) × (before_newline (take (line_skip found mid) mid) ≡ take (line_len found mid) mid)
+first_line (Some n) mid rest bytes f ends spells =
+    let ended = ended_at n mid f.here in
+    let same = ap before_newline ended ∙ before_of_quiet (take n mid) [] f.before in
+    (inl (ended ∙ ap (λ t. t ++ 10 ∷ []) (sym same), tt), same)
+first_line None mid rest bytes f ends spells =
+    let all : take (length mid) mid ≡ mid = take_all (length mid) mid (omega arith) in
+    let gone : drop (length mid) mid ≡ [] = drop_all (length mid) mid (omega arith) in
+    let spells_all : line_bytes mid ≡ Some bytes = ap line_bytes (sym all) ∙ spells in
+    let none = first_none mid rest bytes f (ends refl) spells_all in
+    let same = before_all mid f in
+    rw (all, gone) (inr (spelled_some mid bytes spells_all, sym same, refl, none), same)
+
 -- a line was handed out
 pub handed_out : (held text mid rest slice new bytes : List ℕ) (left : Option (List ℕ)) (found : Option ℕ) (line now : ℕ) → FindsFirst held text mid rest found →
     slice ≡ take (line_len found mid) mid → line_bytes slice ≡ Some bytes → new ≡ drop (line_skip found mid) mid → left ≡ Some rest → now ≡ min (line + 1) (2 ^ 64 - 1) →
     LaterText held text new left line now
-handed_out held text mid rest slice new bytes left found line now f is spells gone left_is next =
+handed_out held text mid rest slice new bytes left found number now f is spells gone left_is next =
     let skip = line_skip found mid in
+    let line = first_line found mid rest bytes f.place f.ends (ap line_bytes (sym is) ∙ spells) in
     record {
       lines = take skip mid ∷ [];
       pieces = record { bytes = bytes; handles = [] } ∷ [];
@@ -95,14 +119,15 @@ handed_out held text mid rest slice new bytes left found line now f is spells go
       same =
           f.same ∙ ap (λ t. t ++ rest) (sym (take-append-drop skip mid)) ∙ append_assoc (take skip mid) (drop skip mid) rest
           ∙ ap (λ t. take skip mid ++ (t ++ rest)) (sym gone) ∙ ap (λ t. t ++ (new ++ rest)) (sym (append-nil (take skip mid)));
-      one_each = refl;
+      are_lines = subst (λ (t : List ℕ). AreLines (take skip mid ∷ []) (t ++ rest)) (sym gone) line.0;
+      spelled = ap (λ o. option_map (λ (b : List ℕ). record { bytes = b; handles = [] }) o ∷ []) (ap line_bytes (line.1 ∙ sym is) ∙ spells);
       handed =
           first_pieces held text mid rest slice found f is ∙ ap (λ o. piece_before o (pieces_of (drop skip mid ++ rest))) spells
           ∙ ap (λ t. record { bytes = bytes; handles = [] } ∷ pieces_of (t ++ rest)) (sym gone);
       grown = omega (arith, next);
       bad =
-          ap (number_from line) (first_bad held text mid rest slice found f is ∙ spelled_before slice bytes (bad_line_of (drop skip mid ++ rest)) spells)
-          ∙ number_next line now (bad_line_of (drop skip mid ++ rest)) next ∙ ap (λ t. number_from now (bad_line_of (t ++ rest))) (sym gone);
+          ap (number_from number) (first_bad held text mid rest slice found f is ∙ spelled_before slice bytes (bad_line_of (drop skip mid ++ rest)) spells)
+          ∙ number_next number now (bad_line_of (drop skip mid ++ rest)) next ∙ ap (λ t. number_from now (bad_line_of (t ++ rest))) (sym gone);
     }
 
 -- its bytes are the first piece
@@ -191,8 +216,8 @@ told_at_end left held rest t is told end =
     subst (λ (v : List ℕ). IsAtEnd (held ++ v)) same end
 
 -- the bad line that a source over a fresh input met is the first of the text
-pub first_bad_line : {I : Type 0} (text : I → Option (List ℕ)) (later : I → I → Type 0) (x y : HexSource I) (input : I) (t : List ℕ) (n : ℕ) →
-    text_reading x ≡ fresh input → LaterSource text later x y → text input ≡ Some t → (text_reading y).bad ≡ Some n → number_from 0 (bad_line_of t) ≡ Some n
-first_bad_line text later x y input t n new l told met =
-    let r : LaterReading text later (fresh input) (text_reading y) = subst (λ (v : Reading _). LaterReading text later v (text_reading y)) new l.reading in
+pub first_bad_line : {I : Type 0} (text : I → Option (List ℕ)) (faults : I → ℕ) (later : I → I → Type 0) (x y : HexSource I) (input : I) (t : List ℕ) (n : ℕ) →
+    text_reading x ≡ fresh input → LaterSource text faults later x y → text input ≡ Some t → (text_reading y).bad ≡ Some n → number_from 0 (bad_line_of t) ≡ Some n
+first_bad_line text faults later x y input t n new l told met =
+    let r : LaterReading text faults later (fresh input) (text_reading y) = subst (λ (v : Reading _). LaterReading text faults later v (text_reading y)) new l.reading in
     r.number refl n met t told

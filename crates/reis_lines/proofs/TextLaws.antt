@@ -1,9 +1,9 @@
 -- The first line of a text, and what the others spell.
 use Rattle.std.proofs.Common.{◌≡◌, ◌<◌, ◌≤◌, ◌⊎◌, inl, inr, ℕ, ◌+◌, List, [], ◌∷◌, ◌++◌, length, get_or, take, drop, refl, ap, sym, ◌∙◌, append_assoc}
-use Rattle.std.proofs.Common.{length-append, arith, Some}
-use Rattle.std.proofs.lemmas.List.{append-nil, take-append-drop, take_all, take_more, drop_all}
+use Rattle.std.proofs.Common.{length-append, length-drop, arith, Some}
+use Rattle.std.proofs.lemmas.List.{append-nil, take-append-drop, length-take-le, take_all, take_at, take_more, drop_all}
 use Rattle.std.specs.Prelude.{Bool, true, false, ◌==◌, ◌||◌, nat_lt, if◌then◌else◌, Option, None}
-use Rattle.reis_lines.specs.Text.{has_newline, onto, split, line_bytes, piece_before, pieces_of_lines, pieces_of, bad_line_before, bad_line_of_lines}
+use Rattle.reis_lines.specs.Text.{has_newline, before_newline, onto, split, line_bytes, piece_before, pieces_of_lines, pieces_of, bad_line_before, bad_line_of_lines}
 use Rattle.reis_lines.specs.Text.{bad_line_of}
 use Rattle.reis_lines.specs.Held.{FindsNewline, line_len, line_skip}
 
@@ -57,7 +57,7 @@ split_line (Some m) n held rest is f =
     lines ∙ ap (λ k. take k held ∷ split (drop (k + 1) held ++ rest)) same
 
 -- a line that is too long spells nothing
-too_long : (l : List ℕ) → 131072 < length l → line_bytes l ≡ None
+pub too_long : (l : List ℕ) → 131072 < length l → line_bytes l ≡ None
 too_long [] lt = refl
 too_long (b ∷ bs) lt = let over : nat_lt 131072 (length (b ∷ bs)) ≡ true = grind arith in rw over refl
 
@@ -76,7 +76,7 @@ bad_onto a [] lt = too_long_is_bad a None lt
 bad_onto a (l ∷ ls) lt =
     let long : 131072 < length (a ++ l) = omega (arith, length-append a l) in too_long_is_bad (a ++ l) (bad_line_of_lines ls) long
 
-full_or : (n : ℕ) → (131073 ≤ n) ⊎ (n < 131073)
+pub full_or : (n : ℕ) → (131073 ≤ n) ⊎ (n < 131073)
 full_or n = grind arith
 
 -- what the first line spells, and the pieces of the others behind it
@@ -114,3 +114,44 @@ bad_line_of-first None held rest f ends =
           let none : rest ≡ [] = ends refl less in
           rw none (ap bad_line_of_lines (split_quiet held [] f) ∙ ap (λ t. bad_line_before t None) (append-nil held))
     ])
+
+-- ---- in front of the first newline
+
+pub spelled_none : (l bytes : List ℕ) → line_bytes l ≡ None → line_bytes l ≡ Some bytes → ⊥
+spelled_none l bytes none some = cc
+
+quiet_if : (t : Bool) (b : ℕ) (bs : List ℕ) → (b == 10) ≡ t → has_newline bs ≡ false → has_newline (if t then [] else b ∷ bs) ≡ false
+quiet_if true b bs e quiet = refl
+quiet_if false b bs e quiet = rw e quiet
+
+pub before_quiet : (l : List ℕ) → has_newline (before_newline l) ≡ false
+before_quiet [] = refl
+before_quiet (b ∷ bs) = quiet_if (b == 10) b (before_newline bs) refl (before_quiet bs)
+
+pub before_of_quiet : (a t : List ℕ) → has_newline a ≡ false → before_newline (a ++ 10 ∷ t) ≡ a
+before_of_quiet [] t e = refl
+before_of_quiet (x ∷ a) t e = let h = or_false (x == 10) (has_newline a) e in rw h.0 (ap (λ v. x ∷ v) (before_of_quiet a t h.1))
+
+pub before_all : (a : List ℕ) → has_newline a ≡ false → before_newline a ≡ a
+before_all [] e = refl
+before_all (x ∷ a) e = let h = or_false (x == 10) (has_newline a) e in rw h.0 (ap (λ v. x ∷ v) (before_all a h.1))
+
+-- a line with the newline that stands behind it
+pub ended_at : (n : ℕ) (bytes : List ℕ) → drop n bytes ≡ 10 ∷ drop (n + 1) bytes → take (n + 1) bytes ≡ take n bytes ++ 10 ∷ []
+ended_at n bytes here =
+    let a = take n bytes in
+    let t = drop (n + 1) bytes in
+    let whole : bytes ≡ (a ++ 10 ∷ []) ++ t = sym (take-append-drop n bytes) ∙ ap (λ v. a ++ v) here ∙ sym (append_assoc a (10 ∷ []) t) in
+    let some : n < length bytes = omega (arith, ap length here, length-drop n bytes) in
+    let count : length a ≡ n = length-take-le n bytes (omega (arith, some)) in
+    ap (take (n + 1)) whole ∙ take_at (a ++ 10 ∷ []) t (n + 1) (omega (arith, length-append a (10 ∷ []), count))
+
+-- a line with its newline, in front of a text
+pub split_ended : (l t : List ℕ) → l ≡ before_newline l ++ 10 ∷ [] → split (l ++ t) ≡ before_newline l ∷ split t
+split_ended l t ended =
+    ap (λ v. split (v ++ t)) ended ∙ ap split (append_assoc (before_newline l) (10 ∷ []) t) ∙ split_quiet (before_newline l) (10 ∷ t) (before_quiet l)
+    ∙ ap (λ v. v ∷ split t) (append-nil (before_newline l))
+
+-- a text without a newline is one line
+pub split_all : (a : List ℕ) → has_newline a ≡ false → split a ≡ a ∷ []
+split_all a quiet = ap split (sym (append-nil a)) ∙ split_quiet a [] quiet ∙ ap (λ v. v ∷ []) (append-nil a)

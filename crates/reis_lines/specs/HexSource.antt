@@ -1,13 +1,14 @@
 -- A source over the lines of an input.
-use Rattle.std.specs.Prelude.{◌≡◌, ◌<◌, ◌⊎◌, ℕ, ◌+◌, ◌-◌, ◌^◌, min, length, List, [], ◌∷◌, ◌++◌, take, slice_get, Option, Some, None, IsSome, Result, Ok, Err}
-use Rattle.std.specs.Prelude.{false}
+use Rattle.std.specs.Prelude.{◌≡◌, ◌<◌, ◌≤◌, ◌⊎◌, ℕ, ◌+◌, ◌-◌, ◌^◌, min, length, List, [], ◌∷◌, ◌++◌, take, map, slice_get}
+use Rattle.std.specs.Prelude.{Option, Some, None, IsSome, Result, Ok, Err, false}
 use Rattle.std.specs.Option.{option_map}
 use Rattle.std.specs.Borrow.{GName}
 use Rattle.ei_spec.specs.Piece.{Piece}
+use Rattle.ei_backend.specs.Outside.{Rose}
 use Rattle.ei_backend.specs.declared.outside.Fault.{Fault}
 use Rattle.ei_backend.specs.declared.outside.LastAnswer.{LastAnswer}
 use Rattle.ei_backend.specs.declared.outside.LastAnswer.TheVariants as answers
-use Rattle.reis_lines.specs.Text.{has_newline, pieces_of, bad_line_of, number_from}
+use Rattle.reis_lines.specs.Text.{has_newline, before_newline, Spell, pieces_of, bad_line_of, number_from}
 use Rattle.reis_lines.specs.Held.{Moves}
 use Rattle.reis_lines.specs.declared.hex_source.HexSource.{HexSource}
 
@@ -48,6 +49,12 @@ abbrev pub joined_lines : List (List ℕ) → List ℕ
 joined_lines [] = []
 joined_lines (l ∷ ls) = l ++ joined_lines ls
 
+-- Each line ends with its newline, and has no other; but a last one may have none where nothing follows.
+abbrev pub AreLines : List (List ℕ) → List ℕ → Type 0
+AreLines [] rest = Unit {0}
+AreLines (l ∷ ls) rest =
+    ((l ≡ before_newline l ++ 10 ∷ []) × AreLines ls rest) ⊎ ((0 < length l) × (l ≡ before_newline l) × (ls ≡ []) × (rest ≡ []))
+
 -- The unread text, the bytes held and then the text left, is these lines, handed out as these pieces, and the text unread now.
 -- The lines' number is counted, up to its last value, and the first bad line keeps its number.
 pub record LaterText (held text held_new : List ℕ) (left : Option (List ℕ)) (line line_new : ℕ) : Type 0 where
@@ -56,17 +63,21 @@ pub record LaterText (held text held_new : List ℕ) (left : Option (List ℕ)) 
   pub rest : List ℕ
   pub left_is : left ≡ Some rest
   pub same : held ++ text ≡ joined_lines lines ++ (held_new ++ rest)
-  pub one_each : length pieces ≡ length lines
+  pub are_lines : AreLines lines (held_new ++ rest)
+  pub spelled : Spell (map before_newline lines) pieces
   pub handed : pieces_of (held ++ text) ≡ pieces ++ pieces_of (held_new ++ rest)
   pub grown : min line_new (2 ^ 64 - 1) ≡ min (line + length lines) (2 ^ 64 - 1)
   pub bad : number_from line (bad_line_of (held ++ text)) ≡ number_from line_new (bad_line_of (held_new ++ rest))
 
 -- A reading goes on: a bad line stays the one that was met, and its number is that of the first bad line of the text that was unread.
--- No piece is left from then on.
-pub record LaterReading {I : Type 0} (text : I → Option (List ℕ)) (later : I → I → Type 0) (x y : Reading I) : Type 0 where
+-- No piece is left from then on. The input's count of faults has not fallen, nor that of the faults for the bad line.
+pub record LaterReading {I : Type 0} (text : I → Option (List ℕ)) (faults : I → ℕ) (later : I → I → Type 0) (x y : Reading I) : Type 0 where
   pub input : later x.input y.input
+  pub count : faults x.input ≤ faults y.input
   pub kept : (n : ℕ) → x.bad ≡ Some n → y.bad ≡ Some n
   pub unmet : y.bad ≡ None → (x.bad ≡ None) × (x.bad_faults ≡ y.bad_faults)
+  pub met : x.bad ≡ None → (n : ℕ) → y.bad ≡ Some n → Rose x.bad_faults y.bad_faults
+  pub bad_count : x.bad_faults ≤ y.bad_faults
   pub number : x.bad ≡ None → (n : ℕ) → y.bad ≡ Some n → (t : List ℕ) → text x.input ≡ Some t → number_from x.line (bad_line_of (x.held ++ t)) ≡ Some n
   pub spent : x.bad ≡ None → (n : ℕ) → y.bad ≡ Some n → (t : List ℕ) → text x.input ≡ Some t → left_of text y ≡ Some []
   pub lines : (t : List ℕ) → text x.input ≡ Some t → LaterText x.held t y.held (text y.input) x.line y.line
@@ -85,9 +96,9 @@ abbrev pub EndsTruly : {I : Type 0} → (I → Option (List ℕ)) → Reading I 
 EndsTruly text r last = last ≡ answers.End → (t : List ℕ) → text r.input ≡ Some t → IsAtEnd (r.held ++ t)
 
 -- the same input is borrowed still, its reading went on, and the last answer stays true
-pub record LaterSource {I : Type 0} (text : I → Option (List ℕ)) (later : I → I → Type 0) (x y : HexSource I) : Type 0 where
+pub record LaterSource {I : Type 0} (text : I → Option (List ℕ)) (faults : I → ℕ) (later : I → I → Type 0) (x y : HexSource I) : Type 0 where
   pub same_reference : reference_of x ≡ reference_of y
-  pub reading : LaterReading text later (text_reading x) (text_reading y)
+  pub reading : LaterReading text faults later (text_reading x) (text_reading y)
   pub truly : AnswersTruly (text_reading x) (answer_of x) → AnswersTruly (text_reading y) (answer_of y)
   pub ends : (t : List ℕ) → text (text_reading x).input ≡ Some t → EndsTruly text (text_reading x) (answer_of x) → EndsTruly text (text_reading y) (answer_of y)
 

@@ -1,12 +1,13 @@
 -- Readings of a source go on: in no step, and in two steps as in one. These are proofs; they stand here since the
 -- ghost members of `HexSource` name them, and such a member names nothing of its own crate but what stands in `specs`.
-use Rattle.std.specs.Prelude.{◌≡◌, ◌⊎◌, ℕ, List, [], ◌∷◌, ◌++◌, length, Option, Some, None, refl}
+use Rattle.std.specs.Prelude.{◌≡◌, ◌⊎◌, ℕ, List, [], ◌∷◌, ◌++◌, length, map, Option, Some, None, refl}
 use Rattle.std.specs.Option.{option_map}
-use Rattle.std.proofs.Common.{◌∙◌, sym, ap, append_assoc, arith, length-append, inl, inr}
+use Rattle.std.proofs.Common.{◌∙◌, sym, ap, append_assoc, arith, length-append, inl, inr, subst}
+use Rattle.ei_backend.specs.Outside.{Rose}
 use Rattle.ei_spec.specs.Piece.{Piece}
-use Rattle.reis_lines.specs.Text.{pieces_of, bad_line_of, number_from}
+use Rattle.reis_lines.specs.Text.{before_newline, piece_of_line, Spell, pieces_of, bad_line_of, number_from}
 use Rattle.reis_lines.specs.Held.{Moves}
-use Rattle.reis_lines.specs.HexSource.{Reading, text_reading, left_of, joined_lines, LaterText, LaterReading, LaterSource}
+use Rattle.reis_lines.specs.HexSource.{Reading, text_reading, left_of, joined_lines, AreLines, LaterText, LaterReading, LaterSource}
 use Rattle.reis_lines.specs.declared.hex_source.HexSource.{HexSource}
 
 joined_lines-append : (a b : List (List ℕ)) → joined_lines (a ++ b) ≡ joined_lines a ++ joined_lines b
@@ -21,29 +22,62 @@ LaterText-none held text held_new left line m = record {
   rest = m.rest;
   left_is = m.left_is;
   same = m.same;
-  one_each = refl;
+  are_lines = tt;
+  spelled = refl;
   handed = ap pieces_of m.same;
   grown = omega arith;
   bad = ap (λ t. number_from line (bad_line_of t)) m.same;
 }
 
-LaterReading-refl : {I : Type 0} (text : I → Option (List ℕ)) (later : I → I → Type 0) → ((x : I) → later x x) → (x : Reading I) → x.bad ≡ x.bad → LaterReading text later x x
-LaterReading-refl text later r x same = record {
+LaterReading-refl : {I : Type 0} (text : I → Option (List ℕ)) (faults : I → ℕ) (later : I → I → Type 0) → ((x : I) → later x x) → (x : Reading I) → x.bad ≡ x.bad → LaterReading text faults later x x
+LaterReading-refl text faults later r x same = record {
   input = r x.input;
+  count = omega arith;
   kept = λ n is. is;
   unmet = λ none. (none, refl);
+  met = λ none n is. cc;
+  bad_count = omega arith;
   number = λ none n is t told. cc;
   spent = λ none n is t told. cc;
   lines = λ t told. LaterText-none x.held t x.held (text x.input) x.line (record { rest = t; left_is = told; same = refl });
 }
 
-pub LaterSource-refl : {I : Type 0} (text : I → Option (List ℕ)) (later : I → I → Type 0) → ((x : I) → later x x) → (x : HexSource I) → LaterSource text later x x
-LaterSource-refl text later r x = record {
+pub LaterSource-refl : {I : Type 0} (text : I → Option (List ℕ)) (faults : I → ℕ) (later : I → I → Type 0) → ((x : I) → later x x) → (x : HexSource I) → LaterSource text faults later x x
+LaterSource-refl text faults later r x = record {
   same_reference = refl;
-  reading = LaterReading-refl text later r (text_reading x) refl;
+  reading = LaterReading-refl text faults later r (text_reading x) refl;
   truly = λ true. true;
   ends = λ t told true. true;
 }
+
+pub none_behind : {A : Type 0} (a b : List A) → a ++ b ≡ [] → b ≡ []
+none_behind [] b e = e
+none_behind (p ∷ a) b e = cc
+
+-- no line is empty
+no_lines : (ls : List (List ℕ)) (rest : List ℕ) → AreLines ls rest → joined_lines ls ++ rest ≡ [] → ls ≡ []
+no_lines [] rest w none = refl
+no_lines (l ∷ ls) rest (inl w) none =
+    absurd (omega (arith, ap length none, length-append (l ++ joined_lines ls) rest, length-append l (joined_lines ls), ap length w.0, length-append (before_newline l) (10 ∷ [])))
+no_lines (l ∷ ls) rest (inr w) none =
+    absurd (omega (arith, ap length none, length-append (l ++ joined_lines ls) rest, length-append l (joined_lines ls), w.0))
+
+-- lines in front of lines
+AreLines-append : (a b : List (List ℕ)) (rest : List ℕ) → AreLines a (joined_lines b ++ rest) → AreLines b rest → AreLines (a ++ b) rest
+AreLines-append [] b rest w v = v
+AreLines-append (l ∷ a) b rest (inl w) v = inl (w.0, AreLines-append a b rest w.1 v)
+AreLines-append (l ∷ a) b rest (inr w) v =
+    let none = no_lines b rest v w.3 in
+    inr (w.0, w.1, ap (λ (t : List (List ℕ)). t ++ b) w.2 ∙ none, none_behind (joined_lines b) rest w.3)
+
+map-append : {A B : Type 0} (f : A → B) (a b : List A) → map f (a ++ b) ≡ map f a ++ map f b
+map-append f [] b = refl
+map-append f (x ∷ a) b = ap (λ t. f x ∷ t) (map-append f a b)
+
+Spell-append : (a b : List (List ℕ)) (p q : List Piece) → Spell (map before_newline a) p → Spell (map before_newline b) q → Spell (map before_newline (a ++ b)) (p ++ q)
+Spell-append a b p q s t =
+    ap (map piece_of_line) (map-append before_newline a b) ∙ map-append piece_of_line (map before_newline a) (map before_newline b)
+    ∙ ap (λ v. v ++ map piece_of_line (map before_newline b)) s ∙ ap (λ v. map (λ (x : Piece). Some x) p ++ v) t ∙ sym (map-append (λ (x : Piece). Some x) p q)
 
 LaterText-trans : (a t b u c : List ℕ) (mid left : Option (List ℕ)) (i j k : ℕ) (p : LaterText a t b mid i j) → p.rest ≡ u → LaterText b u c left j k → LaterText a t c left i k
 LaterText-trans a t b u c mid left i j k p is q = record {
@@ -54,7 +88,8 @@ LaterText-trans a t b u c mid left i j k p is q = record {
   same = p.same ∙ ap (λ v. joined_lines p.lines ++ (b ++ v)) is ∙ ap (λ v. joined_lines p.lines ++ v) q.same
       ∙ sym (append_assoc (joined_lines p.lines) (joined_lines q.lines) (c ++ q.rest))
       ∙ ap (λ v. v ++ (c ++ q.rest)) (sym (joined_lines-append p.lines q.lines));
-  one_each = omega (arith, p.one_each, q.one_each, length-append p.lines q.lines, length-append p.pieces q.pieces);
+  are_lines = AreLines-append p.lines q.lines (c ++ q.rest) (subst (AreLines p.lines) (ap (λ v. b ++ v) is ∙ q.same) p.are_lines) q.are_lines;
+  spelled = Spell-append p.lines q.lines p.pieces q.pieces p.spelled q.spelled;
   handed = p.handed ∙ ap (λ v. p.pieces ++ pieces_of (b ++ v)) is ∙ ap (λ v. p.pieces ++ v) q.handed ∙ sym (append_assoc p.pieces q.pieces (pieces_of (c ++ q.rest)));
   grown = omega (arith, p.grown, q.grown, length-append p.lines q.lines);
   bad = p.bad ∙ ap (λ v. number_from j (bad_line_of (b ++ v))) is ∙ q.bad;
@@ -64,9 +99,9 @@ some_or_none : (o : Option ℕ) → (o ≡ None) ⊎ ((n : ℕ) × (o ≡ Some n
 some_or_none None = inl refl
 some_or_none (Some n) = inr (n, refl)
 
-number_on : {I : Type 0} (text : I → Option (List ℕ)) (later : I → I → Type 0) (x y z : Reading I) → LaterReading text later x y → LaterReading text later y z →
+number_on : {I : Type 0} (text : I → Option (List ℕ)) (faults : I → ℕ) (later : I → I → Type 0) (x y z : Reading I) → LaterReading text faults later x y → LaterReading text faults later y z →
     x.bad ≡ None → (n : ℕ) → z.bad ≡ Some n → (t : List ℕ) → text x.input ≡ Some t → number_from x.line (bad_line_of (x.held ++ t)) ≡ Some n
-number_on text later x y z a b none n is t told =
+number_on text faults later x y z a b none n is t told =
     let p = a.lines t told in
     elim (some_or_none y.bad) [
       | inl unmet ↦ p.bad ∙ b.number unmet n is p.rest p.left_is
@@ -76,16 +111,20 @@ number_on text later x y z a b none n is t told =
           here ∙ sym still ∙ is
     ]
 
-none_behind : (a b : List Piece) → a ++ b ≡ [] → b ≡ []
-none_behind [] b e = e
-none_behind (p ∷ a) b e = cc
+met_on : {I : Type 0} (text : I → Option (List ℕ)) (faults : I → ℕ) (later : I → I → Type 0) (x y z : Reading I) → LaterReading text faults later x y → LaterReading text faults later y z →
+    x.bad ≡ None → (n : ℕ) → z.bad ≡ Some n → Rose x.bad_faults z.bad_faults
+met_on text faults later x y z a b none n is =
+    elim (some_or_none y.bad) [
+      | inl unmet ↦ omega (arith, (a.unmet unmet).1, b.met unmet n is)
+      | inr met ↦ omega (arith, a.met none met.0 met.1, b.bad_count)
+    ]
 
 none_of_some : (pieces : List Piece) → Some pieces ≡ Some [] → pieces ≡ []
 none_of_some pieces e = cc
 
-spent_on : {I : Type 0} (text : I → Option (List ℕ)) (later : I → I → Type 0) (x y z : Reading I) → LaterReading text later x y → LaterReading text later y z →
+spent_on : {I : Type 0} (text : I → Option (List ℕ)) (faults : I → ℕ) (later : I → I → Type 0) (x y z : Reading I) → LaterReading text faults later x y → LaterReading text faults later y z →
     x.bad ≡ None → (n : ℕ) → z.bad ≡ Some n → (t : List ℕ) → text x.input ≡ Some t → left_of text z ≡ Some []
-spent_on text later x y z a b none n is t told =
+spent_on text faults later x y z a b none n is t told =
     let p = a.lines t told in
     elim (some_or_none y.bad) [
       | inl unmet ↦ b.spent unmet n is p.rest p.left_is
@@ -95,25 +134,28 @@ spent_on text later x y z a b none n is t told =
           ap (option_map (λ v. pieces_of (z.held ++ v))) q.left_is ∙ ap (λ v. Some v) (none_behind q.pieces (pieces_of (z.held ++ q.rest)) (sym q.handed ∙ gone))
     ]
 
-LaterReading-trans : {I : Type 0} (text : I → Option (List ℕ)) (later : I → I → Type 0) → ((x y z : I) → later x y → later y z → later x z) →
-    (x y z : Reading I) → LaterReading text later x y → LaterReading text later y z → LaterReading text later x z
-LaterReading-trans text later r x y z a b = record {
+LaterReading-trans : {I : Type 0} (text : I → Option (List ℕ)) (faults : I → ℕ) (later : I → I → Type 0) → ((x y z : I) → later x y → later y z → later x z) →
+    (x y z : Reading I) → LaterReading text faults later x y → LaterReading text faults later y z → LaterReading text faults later x z
+LaterReading-trans text faults later r x y z a b = record {
   input = r x.input y.input z.input a.input b.input;
+  count = omega (arith, a.count, b.count);
   kept = λ n is. b.kept n (a.kept n is);
   unmet = λ none. let k = b.unmet none in let h = a.unmet k.0 in (h.0, h.1 ∙ k.1);
-  number = number_on text later x y z a b;
-  spent = spent_on text later x y z a b;
+  met = met_on text faults later x y z a b;
+  bad_count = omega (arith, a.bad_count, b.bad_count);
+  number = number_on text faults later x y z a b;
+  spent = spent_on text faults later x y z a b;
   lines = λ t told.
       let p = a.lines t told in
       let q = b.lines p.rest p.left_is in
       LaterText-trans x.held t y.held p.rest z.held (text y.input) (text z.input) x.line y.line z.line p refl q;
 }
 
-pub LaterSource-trans : {I : Type 0} (text : I → Option (List ℕ)) (later : I → I → Type 0) → ((x y z : I) → later x y → later y z → later x z) →
-    (x y z : HexSource I) → LaterSource text later x y → LaterSource text later y z → LaterSource text later x z
-LaterSource-trans text later r x y z a b = record {
+pub LaterSource-trans : {I : Type 0} (text : I → Option (List ℕ)) (faults : I → ℕ) (later : I → I → Type 0) → ((x y z : I) → later x y → later y z → later x z) →
+    (x y z : HexSource I) → LaterSource text faults later x y → LaterSource text faults later y z → LaterSource text faults later x z
+LaterSource-trans text faults later r x y z a b = record {
   same_reference = a.same_reference ∙ b.same_reference;
-  reading = LaterReading-trans text later r (text_reading x) (text_reading y) (text_reading z) a.reading b.reading;
+  reading = LaterReading-trans text faults later r (text_reading x) (text_reading y) (text_reading z) a.reading b.reading;
   truly = λ true. b.truly (a.truly true);
   ends = λ t told true. let p = a.reading.lines t told in b.ends p.rest p.left_is (a.ends t told true);
 }

@@ -1,6 +1,6 @@
 -- The pieces that a text spells, a line each.
-use Rattle.std.specs.Prelude.{ℕ, ◌+◌, ◌-◌, ◌^◌, min, ◌==◌, ◌||◌, nat_lt, Bool, false, if◌then◌else◌, List, [], ◌∷◌, ◌++◌, length, Option, Some, None, Result}
-use Rattle.std.specs.Prelude.{Ok, Err}
+use Rattle.std.specs.Prelude.{◌≡◌, ◌⊎◌, ℕ, ◌+◌, ◌-◌, ◌^◌, min, ◌==◌, ◌||◌, nat_lt, Bool, false, if◌then◌else◌}
+use Rattle.std.specs.Prelude.{List, [], ◌∷◌, ◌++◌, length, take, map, Option, Some, None, Result, Ok, Err}
 use Rattle.std.specs.Option.{option_map}
 use Rattle.hex.specs.Hex.{decode_of}
 use Rattle.hex.specs.declared.error.FromHexError.{FromHexError}
@@ -68,3 +68,31 @@ bad_line_of text = bad_line_of_lines (split text)
 -- a line's number behind so many lines, up to the last value of the number
 abbrev pub number_from : ℕ → Option ℕ → Option ℕ
 number_from line o = option_map (λ n. min (line + n) (2 ^ 64 - 1)) o
+
+-- ---- a text that was given in part
+
+-- the bytes in front of the first newline
+abbrev pub before_newline : List ℕ → List ℕ
+before_newline [] = []
+before_newline (b ∷ bs) = if b == 10 then [] else b ∷ before_newline bs
+
+-- the piece that a line spells
+abbrev pub piece_of_line : List ℕ → Option Piece
+piece_of_line line = option_map (λ bytes. record { bytes = bytes; handles = [] }) (line_bytes line)
+
+-- what these lines spell, one by one, are these pieces
+abbrev pub Spell : List (List ℕ) → List Piece → Type 0
+Spell lines pieces = map piece_of_line lines ≡ map (λ p. Some p) pieces
+
+-- the lines that a newline ends: all but what stands behind the last one
+abbrev pub whole_lines : List ℕ → List (List ℕ)
+whole_lines text = take (length (split text) - 1) (split text)
+
+-- Of a text these are the pieces of the whole lines that were given, each of which spells one.
+-- A last line without a newline is whole where all of the text was given, and that it ends there.
+pub record AreGiven (text : List ℕ) (left : Option (List ℕ)) (pieces : List Piece) : Type 0 where
+  pub rest : List ℕ
+  pub left_is : left ≡ Some rest
+  pub given : List ℕ
+  pub text_is : text ≡ given ++ rest
+  pub spelled : Spell (whole_lines given) pieces ⊎ ((rest ≡ []) × Spell (split text) pieces)

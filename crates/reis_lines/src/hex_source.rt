@@ -46,6 +46,7 @@ fn decode_line(line: &[u8], bytes: &mut [u8]) -> Option<usize>
 
 impl<'a, I: Input> HexSource<'a, I> {
     ghost use Rattle.ei_backend.specs.Outside.{HasCause};
+    ghost use Rattle.ei_backend.specs.Memory.{counted};
     ghost use Rattle.ei_backend.specs.declared.outside.LastAnswer.TheVariants as answers;
     ghost use Rattle.reis_lines.specs.HexSource.{reference_of, text_reading, answer_of, fresh, faults_of, LaterReading, NextPiece, IsAtEnd};
 
@@ -103,8 +104,10 @@ impl<'a, I: Input> HexSource<'a, I> {
         ensures refused { IsSome (text_reading self.old).bad → IsErr result × ((text_reading self.new).input ≡ (text_reading self.old).input) }
         ensures cause { HasCause (faults_of I.faults (text_reading self.old)) (faults_of I.faults (text_reading self.new)) result }
         ensures input_cause { (text_reading self.new).bad ≡ None → HasCause (I.faults (text_reading self.old).input) (I.faults (text_reading self.new).input) result }
+        ensures counted { (n : ℕ) → (text_reading self.new).bad ≡ Some n →
+            faults_of I.faults (text_reading self.new) ≡ I.faults (text_reading self.old).input + counted (text_reading self.old).bad_faults }
         ensures same_reference { reference_of self.new ≡ reference_of self.old }
-        ensures later { LaterReading I.text I.later (text_reading self.old) (text_reading self.new) }
+        ensures later { LaterReading I.text I.faults I.later (text_reading self.old) (text_reading self.new) }
     {
         if self.bad.is_some() {
             self.bad_faults = self.bad_faults.saturating_add(1);
@@ -132,7 +135,8 @@ impl<'a, I: Input> HexSource<'a, I> {
 }
 
 impl<'a, I: Input> Source for HexSource<'a, I> {
-    ghost use Rattle.std.specs.Prelude.{◌≡◌, ◌≤◌, ℕ, Some, None, length, IfOk, IsErr, true};
+    ghost use Rattle.std.specs.Prelude.{◌≡◌, ◌≤◌, ◌+◌, ℕ, Some, None, length, IfOk, IsErr, true};
+    ghost use Rattle.ei_backend.specs.Memory.{counted};
     ghost use Rattle.ei_backend.specs.Outside.{Piece, HasCause, IsPieceSize, TakesTold, last_of};
     ghost use Rattle.reis_lines.specs.Text.{has_newline};
     ghost use Rattle.reis_lines.specs.HexSource.{text_reading, answer_of, left_of, faults_of, LaterSource};
@@ -144,11 +148,11 @@ impl<'a, I: Input> Source for HexSource<'a, I> {
 
     ghost last = { λ s. answer_of s };
 
-    ghost later = { λ x y. LaterSource I.text I.later x y };
+    ghost later = { λ x y. LaterSource I.text I.faults I.later x y };
 
-    ghost later_refl = { λ x. LaterSource-refl I.text I.later I.later_refl x };
+    ghost later_refl = { λ x. LaterSource-refl I.text I.faults I.later I.later_refl x };
 
-    ghost later_trans = { λ x y z a b. LaterSource-trans I.text I.later I.later_trans x y z a b };
+    ghost later_trans = { λ x y z a b. LaterSource-trans I.text I.faults I.later I.later_trans x y z a b };
 
     fn take(&mut self, bytes: &mut [u8], _handles: &mut [Handle]) -> Result<Taken, Fault>
         requires room { MOST_PIECE_BYTES ≤ length bytes.old }
@@ -157,12 +161,14 @@ impl<'a, I: Input> Source for HexSource<'a, I> {
         ensures pieces { TakesTold (left_of I.text (text_reading self.old)) (left_of I.text (text_reading self.new)) result bytes.new _handles.new }
         ensures cause { HasCause (faults_of I.faults (text_reading self.old)) (faults_of I.faults (text_reading self.new)) result }
         ensures last { answer_of self.new ≡ last_of result }
-        ensures later { LaterSource I.text I.later self.old self.new }
+        ensures later { LaterSource I.text I.faults I.later self.old self.new }
         // the input isn't asked while a whole line is held, nor behind a bad line
         ensures unasked { has_newline (text_reading self.old).held ≡ true → (text_reading self.new).input ≡ (text_reading self.old).input }
         ensures refused { (n : ℕ) → (text_reading self.old).bad ≡ Some n →
             IsErr result × ((text_reading self.new).input ≡ (text_reading self.old).input) }
-        // where no bad line was met, a fault is the input's
+        // a bad line counts one fault at each call, and where none was met a fault is the input's
+        ensures counted { (n : ℕ) → (text_reading self.new).bad ≡ Some n →
+            faults_of I.faults (text_reading self.new) ≡ I.faults (text_reading self.old).input + counted (text_reading self.old).bad_faults }
         ensures input_cause { (text_reading self.new).bad ≡ None → HasCause (I.faults (text_reading self.old).input) (I.faults (text_reading self.new).input) result }
     {
         match self.next_piece(bytes) {

@@ -3,8 +3,8 @@ use Rattle.std.specs.Prelude.{ℕ, List, ◌++◌}
 use Rattle.reis_report.specs.RequestLine.{seat_field, device_field, input_fields, number_field, signed_field, word_field, truth_field, state_field, bytes_field}
 use Rattle.reis_report.specs.declared.fields.Field.{Field}
 use Rattle.reis_report.specs.declared.fields.Field.TheVariants as field
-use Rattle.reis_report.specs.declared.request_line.Line.{Line}
-use Rattle.reis_report.specs.declared.request_line.Line.TheVariants as line
+use Rattle.reis_report.specs.declared.requests.Line.{Line}
+use Rattle.reis_report.specs.declared.requests.Line.TheVariants as line
 
 -- the text of a field
 abbrev pub field_text : Field → List ℕ

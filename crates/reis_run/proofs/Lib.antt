@@ -1,4 +1,4 @@
 pub mod TellLaws
 pub mod SessionLaws
-pub mod ReadFaults
+pub mod ReportLaws
 pub mod WordLaws

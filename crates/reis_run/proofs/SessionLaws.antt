@@ -1,7 +1,7 @@
--- The session over the pieces of a text, and the report of it.
-use Rattle.std.proofs.Common.{◌≡◌, ◌≤◌, ◌<◌, ◌⊎◌, inl, inr, ℕ, Bool, true, List, [], ◌∷◌, ◌++◌, ◌-◌, false, length, take, drop, Option, Some, None, Result, Err, refl}
-use Rattle.std.proofs.Common.{sym, ap, ◌∙◌, subst, arith}
-use Rattle.std.proofs.lemmas.List.{append-nil, length-drop}
+-- What a session over the lines of an input came to.
+use Rattle.std.proofs.Common.{◌≡◌, ◌≤◌, ◌<◌, ◌⊎◌, inl, inr, ℕ, Bool, true, List, [], ◌∷◌, ◌++◌, ◌-◌, false, length, take, drop, Option, Some, None}
+use Rattle.std.proofs.Common.{Result, Ok, Err, refl, sym, ap, ◌∙◌, subst, arith, length-append}
+use Rattle.std.proofs.lemmas.List.{append-nil, length-drop, take_at}
 use Rattle.std.specs.Prelude.{map, IsErrOf, IsSome}
 use Rattle.std.specs.Option.{option_map}
 use Rattle.ei_spec.specs.Message.{Raw}
@@ -11,24 +11,27 @@ use Rattle.ei_spec.specs.Groups.{grouped}
 use Rattle.ei_session.specs.Setup.{Setup}
 use Rattle.ei_session.specs.Requests.{framed}
 use Rattle.ei_session.specs.Handshake.{connected}
+use Rattle.ei_session.specs.Refusals.{Refusal}
+use Rattle.ei_session.specs.Served.{Answer, Disconnect, End, UnexpectedEof, IdsExhausted, PieceLimit, HandleLimit, Refused}
 use Rattle.ei_session.specs.Served.{Outcome, at_end, read_first_by, session, accepted, read_first, is_over}
 use Rattle.ei_session.proofs.AllParts.{session_end}
-use Rattle.ei_backend.specs.Memory.{TrayView}
 use Rattle.ei_backend.specs.Outside.{Rose, with_more}
 use Rattle.ei_standing.specs.Standing.{request_in_code}
 use Rattle.ei_request.specs.declared.event.EisRequest.{EisRequest}
 use Rattle.ei_serve.specs.declared.session.Ended.{Ended as HowEnded}
-use Rattle.ei_serve.specs.Serving.{AnswersAs, IsDecided, IsCutShort, AreReadings, HandsOut, Replied, Handled, RepliedAtLeast, CutShort}
+use Rattle.ei_serve.specs.declared.session.Ended.TheVariants as ended
+use Rattle.ei_serve.specs.Refusing.{refusal_of, IsRefused}
+use Rattle.ei_serve.specs.Serving.{AnswersAs, IsDecided, IsCutShort, IsSourceEnd, AreReadings, HandsOut, Replied, LeftReadings, Handled, RepliedAtLeast, CutShort}
 use Rattle.ei_types.specs.declared.error.Error.{Error}
 use Rattle.ei_types.specs.declared.error.Error.TheVariants as error
 use Rattle.ei_backend.specs.declared.outside.LastAnswer.TheVariants as answers
-use Rattle.reis_lines.specs.HexSource.{Reading, text_reading, answer_of, fresh, left_of, faults_of, LaterReading, LaterSource, IsAtEnd}
+use Rattle.reis_lines.specs.HexSource.{Reading, text_reading, answer_of, fresh, left_of, faults_of, LaterReading, LaterSource, IsAtEnd, AnswersTruly, EndsTruly}
 use Rattle.reis_lines.specs.declared.hex_source.HexSource.{HexSource}
-use Rattle.reis_report.specs.Report.{Holds}
-use Rattle.reis_run.specs.Run.{report_of, status_of, HasBadLine, Tells}
-use Rattle.reis_lines.specs.Text.{pieces_of, bad_line_of, number_from}
-use Rattle.reis_run.specs.SessionReport.{AreRequests, reply_bytes, AreOf, AreOfTaken, AreOfFirst, pieces_left, TellsSession, TellsTaken, TellsAll, IsPiecesEnd}
-use Rattle.reis_run.proofs.ReadFaults.{only_read_fault}
+use Rattle.reis_lines.specs.Text.{has_newline, pieces_of, bad_line_of, number_from, AreGiven}
+use Rattle.reis_lines.proofs.GivenLaws.{are_given}
+use Rattle.reis_run.specs.Session.{end_behind, end_of, EndsAs, last_line_of, IsDecidedLine, IsAnswered, IsReadFault, IsCutShortLine}
+use Rattle.reis_run.specs.Session.{HandledGiven, pieces_left, reply_bytes}
+use Rattle.reis_run.specs.declared.session.LastLine.TheVariants as last_line
 
 -- ---- the source
 
@@ -36,16 +39,50 @@ use Rattle.reis_run.proofs.ReadFaults.{only_read_fault}
 pub told_at_first : {I : Type 0} (text : I → Option (List ℕ)) (r : Reading I) (input : I) (t : List ℕ) → r ≡ fresh input → text input ≡ Some t → left_of text r ≡ Some (pieces_of t)
 told_at_first text r input t e told = ap (left_of text) e ∙ ap (option_map pieces_of) told
 
--- what is left to the source is what is left of the input's text, behind the bytes held
-pub handled_left : {I : Type 0} (text : I → Option (List ℕ)) (r : Reading I) (after : I) (setup : Setup) (pieces : List Piece) (readings : Option (List ℕ)) (old new : List EisRequest) (took_old took_new : Option Piece) →
-    after ≡ r.input → Handled setup pieces (left_of text r) readings old new took_old took_new → (unread : List ℕ) × Handled setup pieces (pieces_left unread (text after)) readings old new took_old took_new
-handled_left {I} text r after setup pieces readings old new took_old took_new same h =
-    (r.held, subst (λ (i : I). Handled setup pieces (pieces_left r.held (text i)) readings old new took_old took_new) (sym same) h)
+-- how a source over a fresh input went on, behind an answer of the session
+pub record Went {I : Type 0} (text : I → Option (List ℕ)) (faults : I → ℕ) (later : I → I → Type 0) (input after : I) (y : HexSource I) (answer : Result HowEnded Error) : Type 0 where
+  pub reading : LaterReading text faults later (fresh input) (text_reading y)
+  pub same : after ≡ (text_reading y).input
+  pub truly : AnswersTruly (text_reading y) (answer_of y)
+  pub ends : (t : List ℕ) → text input ≡ Some t → EndsTruly text (text_reading y) (answer_of y)
+  pub risen : faults_of faults (fresh input) < faults_of faults (text_reading y) → IsErrOf answer error.ReadFault
+  pub rose : IsErrOf answer error.ReadFault → Rose (faults_of faults (fresh input)) (faults_of faults (text_reading y))
+  pub last_end : IsSourceEnd answer → answer_of y ≡ answers.End
+  pub last_fault : IsErrOf answer error.ReadFault → answer_of y ≡ answers.Fault
 
-pub cut_left : {I : Type 0} (text : I → Option (List ℕ)) (r : Reading I) (after : I) (setup : Setup) (pieces : List Piece) (readings : Option (List ℕ)) (old new : List EisRequest) (took_old took_new : Option Piece) →
-    after ≡ r.input → CutShort setup pieces (left_of text r) readings old new took_old took_new → (unread : List ℕ) × CutShort setup pieces (pieces_left unread (text after)) readings old new took_old took_new
-cut_left {I} text r after setup pieces readings old new took_old took_new same h =
-    (r.held, subst (λ (i : I). CutShort setup pieces (pieces_left r.held (text i)) readings old new took_old took_new) (sym same) h)
+pub went : {I : Type 0} (text : I → Option (List ℕ)) (faults : I → ℕ) (later : I → I → Type 0) (input after : I) (x y : HexSource I) (answer : Result HowEnded Error) →
+    text_reading x ≡ fresh input → answer_of x ≡ answers.Nothing → LaterSource text faults later x y → after ≡ (text_reading y).input →
+    (faults_of faults (text_reading x) < faults_of faults (text_reading y) → IsErrOf answer error.ReadFault) →
+    (IsErrOf answer error.ReadFault → Rose (faults_of faults (text_reading x)) (faults_of faults (text_reading y))) →
+    (IsSourceEnd answer → answer_of y ≡ answers.End) → (IsErrOf answer error.ReadFault → answer_of y ≡ answers.Fault) →
+    Went text faults later input after y answer
+went {I} text faults later input after x y answer new unasked l same risen rose last_end last_fault = record {
+  reading = subst (λ (v : Reading I). LaterReading text faults later v (text_reading y)) new l.reading;
+  same = same;
+  truly = l.truly (record { ends = λ e. absurd cc; fails = λ e. absurd cc });
+  ends = λ t told. l.ends t (ap (λ (v : Reading I). text v.input) new ∙ told) (λ e. absurd cc);
+  risen = subst (λ (v : Reading I). faults_of faults v < faults_of faults (text_reading y) → IsErrOf answer error.ReadFault) new risen;
+  rose = subst (λ (v : Reading I). IsErrOf answer error.ReadFault → Rose (faults_of faults v) (faults_of faults (text_reading y))) new rose;
+  last_end = last_end;
+  last_fault = last_fault;
+}
+
+-- a session has a read fault where a bad line was met
+met_fault : {I : Type 0} (text : I → Option (List ℕ)) (faults : I → ℕ) (later : I → I → Type 0) (input after : I) (y : HexSource I) (answer : Result HowEnded Error) (n : ℕ) →
+    Went text faults later input after y answer → (text_reading y).bad ≡ Some n → IsErrOf answer error.ReadFault
+met_fault text faults later input after y answer n w is = w.risen (omega (arith, w.reading.count, w.reading.met refl n is))
+
+-- and where none was met, the input failed
+unmet_rose : {I : Type 0} (text : I → Option (List ℕ)) (faults : I → ℕ) (later : I → I → Type 0) (input after : I) (y : HexSource I) (answer : Result HowEnded Error) →
+    Went text faults later input after y answer → (text_reading y).bad ≡ None → IsErrOf answer error.ReadFault → Rose (faults input) (faults after)
+unmet_rose {I} text faults later input after y answer w none e =
+    let same : 0 ≡ (text_reading y).bad_faults = (w.reading.unmet none).1 in
+    subst (λ (a : I). Rose (faults input) (faults a)) (sym w.same) (omega (arith, w.rose e, same))
+
+-- the input's count of faults has not fallen
+pub went_count : {I : Type 0} (text : I → Option (List ℕ)) (faults : I → ℕ) (later : I → I → Type 0) (input after : I) (y : HexSource I) (answer : Result HowEnded Error) →
+    Went text faults later input after y answer → faults input ≤ faults after
+went_count {I} text faults later input after y answer w = subst (λ (a : I). faults input ≤ faults a) (sym w.same) w.reading.count
 
 none_at_end : (text : List ℕ) → IsAtEnd text → bad_line_of text ≡ None
 unfolding bad_line_of
@@ -57,20 +94,93 @@ no_number : (line : ℕ) (o : Option ℕ) → number_from line o ≡ None → Is
 no_number line None e some = cc
 no_number line (Some n) e some = cc
 
--- a source over a fresh input came to its end where no line of the text is bad
-pub no_bad_line : {I : Type 0} (text : I → Option (List ℕ)) (later : I → I → Type 0) (x y : HexSource I) (input : I) (t : List ℕ) → text_reading x ≡ fresh input → answer_of x ≡ answers.Nothing →
-    LaterSource text later x y → text input ≡ Some t → answer_of y ≡ answers.End → HasBadLine (text input) → ⊥
-no_bad_line {I} text later x y input t new unasked l told end bad =
-    let r : LaterReading text later (fresh input) (text_reading y) = subst (λ (v : Reading I). LaterReading text later v (text_reading y)) new l.reading in
-    let p = r.lines t told in
-    let here : IsAtEnd (y.held ++ p.rest) = l.ends t (ap (λ (v : Reading I). text v.input) new ∙ told) (λ e. absurd cc) end p.rest p.left_is in
-    no_number 0 (bad_line_of t) (p.bad ∙ ap (number_from y.line) (none_at_end (y.held ++ p.rest) here)) (bad t told)
+-- at the source's end no line of the text was bad
+no_bad_line : {I : Type 0} (text : I → Option (List ℕ)) (faults : I → ℕ) (later : I → I → Type 0) (input after : I) (y : HexSource I) (answer : Result HowEnded Error) (t : List ℕ) (n : ℕ) →
+    Went text faults later input after y answer → text input ≡ Some t → IsSourceEnd answer → number_from 0 (bad_line_of t) ≡ Some n → ⊥
+no_bad_line text faults later input after y answer t n w told end bad =
+    let p = w.reading.lines t told in
+    let here : IsAtEnd (y.held ++ p.rest) = w.ends t told (w.last_end end) p.rest p.left_is in
+    let none = p.bad ∙ ap (number_from y.line) (none_at_end (y.held ++ p.rest) here) in
+    absurd cc
 
--- the input counted a fault, or a line is bad and no piece is left
-rose_or_spent : {I : Type 0} (text : I → Option (List ℕ)) (later : I → I → Type 0) (faults : I → ℕ) (input : I) (y : Reading I) (bad : Option ℕ) (t : List ℕ) → y.bad ≡ bad → text input ≡ Some t →
-    LaterReading text later (fresh input) y → Rose (faults_of faults (fresh input)) (faults_of faults y) → Rose (faults input) (faults y.input) ⊎ (left_of text y ≡ Some [])
-rose_or_spent text later faults input y None t none told l rose = let same : 0 ≡ y.bad_faults = (l.unmet none).1 in inl (omega (arith, rose, same))
-rose_or_spent text later faults input y (Some n) t met told l rose = inr (l.spent refl n met t told)
+-- ---- the answer
+
+refused_other : (o : Option Refusal) (a : Answer) → IsRefused o a → ((r : Refusal) → a ≡ Refused r → ⊥) → ⊥
+refused_other None a s not = s
+refused_other (Some r) a s not = not r s
+
+-- the answers at the source's end
+abbrev IsLast : Answer → Type 0
+IsLast End = Unit {0}
+IsLast UnexpectedEof = Unit {0}
+IsLast a = ⊥
+
+last_not_refused : (a : Answer) → IsLast a → (r : Refusal) → a ≡ Refused r → ⊥
+last_not_refused End l r e = cc
+last_not_refused UnexpectedEof l r e = cc
+last_not_refused Disconnect l r e = l
+last_not_refused IdsExhausted l r e = l
+last_not_refused PieceLimit l r e = l
+last_not_refused HandleLimit l r e = l
+last_not_refused (Refused q) l r e = l
+
+last_not : (a b : Answer) → IsLast a → a ≡ b → (IsLast b → ⊥) → ⊥
+last_not a b l e not = not (subst IsLast e l)
+
+source_end : (a : Answer) (answer : Result HowEnded Error) → IsLast a → AnswersAs a answer → IsDecided answer → IsSourceEnd answer
+source_end a (Ok ended.Disconnect) l s d = absurd (last_not a Disconnect l s (λ n. n))
+source_end a (Ok ended.End) l s d = tt
+source_end a (Err error.UnexpectedEof) l s d = tt
+source_end a (Err error.PieceLimit) l s d = absurd (last_not a PieceLimit l s (λ n. n))
+source_end a (Err error.HandleLimit) l s d = absurd (last_not a HandleLimit l s (λ n. n))
+source_end a (Err error.IdsExhausted) l s d = absurd (last_not a IdsExhausted l s (λ n. n))
+source_end a (Err error.ReadFault) l s d = absurd d
+source_end a (Err error.WriteFault) l s d = absurd d
+source_end a (Err error.NoMemory) l s d = absurd d
+source_end a (Err error.UnexpectedHandshakeEvent) l s d = absurd s
+source_end a (Err error.MessageTooLong) l s d = absurd s
+source_end a (Err (error.Event e)) l s d = absurd s
+source_end a (Err (error.InvalidInterfaceVersion name n)) l s d = absurd (refused_other (refusal_of (error.InvalidInterfaceVersion name n)) a s (last_not_refused a l))
+source_end a (Err (error.Request e)) l s d = absurd (refused_other (refusal_of (error.Request e)) a s (last_not_refused a l))
+source_end a (Err (error.Parse e)) l s d = absurd (refused_other (refusal_of (error.Parse e)) a s (last_not_refused a l))
+source_end a (Err (error.Handshake e)) l s d = absurd (refused_other (refusal_of (error.Handshake e)) a s (last_not_refused a l))
+
+-- the session's answer, where no line was bad at the source's end
+answered : (a : Answer) (bad : Option ℕ) (answer : Result HowEnded Error) → AnswersAs a answer → IsDecided answer →
+    ((n : ℕ) → bad ≡ Some n → IsSourceEnd answer → ⊥) → EndsAs (end_behind a bad) (last_line.Answer answer)
+answered End None answer s d none = s
+answered End (Some n) answer s d none = absurd (none n refl (source_end End answer tt s d))
+answered UnexpectedEof None answer s d none = s
+answered UnexpectedEof (Some n) answer s d none = absurd (none n refl (source_end UnexpectedEof answer tt s d))
+answered Disconnect bad answer s d none = s
+answered IdsExhausted bad answer s d none = s
+answered PieceLimit bad answer s d none = s
+answered HandleLimit bad answer s d none = s
+answered (Refused r) bad answer s d none = s
+
+-- the pieces came to their end
+abbrev IsPiecesEnd : Answer → Type 0
+IsPiecesEnd a = IsLast a
+
+some_same : (n m : ℕ) → Some n ≡ Some m → n ≡ m
+some_same n m e = cc
+
+none_or_some : (n : ℕ) → None ≡ Some n → ⊥
+none_or_some n e = cc
+
+-- the bad line, where the pieces came to their end
+ended_bad : (a : Answer) (bad : Option ℕ) (n : ℕ) → IsLast a → bad ≡ Some n → EndsAs (end_behind a bad) (last_line.BadLine n)
+ended_bad End (Some m) n l e = some_same m n e
+ended_bad End None n l e = absurd (none_or_some n e)
+ended_bad UnexpectedEof (Some m) n l e = some_same m n e
+ended_bad UnexpectedEof None n l e = absurd (none_or_some n e)
+ended_bad Disconnect bad n l e = absurd l
+ended_bad IdsExhausted bad n l e = absurd l
+ended_bad PieceLimit bad n l e = absurd l
+ended_bad HandleLimit bad n l e = absurd l
+ended_bad (Refused r) bad n l e = absurd l
+
+-- ---- all pieces were taken
 
 accepted_first : (setup : Setup) (pieces : List Piece) (k : ℕ) → (read_first setup pieces k).past ≡ accepted setup (stream (take k pieces))
 unfolding read_first_by
@@ -96,18 +206,6 @@ all_of_handled : (setup : Setup) (pieces : List Piece) (left : Option (List Piec
 all_of_handled setup pieces left readings old new took_old took_new none h =
     subst (λ (ms : List Raw). Both setup ms readings old new took_old took_new) (all_handled setup pieces h.k h.took.within (none_behind_k left (drop h.k pieces) h.took.left_is none) h.goes_on) (h.requests, h.replies)
 
--- behind a read fault the input counted a fault, or the session handled the messages of all pieces
-pub rose_or_all : {I : Type 0} (text : I → Option (List ℕ)) (later : I → I → Type 0) (faults : I → ℕ) (input after : I) (x y : Reading I) (t : List ℕ) (setup : Setup) (readings : Option (List ℕ)) (old new : List EisRequest) (took_old took_new : Option Piece) →
-    x ≡ fresh input → LaterReading text later x y → after ≡ y.input → text input ≡ Some t → Rose (faults_of faults x) (faults_of faults y) → Handled setup (pieces_of t) (left_of text y) readings old new took_old took_new →
-    Rose (faults input) (faults after) ⊎ Both setup (session setup (pieces_of t)).handled readings old new took_old took_new
-rose_or_all {I} text later faults input after x y t setup readings old new took_old took_new e l same told rose h =
-    elim (rose_or_spent text later faults input y y.bad t refl told (subst (λ (r : Reading I). LaterReading text later r y) e l) (subst (λ (r : Reading I). Rose (faults_of faults r) (faults_of faults y)) e rose)) [
-      | inl up ↦ inl (subst (λ (a : I). Rose (faults input) (faults a)) (sym same) up)
-      | inr none ↦ inr (all_of_handled setup (pieces_of t) (left_of text y) readings old new took_old took_new none h)
-    ]
-
--- ---- the pieces ended first
-
 pieces_end : (past : List Raw) (b : Bool) → connected past ≡ b → IsPiecesEnd (at_end past).answer
 pieces_end past true c = rw c tt
 pieces_end past false c = rw c tt
@@ -122,21 +220,111 @@ ended_of_handled : (setup : Setup) (pieces : List Piece) (left : Option (List Pi
     Handled setup pieces left readings old new took_old took_new → IsPiecesEnd (session setup pieces).answer
 ended_of_handled setup pieces left readings old new took_old took_new none h = ends_first setup pieces h.k h.took.within (none_behind_k left (drop h.k pieces) h.took.left_is none) h.goes_on
 
--- behind a read fault the input counted a fault, or the pieces came to their end with the session not over
-pub rose_or_ended : {I : Type 0} (text : I → Option (List ℕ)) (later : I → I → Type 0) (faults : I → ℕ) (input after : I) (x y : Reading I) (t : List ℕ) (setup : Setup) (readings : Option (List ℕ)) (old new : List EisRequest) (took_old took_new : Option Piece) →
-    x ≡ fresh input → LaterReading text later x y → after ≡ y.input → text input ≡ Some t → Rose (faults_of faults x) (faults_of faults y) → Handled setup (pieces_of t) (left_of text y) readings old new took_old took_new →
-    Rose (faults input) (faults after) ⊎ IsPiecesEnd (session setup (pieces_of t)).answer
-rose_or_ended {I} text later faults input after x y t setup readings old new took_old took_new e l same told rose h =
-    elim (rose_or_spent text later faults input y y.bad t refl told (subst (λ (r : Reading I). LaterReading text later r y) e l) (subst (λ (r : Reading I). Rose (faults_of faults r) (faults_of faults y)) e rose)) [
-      | inl up ↦ inl (subst (λ (a : I). Rose (faults input) (faults a)) (sym same) up)
-      | inr none ↦ inr (ended_of_handled setup (pieces_of t) (left_of text y) readings old new took_old took_new none h)
-    ]
+-- ---- what a session says
 
--- status 3 is that of a read fault alone
-pub three_is : (a : Result HowEnded Error) (n : ℕ) → (n ≡ status_of a) ⊎ (n ≡ 4) ⊎ (n ≡ 5) → n ≡ 3 → a ≡ Err error.ReadFault
-three_is a n (inl s) e = only_read_fault a (sym s ∙ e)
-three_is a n (inr (inl s)) e = absurd (omega (arith, s, e))
-three_is a n (inr (inr s)) e = absurd (omega (arith, s, e))
+-- what a session says of the pieces that its source told
+pub record Says (setup : Setup) (pieces : List Piece) (left : Option (List Piece)) (readings readings_left : Option (List ℕ)) (answer : Result HowEnded Error) (old new : List EisRequest) (took_old took_new : Option Piece) : Type 0 where
+  pub answers : AnswersAs (session setup pieces).answer answer
+  pub gives : IsDecided answer → HandsOut setup (session setup pieces).handled readings old new
+  pub replied : IsDecided answer → Replied setup (session setup pieces).handled took_old took_new
+  pub clock : IsDecided answer → LeftReadings setup (session setup pieces).handled readings readings_left
+  pub handled : IsErrOf answer error.ReadFault → Handled setup pieces left readings old new took_old took_new
+  pub cut : IsCutShort answer → CutShort setup pieces left readings old new took_old took_new
+
+-- the same over a source that went on, and the bad line that it met
+pub record Served {I : Type 0} (text : I → Option (List ℕ)) (faults : I → ℕ) (later : I → I → Type 0) (input after : I) (y : HexSource I) (setup : Setup) (t : List ℕ) (readings readings_left : Option (List ℕ)) (answer : Result HowEnded Error) (old new : List EisRequest) (took_old took_new : Option Piece) : Type 0 where
+  pub went : Went text faults later input after y answer
+  pub told : text input ≡ Some t
+  pub says : Says setup (pieces_of t) (left_of text (text_reading y)) readings readings_left answer old new took_old took_new
+
+pub line_ends : {I : Type 0} (text : I → Option (List ℕ)) (faults : I → ℕ) (later : I → I → Type 0) (input after : I) (y : HexSource I) (setup : Setup) (t : List ℕ) (readings readings_left : Option (List ℕ)) (answer : Result HowEnded Error) (old new : List EisRequest) (took_old took_new : Option Piece) (bad : Option ℕ) →
+    Served text faults later input after y setup t readings readings_left answer old new took_old took_new → bad ≡ (text_reading y).bad →
+    IsDecidedLine (last_line_of bad answer) → EndsAs (end_of setup t) (last_line_of bad answer)
+line_ends text faults later input after y setup t readings readings_left answer old new took_old took_new None s is d =
+    answered (session setup (pieces_of t)).answer (number_from 0 (bad_line_of t)) answer s.says.answers d (λ n bad end. no_bad_line text faults later input after y answer t n s.went s.told end bad)
+line_ends text faults later input after y setup t readings readings_left answer old new took_old took_new (Some n) s is d =
+    let fault = met_fault text faults later input after y answer n s.went (sym is) in
+    let last = ended_of_handled setup (pieces_of t) (left_of text (text_reading y)) readings old new took_old took_new (s.went.reading.spent refl n (sym is) t s.told) (s.says.handled fault) in
+    ended_bad (session setup (pieces_of t)).answer (number_from 0 (bad_line_of t)) n last (s.went.reading.number refl n (sym is) t s.told)
+
+pub line_handles : {I : Type 0} (text : I → Option (List ℕ)) (faults : I → ℕ) (later : I → I → Type 0) (input after : I) (y : HexSource I) (setup : Setup) (t : List ℕ) (readings readings_left : Option (List ℕ)) (answer : Result HowEnded Error) (old new : List EisRequest) (took_old took_new : Option Piece) (bad : Option ℕ) →
+    Served text faults later input after y setup t readings readings_left answer old new took_old took_new → bad ≡ (text_reading y).bad →
+    IsDecidedLine (last_line_of bad answer) → Both setup (session setup (pieces_of t)).handled readings old new took_old took_new
+line_handles text faults later input after y setup t readings readings_left answer old new took_old took_new None s is d = (s.says.gives d, s.says.replied d)
+line_handles text faults later input after y setup t readings readings_left answer old new took_old took_new (Some n) s is d =
+    let fault = met_fault text faults later input after y answer n s.went (sym is) in
+    all_of_handled setup (pieces_of t) (left_of text (text_reading y)) readings old new took_old took_new (s.went.reading.spent refl n (sym is) t s.told) (s.says.handled fault)
+
+pub line_clock : {I : Type 0} (text : I → Option (List ℕ)) (faults : I → ℕ) (later : I → I → Type 0) (input after : I) (y : HexSource I) (setup : Setup) (t : List ℕ) (readings readings_left : Option (List ℕ)) (answer : Result HowEnded Error) (old new : List EisRequest) (took_old took_new : Option Piece) (bad : Option ℕ) →
+    Served text faults later input after y setup t readings readings_left answer old new took_old took_new → IsAnswered (last_line_of bad answer) → LeftReadings setup (session setup (pieces_of t)).handled readings readings_left
+line_clock text faults later input after y setup t readings readings_left answer old new took_old took_new None s d = s.says.clock d
+line_clock text faults later input after y setup t readings readings_left answer old new took_old took_new (Some n) s d = absurd d
+
+pub line_cut : {I : Type 0} (text : I → Option (List ℕ)) (faults : I → ℕ) (later : I → I → Type 0) (input after : I) (y : HexSource I) (setup : Setup) (t : List ℕ) (readings readings_left : Option (List ℕ)) (answer : Result HowEnded Error) (old new : List EisRequest) (took_old took_new : Option Piece) (bad : Option ℕ) →
+    Served text faults later input after y setup t readings readings_left answer old new took_old took_new → IsCutShortLine (last_line_of bad answer) →
+    (unread : List ℕ) × CutShort setup (pieces_of t) (pieces_left unread (text after)) readings old new took_old took_new
+line_cut {I} text faults later input after y setup t readings readings_left answer old new took_old took_new None s d =
+    (y.held, subst (λ (i : I). CutShort setup (pieces_of t) (pieces_left y.held (text i)) readings old new took_old took_new) (sym s.went.same) (s.says.cut d))
+line_cut text faults later input after y setup t readings readings_left answer old new took_old took_new (Some n) s d = absurd d
+
+answer_same : (answer : Result HowEnded Error) → last_line.Answer answer ≡ last_line.Answer (Err error.ReadFault) → answer ≡ Err error.ReadFault
+answer_same answer e = cc
+
+bad_not_answer : (n : ℕ) (answer : Result HowEnded Error) → last_line.BadLine n ≡ last_line.Answer answer → ⊥
+bad_not_answer n answer e = cc
+
+pub line_fault : {I : Type 0} (text : I → Option (List ℕ)) (faults : I → ℕ) (later : I → I → Type 0) (input after : I) (y : HexSource I) (answer : Result HowEnded Error) (bad : Option ℕ) →
+    Went text faults later input after y answer → bad ≡ (text_reading y).bad → IsReadFault (last_line_of bad answer) → Rose (faults input) (faults after)
+line_fault text faults later input after y answer None w is e = unmet_rose text faults later input after y answer w (sym is) (answer_same answer e)
+line_fault text faults later input after y answer (Some n) w is e = absurd (bad_not_answer n (Err error.ReadFault) e)
+
+-- ---- what was given
+
+-- of all pieces the first k were taken, and these are left behind them
+record FirstTaken (all first : List Piece) (k : ℕ) : Type 0 where
+  pub number : k ≡ length first
+  pub same : take k all ≡ first
+
+first_taken : (all first behind : List Piece) (k : ℕ) → k ≤ length all → all ≡ first ++ behind → drop k all ≡ behind → FirstTaken all first k
+first_taken all first behind k within whole left =
+    let n : k ≡ length first = omega (arith, within, ap length whole, length-append first behind, ap length left, length-drop k all) in
+    record { number = n; same = ap (take k) whole ∙ take_at first behind k (sym n) }
+
+pieces_same : (a b : List Piece) → Some a ≡ Some b → a ≡ b
+pieces_same a b e = cc
+
+quiet_held : (held : List ℕ) (bad : Option ℕ) → (has_newline held ≡ false) ⊎ IsSome bad → bad ≡ None → has_newline held ≡ false
+quiet_held held bad (inl q) none = q
+quiet_held held None (inr some) none = absurd cc
+quiet_held held (Some n) (inr some) none = absurd cc
+
+given_of : {I : Type 0} (text : I → Option (List ℕ)) (faults : I → ℕ) (later : I → I → Type 0) (input after : I) (y : HexSource I) (setup : Setup) (t : List ℕ) (readings readings_left : Option (List ℕ)) (answer : Result HowEnded Error) (old new : List EisRequest) (took_old took_new : Option Piece) →
+    Served text faults later input after y setup t readings readings_left answer old new took_old took_new → (text_reading y).bad ≡ None → IsErrOf answer error.ReadFault →
+    HandledGiven setup t (text after) readings old new took_old took_new
+given_of {I} text faults later input after y setup t readings readings_left answer old new took_old took_new s none e =
+    let w = s.went in
+    let quiet = quiet_held y.held (text_reading y).bad (w.truly.fails (w.last_fault e)) none in
+    let p = w.reading.lines t s.told in
+    let h = s.says.handled e in
+    let behind = pieces_of (y.held ++ p.rest) in
+    let left : drop h.k (pieces_of t) ≡ behind =
+    pieces_same (drop h.k (pieces_of t)) behind (sym h.took.left_is ∙ ap (option_map (λ (v : List ℕ). pieces_of (y.held ++ v))) p.left_is) in
+    let f = first_taken (pieces_of t) p.pieces behind h.k h.took.within p.handed left in
+    record {
+      pieces = p.pieces;
+      given = subst (λ (i : I). AreGiven t (text i) p.pieces) (sym w.same) (are_given t y.held (text (text_reading y).input) 0 y.line p quiet);
+      first = (behind, p.handed);
+      goes_on = λ j low high. h.goes_on j low (omega (arith, high, f.number));
+      requests = subst (λ (v : List Piece). HandsOut setup (accepted setup (stream v)) readings old new) f.same h.requests;
+      replies = subst (λ (v : List Piece). Replied setup (accepted setup (stream v)) took_old took_new) f.same h.replies;
+    }
+
+pub line_given : {I : Type 0} (text : I → Option (List ℕ)) (faults : I → ℕ) (later : I → I → Type 0) (input after : I) (y : HexSource I) (setup : Setup) (t : List ℕ) (readings readings_left : Option (List ℕ)) (answer : Result HowEnded Error) (old new : List EisRequest) (took_old took_new : Option Piece) (bad : Option ℕ) →
+    Served text faults later input after y setup t readings readings_left answer old new took_old took_new → bad ≡ (text_reading y).bad → IsReadFault (last_line_of bad answer) →
+    HandledGiven setup t (text after) readings old new took_old took_new
+line_given text faults later input after y setup t readings readings_left answer old new took_old took_new None s is e =
+    given_of text faults later input after y setup t readings readings_left answer old new took_old took_new s (sym is) (answer_same answer e)
+line_given text faults later input after y setup t readings readings_left answer old new took_old took_new (Some n) s is e = absurd (bad_not_answer n (Err error.ReadFault) e)
 
 -- ---- nothing was handled
 
@@ -177,125 +365,3 @@ nothing_handled setup text left readings out took told =
         replied = none_replied setup (pieces_of text) took;
       },
     )
-
--- ---- what is kept of the session
-
--- a tray that took nothing
-abbrev pub empty_tray : TrayView
-empty_tray = record { held = record { bytes = []; handles = [] }; fails = []; calls = 0; faults = 0; wants = 0 }
-
-requests_of : (setup : Setup) (messages : List Raw) (readings : Option (List ℕ)) (old new requests : List EisRequest) → HandsOut setup messages readings old new → old ≡ [] → requests ≡ new → AreRequests setup messages readings requests
-requests_of setup messages readings old new requests h none same = record {
-  readings = h.readings;
-  told_so = h.told_so;
-  framed_is = same ∙ h.grown ∙ ap (λ (x : List EisRequest). x ++ map (request_in_code messages) (framed setup h.readings messages)) none;
-}
-
-held_is : (a b : Piece) → Some a ≡ Some b → a.bytes ≡ b.bytes
-held_is a b e = cc
-
-bytes_are : (tray : TrayView) (new : Piece) (more reply : List ℕ) → Some new ≡ Some (with_more more [] tray.held) → tray ≡ empty_tray → reply ≡ new.bytes → reply ≡ more
-bytes_are tray new more reply e empty same = same ∙ held_is new (with_more more [] tray.held) e ∙ ap (λ (t : TrayView). t.held.bytes ++ more) empty
-
--- the tray and the requests behind a session, and what is read of them
-pub record Kept (tray : TrayView) (new : Piece) (reply : List ℕ) (old out requests : List EisRequest) : Type 0 where
-  pub empty : tray ≡ empty_tray
-  pub reply_same : reply ≡ new.bytes
-  pub none : old ≡ []
-  pub requests_same : requests ≡ out
-
-are_of : (setup : Setup) (messages : List Raw) (readings : Option (List ℕ)) (tray : TrayView) (new : Piece) (reply : List ℕ) (old out requests : List EisRequest) → Kept tray new reply old out requests →
-    HandsOut setup messages readings old out → Replied setup messages (Some tray.held) (Some new) → AreOf setup messages readings reply requests
-are_of setup messages readings tray new reply old out requests k h r = record {
-  reply_is = bytes_are tray new (reply_bytes setup messages) reply (r tray.held refl) k.empty k.reply_same;
-  requests_are = requests_of setup messages readings old out requests h k.none k.requests_same;
-}
-
-pub are_of_taken : (setup : Setup) (pieces : List Piece) (left : Option (List ℕ)) (readings : Option (List ℕ)) (tray : TrayView) (new : Piece) (reply : List ℕ) (old out requests : List EisRequest) → Kept tray new reply old out requests →
-    (unread : List ℕ) × Handled setup pieces (pieces_left unread left) readings old out (Some tray.held) (Some new) → AreOfTaken setup pieces left readings reply requests
-are_of_taken setup pieces left readings tray new reply old out requests k w =
-    let h = w.1 in
-    record {
-      k = h.k;
-      unread = w.0;
-      took = h.took;
-      goes_on = h.goes_on;
-      are_of = are_of setup (accepted setup (stream (take h.k pieces))) readings tray new reply old out requests k h.requests h.replies;
-    }
-
-are_of_first : (setup : Setup) (pieces : List Piece) (left : Option (List ℕ)) (readings : Option (List ℕ)) (tray : TrayView) (new : Piece) (reply : List ℕ) (old out requests : List EisRequest) → Kept tray new reply old out requests →
-    (unread : List ℕ) × CutShort setup pieces (pieces_left unread left) readings old out (Some tray.held) (Some new) → AreOfFirst setup pieces left readings reply requests
-are_of_first setup pieces left readings tray new reply old out requests k w =
-    let h = w.1 in
-    let r = h.replies tray.held refl in
-    record {
-      k = h.k;
-      unread = w.0;
-      took = h.took;
-      reached = h.reached;
-      ahead = h.ahead;
-      owed = h.owed;
-      reply_is = (r.0, bytes_are tray new (take r.0 (reply_bytes setup h.reached)) reply r.1 k.empty k.reply_same);
-      replied = λ some.
-          let more = h.replied some tray.held refl in
-          (more.0, bytes_are tray new (reply_bytes setup (accepted setup (stream (take (h.k - 1) pieces))) ++ more.0) reply more.1 k.empty k.reply_same);
-      requests_are = requests_of setup h.reached readings old out requests h.requests k.none k.requests_same;
-    }
-
--- ---- the report
-
--- what a session says of what it keeps
-pub record Says (setup : Setup) (pieces : List Piece) (left : Option (List ℕ)) (readings : Option (List ℕ)) (answer : Result HowEnded Error) (tray : TrayView) (new : Piece) (old out : List EisRequest) : Type 0 where
-  pub answers : AnswersAs (session setup pieces).answer answer
-  pub gives : IsDecided answer → HandsOut setup (session setup pieces).handled readings old out
-  pub replied : IsDecided answer → Replied setup (session setup pieces).handled (Some tray.held) (Some new)
-  pub handled : IsErrOf answer error.ReadFault → (unread : List ℕ) × Handled setup pieces (pieces_left unread left) readings old out (Some tray.held) (Some new)
-  pub cut : IsCutShort answer → (unread : List ℕ) × CutShort setup pieces (pieces_left unread left) readings old out (Some tray.held) (Some new)
-
-pub tells_session : (setup : Setup) (pieces : List Piece) (left : Option (List ℕ)) (readings : Option (List ℕ)) (answer : Result HowEnded Error) (tray : TrayView) (new : Piece) (reply : List ℕ) (old out requests : List EisRequest) (held : Piece) (result : ℕ) (now : Option Piece) →
-    Says setup pieces left readings answer tray new old out → Kept tray new reply old out requests → Tells (status_of answer) (report_of reply requests answer) held result now → TellsSession setup pieces left readings held result now
-tells_session setup pieces left readings answer tray new reply old out requests held result now s k told = record {
-  answer = answer;
-  reply = reply;
-  requests = requests;
-  answer_is = s.answers;
-  decided = λ d. are_of setup (session setup pieces).handled readings tray new reply old out requests k (s.gives d) (s.replied d);
-  failed = λ e. are_of_taken setup pieces left readings tray new reply old out requests k (s.handled e);
-  cut_short = λ e. are_of_first setup pieces left readings tray new reply old out requests k (s.cut e);
-  told = told;
-}
-
-all_told : (status result : ℕ) (text : List ℕ) (held : Piece) (now : Option Piece) → Tells status text held result now → result ≡ 3 → (status ≡ 3) × Holds held text now
-all_told status result text held now (inl t) e = (sym t.0 ∙ e, t.1)
-all_told status result text held now (inr (inl failed, front)) e = absurd (omega (arith, failed, e))
-all_told status result text held now (inr (inr none, front)) e = absurd (omega (arith, none, e))
-
--- status 3: a read fault was told
-fault_told : (answer : Result HowEnded Error) (reply : List ℕ) (requests : List EisRequest) (held : Piece) (result : ℕ) (now : Option Piece) → Tells (status_of answer) (report_of reply requests answer) held result now → result ≡ 3 →
-    (answer ≡ Err error.ReadFault) × Holds held (report_of reply requests (Err error.ReadFault)) now
-fault_told answer reply requests held result now tells e =
-    let all = all_told (status_of answer) result (report_of reply requests answer) held now tells e in
-    let fault = only_read_fault answer all.0 in
-    (fault, subst (λ (a : Result HowEnded Error). Holds held (report_of reply requests a) now) fault all.1)
-
-pub tells_taken : (setup : Setup) (pieces : List Piece) (left : Option (List ℕ)) (readings : Option (List ℕ)) (answer : Result HowEnded Error) (reply : List ℕ) (requests : List EisRequest) (held : Piece) (result : ℕ) (now : Option Piece) →
-    (IsErrOf answer error.ReadFault → AreOfTaken setup pieces left readings reply requests) → Tells (status_of answer) (report_of reply requests answer) held result now → result ≡ 3 → TellsTaken setup pieces left readings held now
-tells_taken setup pieces left readings answer reply requests held result now are tells e =
-    let told = fault_told answer reply requests held result now tells e in
-    record { reply = reply; requests = requests; are_of = are told.0; told = told.1 }
-
-pub tells_all : (F : Type 0) (setup : Setup) (pieces : List Piece) (readings : Option (List ℕ)) (answer : Result HowEnded Error) (tray : TrayView) (new : Piece) (reply : List ℕ) (old out requests : List EisRequest) (held : Piece) (result : ℕ) (now : Option Piece) →
-    (IsErrOf answer error.ReadFault → F ⊎ Both setup (session setup pieces).handled readings old out (Some tray.held) (Some new)) → Kept tray new reply old out requests →
-    Tells (status_of answer) (report_of reply requests answer) held result now → result ≡ 3 → F ⊎ TellsAll setup pieces readings held now
-tells_all F setup pieces readings answer tray new reply old out requests held result now all k tells e =
-    let told = fault_told answer reply requests held result now tells e in
-    elim (all told.0) [
-      | inl failed ↦ inl failed
-      | inr both ↦ inr (record { reply = reply; requests = requests; are_of = are_of setup (session setup pieces).handled readings tray new reply old out requests k both.0 both.1; told = told.1 })
-    ]
-
--- ---- the words
-
--- what is so of a setup is so of the same one
-pub of_same : (P : Setup → Type 0) (given setup : Setup) → P given → given ≡ setup → P setup
-of_same P given setup so same = subst P same so

@@ -1,14 +1,10 @@
 -- Lines of requests, one after another, and the report that is told.
-use Rattle.std.proofs.Common.{◌≡◌, ℕ, ◌+◌, ◌<◌, List, [], ◌∷◌, ◌++◌, length, take, get_or, refl, sym, ap, ◌∙◌, append_assoc, subst}
+use Rattle.std.proofs.Common.{◌≡◌, ℕ, ◌+◌, ◌<◌, List, [], ◌∷◌, ◌++◌, length, take, get_or, refl, sym, ap, ◌∙◌, append_assoc}
 use Rattle.std.proofs.lemmas.List.{append-nil, take_more}
-use Rattle.std.specs.Prelude.{Option, Result}
-use Rattle.ei_types.specs.declared.error.Error.{Error}
-use Rattle.ei_backend.specs.Outside.{Piece}
 use Rattle.ei_request.specs.declared.event.EisRequest.{EisRequest}
-use Rattle.ei_serve.specs.declared.session.Ended.{Ended}
 use Rattle.reis_report.specs.Report.{line_of}
 use Rattle.reis_report.specs.RequestLine.{request_text}
-use Rattle.reis_run.specs.Run.{request_lines, report_of, status_of, Tells, TellsReport}
+use Rattle.reis_run.specs.Tell.{request_lines}
 
 request_lines-append : (a b : List EisRequest) → request_lines (a ++ b) ≡ request_lines a ++ request_lines b
 request_lines-append [] b = refl
@@ -30,13 +26,3 @@ line_more before mid line new rs i d has lt is puts =
     ∙ ap (λ (t : List ℕ). t ++ line_of (request_text (get_or rs i d))) has
     ∙ append_assoc before (request_lines (take i rs)) (line_of (request_text (get_or rs i d)))
     ∙ ap (λ (t : List ℕ). before ++ t) (sym (request_lines_more rs i d lt))
-
--- the report of a session was told, with the status of how it ended
-pub tells_report : (held : Piece) (status : ℕ) (text : List ℕ) (result : ℕ) (now : Option Piece) (reply : List ℕ) (requests : List EisRequest) (answer : Result Ended Error) →
-    Tells status text held result now → text ≡ report_of reply requests answer → status ≡ status_of answer → TellsReport held result now
-tells_report held status text result now reply requests answer tells text_is status_is = record {
-  reply = reply;
-  requests = requests;
-  answer = answer;
-  told = subst (λ (s : ℕ). Tells s (report_of reply requests answer) held result now) status_is (subst (λ (t : List ℕ). Tells status t held result now) text_is tells);
-}

@@ -1,4 +1,5 @@
-pub mod Run
-pub mod SessionReport
-pub mod Words
+pub mod Asked
+pub mod Session
 pub mod StdIo
+pub mod Tell
+pub mod Words

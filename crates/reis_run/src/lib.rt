@@ -4,9 +4,11 @@
 //! of the system.
 #![tactic(auto)]
 
-mod run;
+mod program;
+mod session;
 pub mod std_io;
+mod tell;
 mod words;
 
-pub use run::{NO_MEMORY, run};
+pub use program::{NO_MEMORY, run};
 pub use words::USAGE;

@@ -14,11 +14,18 @@ pub const USAGE: &str =
 /// The largest set of capabilities: seven bits.
 const CAPABILITIES: u32 = 127;
 
+/// The most groups of a generated stream.
+const GROUPS: u32 = 100_000;
+
 /// What the program is to do.
 #[derive(Clone, Copy, Debug, PartialEq, Eq)]
 pub(crate) enum Command {
     /// Serve with this first serial, these capabilities, and at most so many pieces.
     Serve(u32, u32, u32),
+    /// Serve so, and trace the replies.
+    Trace(u32, u32, u32),
+    /// Serve the generated stream of so many groups, made of the numbers after this start.
+    Demo(u32, u32),
 }
 
 fn all_digits(text: &[u8]) -> bool
@@ -66,6 +73,20 @@ impl Command {
                 let capabilities = number(capabilities.as_str(), CAPABILITIES)?;
                 let pieces = number(pieces.as_str(), u32::MAX)?;
                 Some(Command::Serve(serial, capabilities, pieces))
+            }
+            [name, serial, capabilities, pieces] if name.as_str() == "trace" => {
+                let serial = number(serial.as_str(), u32::MAX)?;
+                let capabilities = number(capabilities.as_str(), CAPABILITIES)?;
+                let pieces = number(pieces.as_str(), u32::MAX)?;
+                Some(Command::Trace(serial, capabilities, pieces))
+            }
+            [name, groups, start] if name.as_str() == "demo" => {
+                let groups = number(groups.as_str(), GROUPS)?;
+                let start = number(start.as_str(), u32::MAX)?;
+                if groups == 0 {
+                    return None;
+                }
+                Some(Command::Demo(groups, start))
             }
             _ => None,
         }

@@ -11,8 +11,11 @@ returns-then-is_some-clause-later g c =
     let some : is_some c.args.self.now.bad ≡ true = cc in
     record {
       input = g.met.I.Input.later_refl _;
+      count = omega arith;
       kept = λ n is. is;
       unmet = λ none. absurd (some_not_none _ some none);
+      met = λ none. absurd (some_not_none _ some none);
+      bad_count = omega (arith, c.saturating_add-self.ensures);
       number = λ none. absurd (some_not_none _ some none);
       spent = λ none. absurd (some_not_none _ some none);
       lines = λ t told. LaterText-none _ t _ _ _ (record { rest = t; left_is = told; same = refl });
@@ -21,8 +24,11 @@ returns-then-is_some-clause-later g c =
 pub returns-in_err-found-clause-later : goal.returns-in_err-found-clause-later
 returns-in_err-found-clause-later g c = record {
   input = c.in_err-found.ensures.later;
+  count = c.in_err-found.ensures.cause.later;
   kept = λ n is. is;
   unmet = λ none. (none, refl);
+  met = λ none n is. absurd (not_both _ n none is);
+  bad_count = omega arith;
   number = λ none n is t told. absurd (not_both _ n none is);
   spent = λ none n is t told. absurd (not_both _ n none is);
   lines = λ t told. LaterText-none _ t _ _ _ (c.in_err-found.ensures.text t told);
@@ -31,8 +37,11 @@ returns-in_err-found-clause-later g c = record {
 pub returns-then-count-eq0-clause-later : goal.returns-then-count-eq0-clause-later
 returns-then-count-eq0-clause-later g c = record {
   input = c.in_ok-found.ensures.later;
+  count = c.in_ok-found.ensures.cause.later;
   kept = λ n is. is;
   unmet = λ none. (none, refl);
+  met = λ none n is. absurd (not_both _ n none is);
+  bad_count = omega arith;
   number = λ none n is t told. absurd (not_both _ n none is);
   spent = λ none n is t told. absurd (not_both _ n none is);
   lines = λ t told. LaterText-none _ t _ _ _ (c.in_ok-found.ensures.text t told);
@@ -57,8 +66,11 @@ returns-in-Some-clause-pieces g c = λ text told.
 pub returns-in-Some-clause-later : goal.returns-in-Some-clause-later
 returns-in-Some-clause-later g c = record {
   input = c.in_ok-found.ensures.later;
+  count = c.in_ok-found.ensures.cause.later;
   kept = λ n is. is;
   unmet = λ none. (none, refl);
+  met = λ none n is. absurd (not_both _ n none is);
+  bad_count = omega arith;
   number = λ none n is t told. absurd (not_both _ n none is);
   spent = λ none n is t told. absurd (not_both _ n none is);
   lines = λ text told.
@@ -76,8 +88,11 @@ returns-in-None-clause-later g c =
     let unmet : c.args.self.now.bad ≡ None = none_if_not_some _ (sym c.is_some.ensures ∙ c.if-is_some.false) in
     record {
       input = c.in_ok-found.ensures.later;
+      count = c.in_ok-found.ensures.cause.later;
       kept = λ n is. absurd (not_both _ n unmet is);
       unmet = λ none. absurd (not_both _ _ none refl);
+      met = λ none n is. omega (arith, c.saturating_add-self-in-None.ensures);
+      bad_count = omega (arith, c.saturating_add-self-in-None.ensures);
       number = λ none n is text told.
           let found = c.in_ok-found.found in
           let m = c.in_ok-found.ensures.text text told in

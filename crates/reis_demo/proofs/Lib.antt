@@ -1,0 +1,8 @@
+pub mod CutLaws
+pub mod StreamLength
+pub mod Saying
+pub mod Passing
+pub mod Disconnecting
+pub mod Counting
+pub mod Telling
+pub mod DisconnectTold

@@ -1,0 +1,123 @@
+//! The source of the stream.
+
+ghost use Rattle.std.specs.Prelude.{◌≡◌, ◌≤◌, ◌+◌, Some, take, drop, length, min, vec_len, vec_capacity, IfOk, IsOk};
+ghost use Rattle.ei_spec.specs.Message.{all_bytes};
+ghost use Rattle.ei_spec.specs.declared.limits.TheConstants.{MOST_PIECE_BYTES, MOST_PIECE_HANDLES};
+ghost use Rattle.ei_backend.specs.Outside.{IsPieceSize, TakesTold, HasCause, last_of};
+ghost use Rattle.ei_backend.specs.declared.outside.LastAnswer.TheVariants as answers;
+ghost use Rattle.reis_demo.specs.Generated.{cut, generated_bytes};
+ghost use Rattle.reis_demo.specs.Script.{StreamView, unsaid};
+
+use crate::opening::opening;
+use crate::script::{GROUP_BYTES, Script};
+use ei_backend::{Fault, LastAnswer, Source, Taken};
+use ei_spec::Handle;
+use ei_wire::NoMemory;
+use std::alloc::Global;
+use std::marker::Model;
+
+/// The bytes of a piece, but for the last one.
+const PIECE_BYTES: usize = 4096;
+
+/// Room for a piece and a group behind it.
+const ROOM: usize = PIECE_BYTES + GROUP_BYTES;
+
+/// A source of a stream that numbers make up: a client that shakes hands, binds all capabilities and sends groups of
+/// inputs, each with its frame.
+///
+/// It hands out pieces of 4096 bytes and a shorter last one, and never fails. No more of the stream is in memory than a
+/// piece and a group.
+#[derive(Drop)]
+pub struct Generated {
+    script: Script,
+    /// What was said and not handed out.
+    waiting: Vec<u8>,
+    last: LastAnswer,
+}
+
+impl Model for Generated {
+    ghost use Rattle.std.specs.Prelude.{◌++◌, ◌≤◌, vec_capacity};
+    ghost use Rattle.ei_spec.specs.Message.{all_bytes};
+    ghost use Rattle.reis_demo.specs.Script.{StreamView, unsaid, IsTimed};
+    ghost use Rattle.reis_demo.specs.declared.generated.TheConstants.{ROOM};
+
+    ghost Value = { StreamView };
+
+    ghost view = { λ s. record { left = s.waiting.items ++ all_bytes (unsaid s.script); last = s.last } };
+
+    ghost invariant = { λ s. IsTimed s.script × (ROOM ≤ vec_capacity s.waiting) };
+}
+
+impl Generated {
+    /// The stream of so many groups, by the numbers after `start`.
+    ///
+    /// `NoMemory` where there is none for its buffer.
+    pub fn new(alloc: Global, groups: u32, start: u32) -> Result<Generated, NoMemory>
+        ensures { IfOk result (λ s. s ≡ record { left = generated_bytes groups start; last = answers.Nothing }) }
+    {
+        Ok(Generated {
+            script: Script::new(groups, start),
+            waiting: opening(alloc, ROOM)?,
+            last: LastAnswer::Nothing,
+        })
+    }
+
+    /// How many bytes of the stream are left.
+    pub fn bytes_left(&self) -> u64
+        ensures { result ≡ length self.now.left }
+    {
+        self.waiting.len() as u64 + self.script.bytes_left()
+    }
+}
+
+/// Takes the first bytes out, to the front of a slice.
+fn hand_out(waiting: &mut Vec<u8>, count: usize, bytes: &mut [u8])
+    requires within { count ≤ vec_len waiting.old }
+    requires room { count ≤ length bytes.old }
+    ensures bytes { take count bytes.new ≡ take count waiting.old.items }
+    ensures left { waiting.new.items ≡ drop count waiting.old.items }
+    ensures capacity { vec_capacity waiting.new ≡ vec_capacity waiting.old }
+{
+    bytes[..count].copy_from_slice(&waiting[..count]);
+    waiting.drain(..count);
+}
+
+impl Source for Generated {
+    ghost left = { λ s. Some (cut 4096 s.left) };
+
+    ghost faults = { λ _. 0 };
+
+    ghost last = { λ s. s.last };
+
+    ghost later = { λ _ _. Unit {0} };
+
+    ghost later_refl = { λ _. tt };
+
+    ghost later_trans = { λ _ _ _ _ _. tt };
+
+    fn take(&mut self, bytes: &mut [u8], _handles: &mut [Handle]) -> Result<Taken, Fault>
+        requires room { MOST_PIECE_BYTES ≤ length bytes.old }
+        requires handle_room { MOST_PIECE_HANDLES ≤ length _handles.old }
+        ensures size { IfOk result IsPieceSize }
+        ensures pieces { TakesTold (Some (cut 4096 self.old.left)) (Some (cut 4096 self.new.left)) result bytes.new _handles.new }
+        ensures cause { HasCause 0 0 result }
+        ensures last { self.new.last ≡ last_of result }
+        // beyond the trait's: it never fails, and what is left
+        ensures ok { IsOk result }
+        ensures left { self.new.left ≡ drop 4096 self.old.left }
+        ensures count { IfOk result (λ taken. taken ≡ record { bytes = min 4096 (length self.old.left); handles = 0 }) }
+    {
+        self.script.say_until(&mut self.waiting, PIECE_BYTES);
+        let count = self.waiting.len().min(PIECE_BYTES);
+        hand_out(&mut self.waiting, count, bytes);
+        self.last = if count == 0 {
+            LastAnswer::End
+        } else {
+            LastAnswer::Piece
+        };
+        Ok(Taken {
+            bytes: count,
+            handles: 0,
+        })
+    }
+}

@@ -1,0 +1,178 @@
+-- The report of a session, and its status.
+use Rattle.std.proofs.Common.{◌≡◌, ◌⊎◌, inl, inr, ℕ, List, [], ◌++◌, ◌-◌, take, Option, Some, None, Result, Ok, Err, refl, ap, ◌∙◌, subst}
+use Rattle.std.specs.Prelude.{map}
+use Rattle.ei_spec.specs.Message.{Raw}
+use Rattle.ei_spec.specs.Piece.{Piece, stream}
+use Rattle.ei_session.specs.Setup.{Setup}
+use Rattle.ei_session.specs.Requests.{framed}
+use Rattle.ei_session.specs.Refusals.{Refusal}
+use Rattle.ei_session.specs.Served.{Answer, Disconnect, End, UnexpectedEof, IdsExhausted, PieceLimit, HandleLimit, Refused, session, accepted, IsGood}
+use Rattle.ei_session.specs.Complete.{AreComplete}
+use Rattle.ei_session.proofs.Completing.{complete_ends}
+use Rattle.ei_backend.specs.Memory.{TrayView}
+use Rattle.ei_backend.specs.Outside.{with_more}
+use Rattle.ei_standing.specs.Standing.{request_in_code}
+use Rattle.ei_request.specs.declared.event.EisRequest.{EisRequest}
+use Rattle.ei_serve.specs.declared.session.Ended.{Ended as HowEnded}
+use Rattle.ei_serve.specs.declared.session.Ended.TheVariants as ended
+use Rattle.ei_serve.specs.Refusing.{refusal_of, IsRefused}
+use Rattle.ei_serve.specs.Serving.{AnswersAs, IsDecided, HandsOut, Replied, CutShort}
+use Rattle.ei_types.specs.declared.error.Error.{Error}
+use Rattle.ei_types.specs.declared.error.Error.TheVariants as error
+use Rattle.reis_lines.specs.Text.{pieces_of, bad_line_of, number_from}
+use Rattle.reis_run.specs.Tell.{status_of, Tells}
+use Rattle.reis_run.specs.Session.{TextEnd, Answered, BadLine, end_behind, end_of, EndsAs, IsDecidedLine, IsReadFault, HandledGiven, pieces_left}
+use Rattle.reis_run.specs.Session.{AreRequests, reply_bytes, IsOf, IsOfGiven, IsOfFirst, status_of_answer, status_of_end, IsStatus}
+use Rattle.reis_run.specs.declared.session.LastLine.{LastLine}
+use Rattle.reis_run.specs.declared.session.LastLine.TheVariants as last_line
+
+-- ---- what is kept of the session
+
+-- a tray that took nothing
+abbrev pub empty_tray : TrayView
+empty_tray = record { held = record { bytes = []; handles = [] }; fails = []; calls = 0; faults = 0; wants = 0 }
+
+requests_of : (setup : Setup) (messages : List Raw) (readings : Option (List ℕ)) (old new requests : List EisRequest) → HandsOut setup messages readings old new → old ≡ [] → requests ≡ new → AreRequests setup messages readings requests
+requests_of setup messages readings old new requests h none same = record {
+  readings = h.readings;
+  told_so = h.told_so;
+  framed_is = same ∙ h.grown ∙ ap (λ (x : List EisRequest). x ++ map (request_in_code messages) (framed setup h.readings messages)) none;
+}
+
+held_is : (a b : Piece) → Some a ≡ Some b → a.bytes ≡ b.bytes
+held_is a b e = cc
+
+bytes_are : (tray : TrayView) (new : Piece) (more reply : List ℕ) → Some new ≡ Some (with_more more [] tray.held) → tray ≡ empty_tray → reply ≡ new.bytes → reply ≡ more
+bytes_are tray new more reply e empty same = same ∙ held_is new (with_more more [] tray.held) e ∙ ap (λ (t : TrayView). t.held.bytes ++ more) empty
+
+-- the tray and the requests behind a session, and what is read of them
+pub record Kept (tray : TrayView) (new : Piece) (reply : List ℕ) (old out requests : List EisRequest) : Type 0 where
+  pub empty : tray ≡ empty_tray
+  pub reply_same : reply ≡ new.bytes
+  pub none : old ≡ []
+  pub requests_same : requests ≡ out
+
+-- the report of the messages
+pub is_of : (setup : Setup) (messages : List Raw) (readings : Option (List ℕ)) (tray : TrayView) (new : Piece) (reply : List ℕ) (old out requests : List EisRequest) (last : LastLine) → Kept tray new reply old out requests →
+    HandsOut setup messages readings old out → Replied setup messages (Some tray.held) (Some new) → IsOf setup messages readings (record { reply = reply; requests = requests; last = last })
+is_of setup messages readings tray new reply old out requests last k h r = record {
+  reply_is = bytes_are tray new (reply_bytes setup messages) reply (r tray.held refl) k.empty k.reply_same;
+  requests_are = requests_of setup messages readings old out requests h k.none k.requests_same;
+}
+
+pub is_of_given : (setup : Setup) (text : List ℕ) (left readings : Option (List ℕ)) (tray : TrayView) (new : Piece) (reply : List ℕ) (old out requests : List EisRequest) (last : LastLine) → Kept tray new reply old out requests →
+    HandledGiven setup text left readings old out (Some tray.held) (Some new) → IsOfGiven setup text left readings (record { reply = reply; requests = requests; last = last })
+is_of_given setup text left readings tray new reply old out requests last k h = record {
+  pieces = h.pieces;
+  given = h.given;
+  first = h.first;
+  goes_on = h.goes_on;
+  is_of = is_of setup (accepted setup (stream h.pieces)) readings tray new reply old out requests last k h.requests h.replies;
+}
+
+pub is_of_first : (setup : Setup) (pieces : List Piece) (left readings : Option (List ℕ)) (tray : TrayView) (new : Piece) (reply : List ℕ) (old out requests : List EisRequest) (last : LastLine) → Kept tray new reply old out requests →
+    (unread : List ℕ) × CutShort setup pieces (pieces_left unread left) readings old out (Some tray.held) (Some new) → IsOfFirst setup pieces left readings (record { reply = reply; requests = requests; last = last })
+is_of_first setup pieces left readings tray new reply old out requests last k w =
+    let h = w.1 in
+    let r = h.replies tray.held refl in
+    record {
+      k = h.k;
+      unread = w.0;
+      took = h.took;
+      reached = h.reached;
+      ahead = h.ahead;
+      owed = h.owed;
+      reply_is = (r.0, bytes_are tray new (take r.0 (reply_bytes setup h.reached)) reply r.1 k.empty k.reply_same);
+      replied = λ some.
+          let more = h.replied some tray.held refl in
+          (more.0, bytes_are tray new (reply_bytes setup (accepted setup (stream (take (h.k - 1) pieces))) ++ more.0) reply more.1 k.empty k.reply_same);
+      requests_are = requests_of setup h.reached readings old out requests h.requests k.none k.requests_same;
+    }
+
+-- ---- the status
+
+refused_status : (a : Answer) (o : Option Refusal) → IsRefused o a → 1 ≡ status_of_answer a
+refused_status a None s = absurd s
+refused_status a (Some r) s = rw s refl
+
+answer_status : (a : Answer) (answer : Result HowEnded Error) → IsDecided answer → AnswersAs a answer → status_of (last_line.Answer answer) ≡ status_of_answer a
+answer_status a (Ok ended.Disconnect) d s = rw s refl
+answer_status a (Ok ended.End) d s = rw s refl
+answer_status a (Err error.UnexpectedEof) d s = rw s refl
+answer_status a (Err error.PieceLimit) d s = rw s refl
+answer_status a (Err error.HandleLimit) d s = rw s refl
+answer_status a (Err error.IdsExhausted) d s = rw s refl
+answer_status a (Err error.ReadFault) d s = absurd d
+answer_status a (Err error.WriteFault) d s = absurd d
+answer_status a (Err error.NoMemory) d s = absurd d
+answer_status a (Err error.UnexpectedHandshakeEvent) d s = absurd s
+answer_status a (Err error.MessageTooLong) d s = absurd s
+answer_status a (Err (error.Event e)) d s = absurd s
+answer_status a (Err (error.InvalidInterfaceVersion name n)) d s = refused_status a (refusal_of (error.InvalidInterfaceVersion name n)) s
+answer_status a (Err (error.Request e)) d s = refused_status a (refusal_of (error.Request e)) s
+answer_status a (Err (error.Parse e)) d s = refused_status a (refusal_of (error.Parse e)) s
+answer_status a (Err (error.Handshake e)) d s = refused_status a (refusal_of (error.Handshake e)) s
+
+line_status : (e : TextEnd) (l : LastLine) → IsDecidedLine l → EndsAs e l → status_of l ≡ status_of_end e
+line_status (Answered a) (last_line.Answer answer) d s = answer_status a answer d s
+line_status (BadLine n) (last_line.BadLine m) d s = refl
+line_status (Answered a) (last_line.BadLine m) d s = absurd s
+line_status (BadLine n) (last_line.Answer answer) d s = absurd s
+
+-- a last line is decided, or a read fault, or memory ran out
+line_kinds : (l : LastLine) → IsDecidedLine l ⊎ (IsReadFault l ⊎ (status_of l ≡ 5))
+line_kinds (last_line.BadLine n) = inl tt
+line_kinds (last_line.Answer (Ok e)) = inl tt
+line_kinds (last_line.Answer (Err error.ReadFault)) = inr (inl refl)
+line_kinds (last_line.Answer (Err error.WriteFault)) = inr (inr refl)
+line_kinds (last_line.Answer (Err error.NoMemory)) = inr (inr refl)
+line_kinds (last_line.Answer (Err error.UnexpectedEof)) = inl tt
+line_kinds (last_line.Answer (Err error.PieceLimit)) = inl tt
+line_kinds (last_line.Answer (Err error.HandleLimit)) = inl tt
+line_kinds (last_line.Answer (Err error.IdsExhausted)) = inl tt
+line_kinds (last_line.Answer (Err error.UnexpectedHandshakeEvent)) = inl tt
+line_kinds (last_line.Answer (Err error.MessageTooLong)) = inl tt
+line_kinds (last_line.Answer (Err (error.Event e))) = inl tt
+line_kinds (last_line.Answer (Err (error.InvalidInterfaceVersion name n))) = inl tt
+line_kinds (last_line.Answer (Err (error.Request e))) = inl tt
+line_kinds (last_line.Answer (Err (error.Parse e))) = inl tt
+line_kinds (last_line.Answer (Err (error.Handshake e))) = inl tt
+
+-- the status of a session over a text
+pub is_status : (e : TextEnd) (l : LastLine) (F : Type 0) (result : ℕ) → (IsDecidedLine l → EndsAs e l) → (IsReadFault l → F) →
+    (result ≡ status_of l) ⊎ ((result ≡ 4) ⊎ (result ≡ 5)) → IsStatus (status_of_end e) F result
+is_status e l F result ends fault (inr less) = inr (inr less)
+is_status e l F result ends fault (inl s) = elim (line_kinds l) [
+  | inl d ↦ inl (s ∙ line_status e l d (ends d))
+  | inr (inl f) ↦ inr (inl (s ∙ ap status_of f, fault f))
+  | inr (inr five) ↦ inr (inr (inr (s ∙ five)))
+]
+
+good_status : (a : Answer) (bad : Option ℕ) → bad ≡ None → IsGood a → status_of_end (end_behind a bad) ≡ 0
+good_status End None none g = refl
+good_status End (Some n) none g = absurd cc
+good_status Disconnect bad none g = refl
+good_status UnexpectedEof bad none g = absurd g
+good_status IdsExhausted bad none g = absurd g
+good_status PieceLimit bad none g = absurd g
+good_status HandleLimit bad none g = absurd g
+good_status (Refused r) bad none g = absurd g
+
+-- pieces that make a good end sure
+pub is_complete : (setup : Setup) (text : List ℕ) (F K : Type 0) (result : ℕ) → bad_line_of text ≡ None → AreComplete setup (pieces_of text) →
+    IsStatus (status_of_end (end_of setup text)) F result → (F → ⊥) → (result ≡ 4 → K) → (K → ⊥) → (result ≡ 0) ⊎ (result ≡ 5)
+is_complete setup text F K result none complete (inl s) f k nk =
+    inl (s ∙ good_status (session setup (pieces_of text)).answer (number_from 0 (bad_line_of text)) (ap (number_from 0) none) (complete_ends setup (pieces_of text) complete).good)
+is_complete setup text F K result none complete (inr (inl s)) f k nk = absurd (f s.1)
+is_complete setup text F K result none complete (inr (inr (inl s))) f k nk = absurd (nk (k s))
+is_complete setup text F K result none complete (inr (inr (inr s))) f k nk = inr s
+
+-- ---- the words
+
+-- what is so of a setup is so of the same one
+pub of_same : (P : Setup → Type 0) (given setup : Setup) → P given → given ≡ setup → P setup
+of_same P given setup so same = subst P same so
+
+-- what is told of a text is told of the same one
+pub told_as : (status : ℕ) (text other : List ℕ) (held : Piece) (result : ℕ) (now : Option Piece) → text ≡ other → Tells status text held result now → Tells status other held result now
+told_as status text other held result now e t = subst (λ (x : List ℕ). Tells status x held result now) e t

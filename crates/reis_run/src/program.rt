@@ -1,0 +1,206 @@
+//! The program, over any input, output and clock.
+
+ghost use Rattle.std.specs.Prelude.{◌≡◌, ◌≤◌, ◌<◌, ◌⊎◌, ℕ, List, Some, None, IsSome};
+ghost use Rattle.ei_types.specs.Capability.{bits_of, all_bits};
+ghost use Rattle.ei_backend.specs.Outside.{Piece, Rose};
+ghost use Rattle.ei_session.specs.Complete.{AreComplete};
+ghost use Rattle.std.specs.Prelude.{Ok};
+ghost use Rattle.ei_serve.specs.Standing.{setup_of};
+ghost use Rattle.ei_serve.specs.Serving.{LeftReadings};
+ghost use Rattle.ei_serve.specs.declared.session.Ended.TheVariants as ended;
+ghost use Rattle.reis_demo.specs.Generated.{demo_setup};
+ghost use Rattle.reis_demo.specs.Summary.{demo_session, demo_lines};
+ghost use Rattle.reis_lines.specs.Text.{pieces_of, bad_line_of};
+ghost use Rattle.reis_run.specs.Words.{command_of};
+ghost use Rattle.reis_run.specs.Tell.{report_text, traced_text, Tells, Reports};
+ghost use Rattle.reis_run.specs.Session.{ForText, end_of, IsReport, status_of_end, IsStatus};
+ghost use Rattle.reis_run.specs.Asked.{setup_with, ForServe, ForTrace, ForSession, ForDemo};
+
+use crate::session::serve_lines;
+pub use crate::tell::NO_MEMORY;
+use crate::tell::{DONE, tell, tell_report, tell_trace};
+use crate::words::{Command, USAGE};
+use ei_backend::{Clock, Input, Sink, Tray};
+use ei_serve::Setup;
+use ei_types::DeviceCapabilities;
+use ei_wire::{EiText, NoMemory};
+use reis_demo::demo;
+use std::alloc::Global;
+
+/// The words are no command.
+const NO_COMMAND: u8 = 2;
+
+/// The capabilities of these bits.
+fn capabilities_of(bits: u32) -> DeviceCapabilities
+    requires { bits ≤ 127 }
+    ensures { bits_of result ≡ bits }
+{
+    DeviceCapabilities::from_bits(u64::from(bits)).unwrap()
+}
+
+/// The setup of a session.
+fn setup(initial_serial: u32, capabilities: u32, pieces: u32) -> Setup
+    requires { capabilities ≤ 127 }
+    ensures value { setup_of result ≡ setup_with initial_serial capabilities pieces }
+    ensures lawful { bits_of result.capabilities ≤ all_bits }
+{
+    Setup {
+        initial_serial,
+        capabilities: capabilities_of(capabilities),
+        pieces,
+    }
+}
+
+/// Serves the lines of the input, and tells the report.
+fn serve_command<I: Input, O: Sink, C: Clock>(
+    alloc: Global,
+    setup: Setup,
+    input: &mut I,
+    output: &mut O,
+    clock: &mut C,
+) -> u8
+    requires lawful { bits_of setup.capabilities ≤ all_bits }
+    ensures report { Reports (IsReport (setup_of setup) (I.text input.old) (I.text input.new) (C.readings clock.old) (C.readings clock.new)
+        (Rose (I.faults input.old) (I.faults input.new))) report_text result (O.taken output.old) (O.taken output.new) }
+    ensures status { ForText (I.text input.old) (λ text.
+        IsStatus (status_of_end (end_of (setup_of setup) text)) (Rose (I.faults input.old) (I.faults input.new)) result) }
+    ensures complete { ForText (I.text input.old) (λ text. bad_line_of text ≡ None → AreComplete (setup_of setup) (pieces_of text) →
+        (Rose (I.faults input.old) (I.faults input.new) → ⊥) → (Rose (O.faults output.old) (O.faults output.new) → ⊥) →
+        (result ≡ 0) ⊎ (result ≡ 5)) }
+    ensures served { result ≡ 2 → ⊥ }
+    ensures count { I.faults input.old ≤ I.faults input.new }
+    ensures later_input { I.later input.old input.new }
+    ensures later_clock { C.later clock.old clock.new }
+    ensures fault { result ≡ 4 → Rose (O.faults output.old) (O.faults output.new) }
+    ensures unfailed { (result ≡ 4 → ⊥) → O.faults output.new ≡ O.faults output.old }
+    ensures later { O.later output.old output.new }
+{
+    let mut reply = Tray::new(alloc);
+    let mut requests = Vec::new(alloc);
+    let last = serve_lines(alloc, setup, input, clock, &mut reply, &mut requests);
+    tell_report(alloc, output, reply.bytes(), &requests, &last)
+}
+
+/// Serves the lines of the input, and tells the report and the trace of the replies.
+fn trace_command<I: Input, O: Sink, C: Clock>(
+    alloc: Global,
+    setup: Setup,
+    input: &mut I,
+    output: &mut O,
+    clock: &mut C,
+) -> u8
+    requires lawful { bits_of setup.capabilities ≤ all_bits }
+    ensures report { Reports (IsReport (setup_of setup) (I.text input.old) (I.text input.new) (C.readings clock.old) (C.readings clock.new)
+        (Rose (I.faults input.old) (I.faults input.new))) traced_text result (O.taken output.old) (O.taken output.new) }
+    ensures status { ForText (I.text input.old) (λ text.
+        IsStatus (status_of_end (end_of (setup_of setup) text)) (Rose (I.faults input.old) (I.faults input.new)) result) }
+    ensures complete { ForText (I.text input.old) (λ text. bad_line_of text ≡ None → AreComplete (setup_of setup) (pieces_of text) →
+        (Rose (I.faults input.old) (I.faults input.new) → ⊥) → (Rose (O.faults output.old) (O.faults output.new) → ⊥) →
+        (result ≡ 0) ⊎ (result ≡ 5)) }
+    ensures served { result ≡ 2 → ⊥ }
+    ensures count { I.faults input.old ≤ I.faults input.new }
+    ensures later_input { I.later input.old input.new }
+    ensures later_clock { C.later clock.old clock.new }
+    ensures fault { result ≡ 4 → Rose (O.faults output.old) (O.faults output.new) }
+    ensures unfailed { (result ≡ 4 → ⊥) → O.faults output.new ≡ O.faults output.old }
+    ensures later { O.later output.old output.new }
+{
+    let mut reply = Tray::new(alloc);
+    let mut requests = Vec::new(alloc);
+    let last = serve_lines(alloc, setup, input, clock, &mut reply, &mut requests);
+    tell_trace(alloc, output, reply.bytes(), &requests, &last)
+}
+
+/// Serves the generated stream, and tells six lines of it.
+fn demo_command<O: Sink, C: Clock>(
+    alloc: Global,
+    groups: u32,
+    start: u32,
+    output: &mut O,
+    clock: &mut C,
+) -> u8
+    ensures lines { (held : Piece) → O.taken output.old ≡ Some held →
+        Tells 0 (demo_lines groups start (Ok ended.Disconnect)) held result (O.taken output.new) }
+    ensures status { (result ≡ 0) ⊎ ((result ≡ 4) ⊎ (result ≡ 5)) }
+    ensures readings { result ≡ 0 →
+        LeftReadings demo_setup (demo_session groups start).handled (C.readings clock.old) (C.readings clock.new) }
+    ensures later_clock { C.later clock.old clock.new }
+    ensures fault { result ≡ 4 → Rose (O.faults output.old) (O.faults output.new) }
+    ensures unfailed { (result ≡ 4 → ⊥) → O.faults output.new ≡ O.faults output.old }
+    ensures later { O.later output.old output.new }
+{
+    match demo(alloc, groups, start, clock) {
+        // the session over the generated stream ends with the disconnect
+        Ok(summary) => tell(output, &summary.text, DONE),
+        Err(NoMemory) => NO_MEMORY,
+    }
+}
+
+/// Does what the words say, and answers the status to end with.
+///
+/// `serve` and three numbers, the first serial, the capabilities and the most pieces, serve a client
+/// whose pieces are the input's lines; the output takes a report: the reply bytes, a line for each
+/// request, and how the session ended. `trace` and the same numbers do so too, and behind the report
+/// comes a line for each reply message as a fresh client reads it, whatever the status. `demo`, a number
+/// of groups and a start serve a generated stream, and the output takes six lines. Any other words are
+/// refused: the output takes the usage line.
+///
+/// The status is 0 where the session came to its end, 1 where it stopped, 2 where the words were
+/// refused, 3 where the input failed or a line was bad, 4 where the output failed, behind a front of the
+/// text, and 5 where memory ran out.
+pub fn run<I: Input, O: Sink, C: Clock>(
+    alloc: Global,
+    words: &[EiText],
+    input: &mut I,
+    output: &mut O,
+    clock: &mut C,
+) -> u8
+    // words that are refused: the usage line is told, and the input and the clock are as they were
+    ensures usage { command_of words.now ≡ None → (held : Piece) → O.taken output.old ≡ Some held →
+        Tells 2 USAGE.now held result (O.taken output.new) }
+    ensures refused { command_of words.now ≡ None → (result ≡ 2) ⊎ ((result ≡ 4) ⊎ (result ≡ 5)) }
+    ensures unasked { command_of words.now ≡ None → input.new ≡ input.old }
+    ensures unread { command_of words.now ≡ None → clock.new ≡ clock.old }
+    ensures served { IsSome (command_of words.now) → result ≡ 2 → ⊥ }
+    // the words of `serve`: the report of the session over the lines that the input gives
+    ensures report { ForServe words.now (λ setup. Reports (IsReport setup (I.text input.old) (I.text input.new) (C.readings clock.old) (C.readings clock.new)
+        (Rose (I.faults input.old) (I.faults input.new))) report_text result (O.taken output.old) (O.taken output.new)) }
+    // the words of `trace`: the same, and behind it the trace of the reply bytes
+    ensures trace { ForTrace words.now (λ setup. Reports (IsReport setup (I.text input.old) (I.text input.new) (C.readings clock.old) (C.readings clock.new)
+        (Rose (I.faults input.old) (I.faults input.new))) traced_text result (O.taken output.old) (O.taken output.new)) }
+    // the words of `demo`: six lines of the session over the generated stream, which ends with the disconnect
+    ensures demo { ForDemo words.now (λ groups start. (held : Piece) → O.taken output.old ≡ Some held →
+        Tells 0 (demo_lines groups start (Ok ended.Disconnect)) held result (O.taken output.new)) }
+    ensures demo_status { ForDemo words.now (λ groups start. (result ≡ 0) ⊎ ((result ≡ 4) ⊎ (result ≡ 5))) }
+    ensures demo_readings { ForDemo words.now (λ groups start. result ≡ 0 →
+        LeftReadings demo_setup (demo_session groups start).handled (C.readings clock.old) (C.readings clock.new)) }
+    ensures demo_unasked { ForDemo words.now (λ groups start. input.new ≡ input.old) }
+    // the status of `serve` and `trace`
+    ensures status { ForSession words.now (λ setup. ForText (I.text input.old) (λ text.
+        IsStatus (status_of_end (end_of setup text)) (Rose (I.faults input.old) (I.faults input.new)) result)) }
+    // over a text of lines whose pieces make a good end sure, where neither the input nor the output fails
+    ensures complete { ForSession words.now (λ setup. ForText (I.text input.old) (λ text. bad_line_of text ≡ None → AreComplete setup (pieces_of text) →
+        (Rose (I.faults input.old) (I.faults input.new) → ⊥) → (Rose (O.faults output.old) (O.faults output.new) → ⊥) →
+        (result ≡ 0) ⊎ (result ≡ 5))) }
+    // the input and the clock
+    ensures count { I.faults input.old ≤ I.faults input.new }
+    ensures later_input { I.later input.old input.new }
+    ensures later_clock { C.later clock.old clock.new }
+    // the output: status 4 exactly where it failed
+    ensures fault { result ≡ 4 → Rose (O.faults output.old) (O.faults output.new) }
+    ensures unfailed { (result ≡ 4 → ⊥) → O.faults output.new ≡ O.faults output.old }
+    ensures later { O.later output.old output.new }
+{
+    match Command::from_words(words) {
+        Some(Command::Serve(serial, capabilities, pieces)) => {
+            let asked = setup(serial, capabilities, pieces);
+            serve_command(alloc, asked, input, output, clock)
+        }
+        Some(Command::Trace(serial, capabilities, pieces)) => {
+            let asked = setup(serial, capabilities, pieces);
+            trace_command(alloc, asked, input, output, clock)
+        }
+        Some(Command::Demo(groups, start)) => demo_command(alloc, groups, start, output, clock),
+        None => tell(output, USAGE.as_bytes(), NO_COMMAND),
+    }
+}

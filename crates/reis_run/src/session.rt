@@ -1,0 +1,79 @@
+//! A session over the lines of an input.
+
+ghost use Rattle.std.specs.Prelude.{◌≡◌, ◌≤◌, ℕ, List, Some};
+ghost use Rattle.ei_types.specs.Capability.{bits_of, all_bits};
+ghost use Rattle.ei_backend.specs.Outside.{Rose};
+ghost use Rattle.ei_session.specs.Served.{session};
+ghost use Rattle.ei_serve.specs.Standing.{setup_of};
+ghost use Rattle.ei_serve.specs.Serving.{HandsOut, Replied, LeftReadings, CutShort};
+ghost use Rattle.reis_lines.specs.Text.{pieces_of};
+ghost use Rattle.reis_run.specs.Session.{ForText, end_of, EndsAs, IsDecidedLine, IsAnswered, IsReadFault, IsCutShortLine, pieces_left, HandledGiven, last_line_of};
+
+use ei_backend::{Clock, Input, Tray};
+use ei_request::EisRequest;
+use ei_serve::{Ended, Setup, serve};
+use ei_types::Error;
+use ei_wire::NoMemory;
+use reis_lines::{Held, HexSource};
+use std::alloc::Global;
+
+/// How a session over lines ended: what the last line of its report says.
+#[derive(Debug, Drop)]
+pub(crate) enum LastLine {
+    /// As the session over the pieces did.
+    Answer(Result<Ended, Error>),
+    /// At the bad line of this number, from 1.
+    BadLine(u64),
+}
+
+/// The bad line, where one was met, or the session's answer.
+fn last_line(bad: Option<u64>, answer: Result<Ended, Error>) -> LastLine
+    ensures { result ≡ last_line_of bad answer }
+{
+    match bad {
+        Some(line) => LastLine::BadLine(line),
+        None => LastLine::Answer(answer),
+    }
+}
+
+/// Serves a client that the input's lines speak for, and keeps the replies and the requests.
+pub(crate) fn serve_lines<I: Input, C: Clock>(
+    alloc: Global,
+    setup: Setup,
+    input: &mut I,
+    clock: &mut C,
+    reply: &mut Tray,
+    requests: &mut Vec<EisRequest>,
+) -> LastLine
+    requires lawful { bits_of setup.capabilities ≤ all_bits }
+    // over an input that tells its text: the session over its pieces, or its first bad line
+    ensures ends { ForText (I.text input.old) (λ text. IsDecidedLine result → EndsAs (end_of (setup_of setup) text) result) }
+    ensures requests { ForText (I.text input.old) (λ text. IsDecidedLine result →
+        HandsOut (setup_of setup) (session (setup_of setup) (pieces_of text)).handled (C.readings clock.old) requests.old.items requests.new.items) }
+    ensures replies { ForText (I.text input.old) (λ text. IsDecidedLine result →
+        Replied (setup_of setup) (session (setup_of setup) (pieces_of text)).handled (Some reply.old.held) (Some reply.new.held)) }
+    ensures readings { ForText (I.text input.old) (λ text. IsAnswered result →
+        LeftReadings (setup_of setup) (session (setup_of setup) (pieces_of text)).handled (C.readings clock.old) (C.readings clock.new)) }
+    // where the input failed, or the session was cut short
+    ensures given { ForText (I.text input.old) (λ text. IsReadFault result →
+        HandledGiven (setup_of setup) text (I.text input.new) (C.readings clock.old) requests.old.items requests.new.items
+        (Some reply.old.held) (Some reply.new.held)) }
+    ensures cut_short { ForText (I.text input.old) (λ text. IsCutShortLine result → (unread : List ℕ) ×
+        CutShort (setup_of setup) (pieces_of text) (pieces_left unread (I.text input.new)) (C.readings clock.old) requests.old.items requests.new.items
+        (Some reply.old.held) (Some reply.new.held)) }
+    // over any input
+    ensures fault { IsReadFault result → Rose (I.faults input.old) (I.faults input.new) }
+    ensures count { I.faults input.old ≤ I.faults input.new }
+    ensures later_input { I.later input.old input.new }
+    ensures later_clock { C.later clock.old clock.new }
+{
+    let held = match Held::new(alloc) {
+        Ok(held) => held,
+        Err(NoMemory) => return LastLine::Answer(Err(Error::NoMemory)),
+    };
+    let mut source = HexSource::over(held, input);
+    let answer = serve(alloc, &mut source, reply, clock, setup, requests);
+    let bad = source.bad_line();
+    let _input = source.close();
+    last_line(bad, answer)
+}
