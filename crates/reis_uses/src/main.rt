@@ -1,0 +1,32 @@
+//! Callers: a server's loop over `Session`, and a client by its proxies. Nothing stands on this program.
+//!
+//! The client shakes hands and leaves, the server serves it, and the client reads what the server replied. All of it
+//! stands in memory. Begin with `server` and `client`; `outside` has a source and a sink.
+#![tactic(auto)]
+
+mod client;
+mod outside;
+mod server;
+mod stop;
+
+use crate::client::{shake_hands, show_events};
+use crate::outside::{Inbox, Outbox};
+use crate::server::serve_by_turns;
+use crate::stop::Stop;
+use ei_client::Context;
+
+/// The client's last message, `disconnect` to the connection, which has the first of the server's ids.
+const DISCONNECT: [u8; 16] = [0, 0, 0, 0, 0, 0, 0, 0xff, 16, 0, 0, 0, 1, 0, 0, 0];
+
+fn main(rt: HostRuntime) -> Result<(), Stop> {
+    let alloc = rt.alloc();
+    let mut client = Context::new(alloc)?;
+    shake_hands(&mut client)?;
+    let mut sent = Outbox::new(alloc);
+    client.flush(&mut sent)?;
+    sent.bytes.extend_from_slice(&DISCONNECT)?;
+    let mut replied = Outbox::new(alloc);
+    serve_by_turns(&rt, &mut Inbox::new(&sent.bytes), &mut replied)?;
+    client.read(&mut Inbox::new(&replied.bytes))?;
+    show_events(&rt, &mut client)
+}
