@@ -6,7 +6,7 @@ use Rattle.ei_spec.proofs.FrontLaws.{shorter}
 use Rattle.ei_spec.proofs.GoesOn.{read_short, read_unlawful, read_accepted, read_final, read_refused}
 use Rattle.ei_session.specs.Setup.{Setup}
 use Rattle.ei_session.specs.Refusals.{judge}
-use Rattle.ei_session.specs.Served.{reading_by, reading_of}
+use Rattle.ei_session.specs.Served.{reading_of}
 use Rattle.ei_session.proofs.AcceptedLaws.{front_short}
 
 module _ {E : Type 0} (judged : List Raw → Raw → Verdict E) where
@@ -40,5 +40,5 @@ module _ {E : Type 0} (judged : List Raw → Raw → Verdict E) where
 
 -- what follows the messages of a stream that may go on
 pub unread_few : (setup : Setup) (bytes : List ℕ) → (reading_of setup bytes).stop ≡ Waiting → length (reading_of setup bytes).rest < 1048576
-unfolding reading_by
+unfolding reading_of
 unread_few setup bytes w = front_short _ (left_short (judge setup) [] bytes w)

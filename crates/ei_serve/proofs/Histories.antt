@@ -13,9 +13,9 @@ use Rattle.ei_session.specs.Setup.{Setup}
 use Rattle.ei_session.specs.Handshake.{connected}
 use Rattle.ei_session.specs.Refusals.{Refusal as Cause, judge}
 use Rattle.ei_session.specs.Served.{Answer, Disconnect, End, UnexpectedEof, IdsExhausted, PieceLimit, HandleLimit, Refused, Outcome, answer_of, answer_at, is_waiting}
-use Rattle.ei_session.specs.Served.{too_many_handles, at_end, reading_by, read_first_by, is_over_by, over_at_by}
+use Rattle.ei_session.specs.Served.{too_many_handles, at_end, reading_of, read_first, is_over, over_at}
 use Rattle.ei_session.specs.Served.{reading_of, accepted, read_first, is_over, over_at, session}
-use Rattle.ei_session.proofs.AllParts.{session_over_by, session_end_by}
+use Rattle.ei_session.proofs.AllParts.{session_over, session_end}
 use Rattle.ei_serve.specs.Taking.{with_next}
 use Rattle.ei_serve.proofs.Going.{extends}
 
@@ -42,7 +42,7 @@ go_on_waiting judged r more e = rw (e, go_on) refl
 
 -- reading goes on over a cut
 reading_cut : (setup : Setup) (bytes more : List ℕ) → reading_of setup (bytes ++ more) ≡ go_on (judge setup) (reading_of setup bytes) more
-unfolding reading_by
+unfolding reading_of
 reading_cut setup bytes more = goes_on.cut (judge setup) [] bytes more
 
 pub reading_more : (setup : Setup) (pieces : List Piece) (piece : Piece) → (reading_of setup (stream pieces)).stop ≡ Waiting → reading_of setup (stream (with_next pieces piece)) ≡ read (judge setup) (accepted setup (stream pieces)) ((reading_of setup (stream pieces)).rest ++ piece.bytes)
@@ -56,11 +56,11 @@ GoesOn setup pieces = (k : ℕ) → 1 ≤ k → k ≤ length pieces → is_over 
 
 -- what a session is at a piece is told by the pieces up to it
 over_same : (setup : Setup) (a b : List Piece) (k : ℕ) → take k a ≡ take k b → is_over setup a k ≡ is_over setup b k
-unfolding is_over_by too_many_handles read_first_by
+unfolding is_over too_many_handles read_first
 over_same setup a b k e = ap (λ (x : List Piece). ltb setup.pieces k || (ltb 4096 (handle_count x) || not (is_waiting (reading_of setup (stream x)).stop))) e
 
 not_over : (setup : Setup) (pieces : List Piece) (k : ℕ) → k ≤ setup.pieces → handle_count (take k pieces) ≤ 4096 → (reading_of setup (stream (take k pieces))).stop ≡ Waiting → is_over setup pieces k ≡ false
-unfolding is_over_by too_many_handles read_first_by
+unfolding is_over too_many_handles read_first
 not_over setup pieces k room few e = or_from _ _ (le-ltb setup.pieces k room) (or_from _ _ (le-ltb 4096 _ few) (ap (λ s. not (is_waiting s)) e))
 
 -- the pieces so far, and all with the next
@@ -89,39 +89,39 @@ goes_on_more setup pieces piece on room few waits k low high =
 -- ---- how it ends
 
 pub going : (setup : Setup) (pieces : List Piece) → GoesOn setup pieces → session setup pieces ≡ at_end (accepted setup (stream pieces))
-unfolding read_first_by
-going setup pieces on = session_end_by (judge setup) setup pieces on ∙ ap (λ (x : List Piece). at_end (accepted setup (stream x))) (take_all (length pieces) pieces (omega arith))
+unfolding read_first
+going setup pieces on = session_end setup pieces on ∙ ap (λ (x : List Piece). at_end (accepted setup (stream x))) (take_all (length pieces) pieces (omega arith))
 
 -- it is over with the next piece
 over_next : (setup : Setup) (pieces : List Piece) (piece : Piece) → GoesOn setup pieces → is_over setup (with_next pieces piece) (length pieces + 1) ≡ true → session setup (with_next pieces piece) ≡ over_at setup (with_next pieces piece) (length pieces + 1)
 over_next setup pieces piece on over =
-    session_over_by (judge setup) setup (with_next pieces piece) (length pieces + 1) (omega arith) (omega (arith, length_push pieces piece)) (λ j low lt. before_next setup pieces piece on j low (omega arith)) over
+    session_over setup (with_next pieces piece) (length pieces + 1) (omega arith) (omega (arith, length_push pieces piece)) (λ j low lt. before_next setup pieces piece on j low (omega arith)) over
 
 -- why it is over with a piece
 over_pieces : (setup : Setup) (pieces : List Piece) (k : ℕ) → setup.pieces < k → is_over setup pieces k ≡ true
-unfolding is_over_by
+unfolding is_over
 over_pieces setup pieces k lt = or_left _ _ (lt-ltb setup.pieces k lt)
 
 over_handles : (setup : Setup) (pieces : List Piece) (k : ℕ) → too_many_handles pieces k ≡ true → is_over setup pieces k ≡ true
-unfolding is_over_by
+unfolding is_over
 over_handles setup pieces k many = or_right _ _ (or_left _ _ many)
 
 over_stop : (setup : Setup) (pieces : List Piece) (k : ℕ) → is_waiting (read_first setup pieces k).stop ≡ false → is_over setup pieces k ≡ true
-unfolding is_over_by
+unfolding is_over
 over_stop setup pieces k e = or_right _ _ (or_right _ _ (not_from_false _ e))
 
 -- the outcome then
 at_pieces : (setup : Setup) (pieces : List Piece) (m : ℕ) → setup.pieces < m → over_at setup pieces m ≡ record { handled = (read_first setup pieces (m - 1)).past; answer = PieceLimit }
-unfolding over_at_by
-at_pieces setup pieces m lt = rw (lt-ltb setup.pieces m lt, over_at_by) refl
+unfolding over_at
+at_pieces setup pieces m lt = rw (lt-ltb setup.pieces m lt, over_at) refl
 
 at_handles : (setup : Setup) (pieces : List Piece) (m : ℕ) → m ≤ setup.pieces → too_many_handles pieces m ≡ true → over_at setup pieces m ≡ record { handled = (read_first setup pieces (m - 1)).past; answer = HandleLimit }
-unfolding over_at_by
-at_handles setup pieces m le many = rw (le-ltb setup.pieces m le, many, over_at_by) refl
+unfolding over_at
+at_handles setup pieces m le many = rw (le-ltb setup.pieces m le, many, over_at) refl
 
 at_stop : (setup : Setup) (pieces : List Piece) (m : ℕ) → m ≤ setup.pieces → too_many_handles pieces m ≡ false → over_at setup pieces m ≡ record { handled = (read_first setup pieces m).past; answer = answer_at (read_first setup pieces m) }
-unfolding over_at_by
-at_stop setup pieces m le few = rw (le-ltb setup.pieces m le, few, over_at_by) refl
+unfolding over_at
+at_stop setup pieces m le few = rw (le-ltb setup.pieces m le, few, over_at) refl
 
 -- the first pieces, and how many handles come with them
 few_with : (pieces : List Piece) (piece : Piece) → handle_count (with_next pieces piece) ≤ 4096 → too_many_handles (with_next pieces piece) (length pieces + 1) ≡ false
@@ -133,11 +133,11 @@ unfolding too_many_handles
 many_with pieces piece many = rw (take_with_next pieces piece (length pieces + 1) refl) (lt-ltb 4096 _ many)
 
 read_with : (setup : Setup) (pieces : List Piece) (piece : Piece) → read_first setup (with_next pieces piece) (length pieces + 1) ≡ reading_of setup (stream (with_next pieces piece))
-unfolding read_first_by
+unfolding read_first
 read_with setup pieces piece = ap (λ (x : List Piece). reading_of setup (stream x)) (take_with_next pieces piece (length pieces + 1) refl)
 
 read_without : (setup : Setup) (pieces : List Piece) (piece : Piece) → read_first setup (with_next pieces piece) (length pieces + 1 - 1) ≡ reading_of setup (stream pieces)
-unfolding read_first_by
+unfolding read_first
 read_without setup pieces piece = ap (λ (x : List Piece). reading_of setup (stream x)) (take_so_far pieces piece)
 
 pub stopped : (setup : Setup) (pieces : List Piece) (piece : Piece) → GoesOn setup pieces → length pieces < setup.pieces → handle_count (with_next pieces piece) ≤ 4096 → is_waiting (reading_of setup (stream (with_next pieces piece))).stop ≡ false → session setup (with_next pieces piece) ≡ record { handled = accepted setup (stream (with_next pieces piece)); answer = answer_at (reading_of setup (stream (with_next pieces piece))) }
@@ -237,7 +237,7 @@ front_same setup pieces k m le = over_same setup (take k pieces) pieces m (take_
 
 -- the outcome at a piece is told by the pieces up to it
 over_at_same : (setup : Setup) (a b : List Piece) (m : ℕ) → take m a ≡ take m b → take (m - 1) a ≡ take (m - 1) b → over_at setup a m ≡ over_at setup b m
-unfolding over_at_by too_many_handles read_first_by
+unfolding over_at too_many_handles read_first
 over_at_same setup a b m e f =
     ap (λ (x : List Piece). cond (ltb setup.pieces m) (record { handled = (reading_of setup (stream (take (m - 1) a))).past; answer = PieceLimit })
     (cond (ltb 4096 (handle_count x)) (record { handled = (reading_of setup (stream (take (m - 1) a))).past; answer = HandleLimit })
@@ -253,14 +253,14 @@ front_over setup pieces k f =
     let high = f.high in
     let n = length-take k pieces in
     let le : m ≤ k = omega arith in
-    session_over_by (judge setup) setup pieces m low (omega arith) (λ j a b. sym (front_same setup pieces k j (omega arith)) ∙ f.before j a b) (sym (front_same setup pieces k m le) ∙ f.passes)
+    session_over setup pieces m low (omega arith) (λ j a b. sym (front_same setup pieces k j (omega arith)) ∙ f.before j a b) (sym (front_same setup pieces k m le) ∙ f.passes)
     ∙ over_at_same setup pieces (take k pieces) m (sym (take_of_front pieces m k le)) (sym (take_of_front pieces (m - 1) k (omega arith)))
-    ∙ sym (session_over_by (judge setup) setup (take k pieces) m low high f.before f.passes)
+    ∙ sym (session_over setup (take k pieces) m low high f.before f.passes)
 
 pub session_front : (setup : Setup) (pieces : List Piece) (k : ℕ) → IsEarly (session setup (take k pieces)).answer → session setup pieces ≡ session setup (take k pieces)
 session_front setup pieces k early =
     elim (first_among (is_over setup (take k pieces)) (length (take k pieces))) [
-      | inl none ↦ absurd (end_is_late _ (subst (λ (o : Outcome). IsEarly o.answer) (session_end_by (judge setup) setup (take k pieces) none) early))
+      | inl none ↦ absurd (end_is_late _ (subst (λ (o : Outcome). IsEarly o.answer) (session_end setup (take k pieces) none) early))
       | inr f ↦ front_over setup pieces k f
     ]
 
@@ -295,24 +295,24 @@ abbrev BeginsWith : Setup → Outcome → List Piece → ℕ → Type 0
 BeginsWith setup o pieces k = (more : List Raw) × (o.handled ≡ more ++ accepted setup (stream (take k pieces)))
 
 over_cases : (setup : Setup) (pieces : List Piece) (m k : ℕ) (full many : Bool) → k ≤ m - 1 → ltb setup.pieces m ≡ full → too_many_handles pieces m ≡ many → BeginsWith setup (over_at setup pieces m) pieces k
-unfolding over_at_by read_first_by
-over_cases setup pieces m k true many le e f = let x = accepted_front setup pieces k (m - 1) le in (x.0, rw (e, over_at_by) x.1)
-over_cases setup pieces m k false true le e f = let x = accepted_front setup pieces k (m - 1) le in (x.0, rw (e, f, over_at_by) x.1)
-over_cases setup pieces m k false false le e f = let x = accepted_front setup pieces k m (omega arith) in (x.0, rw (e, f, over_at_by) x.1)
+unfolding over_at read_first
+over_cases setup pieces m k true many le e f = let x = accepted_front setup pieces k (m - 1) le in (x.0, rw (e, over_at) x.1)
+over_cases setup pieces m k false true le e f = let x = accepted_front setup pieces k (m - 1) le in (x.0, rw (e, f, over_at) x.1)
+over_cases setup pieces m k false false le e f = let x = accepted_front setup pieces k m (omega arith) in (x.0, rw (e, f, over_at) x.1)
 
 over_after : (setup : Setup) (pieces : List Piece) (m k : ℕ) → k ≤ m - 1 → BeginsWith setup (over_at setup pieces m) pieces k
 over_after setup pieces m k le = over_cases setup pieces m k (ltb setup.pieces m) (too_many_handles pieces m) le refl refl
 
 -- it ends with that piece, and takes it
 over_here : (setup : Setup) (pieces : List Piece) (m k : ℕ) → m ≡ k → m ≤ setup.pieces → too_many_handles pieces m ≡ false → BeginsWith setup (over_at setup pieces m) pieces k
-unfolding read_first_by
+unfolding read_first
 over_here setup pieces m k same room few = ([], ap (λ (o : Outcome). o.handled) (at_stop setup pieces m room few) ∙ ap (λ (n : ℕ). accepted setup (stream (take n pieces))) same)
 
 end_after : (setup : Setup) (pieces : List Piece) (k : ℕ) → k ≤ length pieces → NonePass (is_over setup pieces) (length pieces) → BeginsWith setup (session setup pieces) pieces k
-unfolding read_first_by
+unfolding read_first
 end_after setup pieces k le none =
     let x = accepted_front setup pieces k (length pieces) le in
-    (x.0, ap (λ (o : Outcome). o.handled) (session_end_by (judge setup) setup pieces none) ∙ x.1)
+    (x.0, ap (λ (o : Outcome). o.handled) (session_end setup pieces none) ∙ x.1)
 
 -- what the session handles, from what it handles where it is over with a piece
 handled_from : (setup : Setup) (pieces : List Piece) (k : ℕ) → k ≤ length pieces → ((m : ℕ) → is_over setup pieces m ≡ true → 1 ≤ m → BeginsWith setup (over_at setup pieces m) pieces k) → BeginsWith setup (session setup pieces) pieces k
@@ -321,7 +321,7 @@ handled_from setup pieces k le over =
       | inl none ↦ end_after setup pieces k le none
       | inr f ↦
           let x = over f.at f.passes f.low in
-          (x.0, ap (λ (o : Outcome). o.handled) (session_over_by (judge setup) setup pieces f.at f.low f.high f.before f.passes) ∙ x.1)
+          (x.0, ap (λ (o : Outcome). o.handled) (session_over setup pieces f.at f.low f.high f.before f.passes) ∙ x.1)
     ]
 
 -- it is over with no piece up to the kth

@@ -12,7 +12,7 @@ use Rattle.ei_session.specs.Setup.{Setup}
 use Rattle.ei_session.specs.Requests.{slot, framed}
 use Rattle.ei_session.specs.Events.{replies}
 use Rattle.ei_session.specs.Refusals.{Refusal as Cause}
-use Rattle.ei_session.specs.Served.{reading_by, accepted, reading_of}
+use Rattle.ei_session.specs.Served.{reading_of, accepted}
 use Rattle.ei_backend.specs.Outside.{with_more}
 use Rattle.ei_request.specs.declared.event.EisRequest.{EisRequest}
 use Rattle.ei_serve.specs.declared.state.SessionState.{SessionState}
@@ -94,7 +94,7 @@ goes_on setup n s t x y z r g = record {
 
 -- nothing is read of no pieces
 pub nothing_read : (setup : Setup) → reading_of setup (stream []) ≡ reading [] [] Waiting
-unfolding reading_by stream read read_within front
+unfolding reading_of stream read read_within front
 nothing_read setup = refl
 
 none_accepted : (setup : Setup) → accepted setup (stream []) ≡ []

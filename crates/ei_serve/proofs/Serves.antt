@@ -17,7 +17,7 @@ use Rattle.ei_session.specs.Refusals.{Refusal as Cause}
 use Rattle.ei_session.specs.Requests.{Request, slot, framed}
 use Rattle.ei_session.specs.Replies.{greeting}
 use Rattle.ei_session.specs.Events.{replies}
-use Rattle.ei_session.specs.Served.{Answer, Disconnect, End, UnexpectedEof, IdsExhausted, PieceLimit, HandleLimit, Refused, Outcome, answer_at, at_end, is_waiting, is_over_by, IsGood}
+use Rattle.ei_session.specs.Served.{Answer, Disconnect, End, UnexpectedEof, IdsExhausted, PieceLimit, HandleLimit, Refused, Outcome, answer_at, at_end, is_waiting, is_over, IsGood}
 use Rattle.ei_session.specs.Served.{session, is_over, reading_of, accepted, IsValid}
 use Rattle.ei_session.specs.Complete.{AreComplete}
 use Rattle.ei_session.proofs.AllParts.{replies_prefix}
@@ -545,7 +545,7 @@ pub no_end : (e : Error) (r : Result HowEnded Error) → r ≡ Err e → IsSourc
 no_end e r same h = no_end_by e (subst (λ (q : Result HowEnded Error). IsSourceEnd q) same h)
 
 over_limit : (setup : Setup) (pieces : List Piece) (k : ℕ) → setup.pieces < k → is_over setup pieces k ≡ true
-unfolding is_over_by
+unfolding is_over
 over_limit setup pieces k lt = rw (lt-ltb setup.pieces k lt) refl
 
 -- no session goes on after more turns than pieces may be taken

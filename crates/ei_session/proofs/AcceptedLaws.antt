@@ -7,7 +7,7 @@ use Rattle.ei_spec.proofs.OneReading.{is_reading}
 use Rattle.ei_session.specs.Setup.{Setup}
 use Rattle.ei_session.specs.Devices.{exhausts}
 use Rattle.ei_session.specs.Refusals.{Refusal, refusal, is_disconnect, verdict, judge}
-use Rattle.ei_session.specs.Served.{AreUnrefused, reading_by, reading_of, accepted}
+use Rattle.ei_session.specs.Served.{AreUnrefused, reading_of, accepted}
 use Rattle.ei_spec.specs.History.{occurs}
 use Rattle.ei_spec.proofs.HistoryLaws.{occurs_or}
 use Rattle.ei_session.proofs.Choices.{chosen, or_none}
@@ -44,7 +44,7 @@ stops_unrefused setup (HeaderLength n) past rest h = open_unrefused setup past h
 stops_unrefused setup (RefusedStop e) past rest h = open_unrefused setup past h.0
 
 pub accepted_unrefused : (setup : Setup) (bytes : List ℕ) → IsBytes bytes → AreUnrefused setup (accepted setup bytes)
-unfolding reading_by
+unfolding reading_of
 accepted_unrefused setup bytes h = let r = is_reading (judge setup) bytes h in stops_unrefused setup _ _ _ r.stops
 
 -- ---- what is unread
@@ -78,7 +78,7 @@ waits_short setup (HeaderLength n) past rest e h = absurd cc
 waits_short setup (RefusedStop x) past rest e h = absurd cc
 
 pub unread_short : (setup : Setup) (bytes : List ℕ) → IsBytes bytes → (reading_of setup bytes).stop ≡ Waiting → length (reading_of setup bytes).rest < 1048576
-unfolding reading_by
+unfolding reading_of
 unread_short setup bytes h e = let r = is_reading (judge setup) bytes h in front_short _ (waits_short setup _ _ _ e r.stops)
 
 -- ---- accepted messages exhaust no ids, but the last may

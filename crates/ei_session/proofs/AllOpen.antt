@@ -22,8 +22,8 @@ use Rattle.ei_session.specs.Touches.{input, touches, is_down, puts, touches_down
 use Rattle.ei_session.specs.Refusals.{synced, may_give, came, refusal, is_disconnect, judge}
 use Rattle.ei_session.specs.Requests.{item, slot, framed}
 use Rattle.ei_session.specs.Events.{device_events, reply, replies}
-use Rattle.ei_session.specs.Served.{reading_by, read_first_by, is_over_by, over_at_by, session_by}
+use Rattle.ei_session.specs.Served.{reading_of, read_first, is_over, over_at, session}
 
 unfoldable pub all_open : Unit {0}
-unfolding is_utf8 utf8_valid_len chars encode stream handle_count le4 le8 of_le4 of_le8 header bytes_of front read read_within letters_at text_at last_said occurs total joined each since closes input_of group timed makes_frame frames_made with_frame gives grouped whole row_args request_args is_finish connected is_the_finish announced announces settled version all_settled settled_events capability_events finish_events least too_many_handles asked asks interfaces_of releases_seat seat_is_open asked_mask made ids_given next_id exhausts makes device_interfaces new_device handed_over introduces introduced is_release was_device is_of removes says object interfaces_left gone steps serial input touches is_down puts touches_down synced may_give came refusal is_disconnect judge item slot framed device_events reply replies reading_by read_first_by is_over_by over_at_by session_by
+unfolding is_utf8 utf8_valid_len chars encode stream handle_count le4 le8 of_le4 of_le8 header bytes_of front read read_within letters_at text_at last_said occurs total joined each since closes input_of group timed makes_frame frames_made with_frame gives grouped whole row_args request_args is_finish connected is_the_finish announced announces settled version all_settled settled_events capability_events finish_events least too_many_handles asked asks interfaces_of releases_seat seat_is_open asked_mask made ids_given next_id exhausts makes device_interfaces new_device handed_over introduces introduced is_release was_device is_of removes says object interfaces_left gone steps serial input touches is_down puts touches_down synced may_give came refusal is_disconnect judge item slot framed device_events reply replies reading_of read_first is_over over_at session
 all_open = tt

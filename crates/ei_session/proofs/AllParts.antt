@@ -10,8 +10,7 @@ use Rattle.ei_session.specs.Setup.{Setup}
 use Rattle.ei_session.specs.Requests.{Request, framed, slot}
 use Rattle.ei_session.specs.Replies.{greeting}
 use Rattle.ei_session.specs.Events.{reply, replies}
-use Rattle.ei_session.specs.Refusals.{judge}
-use Rattle.ei_session.specs.Served.{Judge, session_by, over_at_by, is_over_by, read_first_by, session, over_at, is_over, read_first, at_end}
+use Rattle.ei_session.specs.Served.{session, over_at, is_over, read_first, at_end}
 use Rattle.ei_session.proofs.Least.{least_none, least_some}
 
 pub framed_more : (setup : Setup) (readings : List ℕ) (before : List Raw) (m : Raw) →
@@ -48,21 +47,13 @@ pub framed_readings : (setup : Setup) (readings later : List ℕ) (before : List
 unfolding framed
 framed_readings setup readings later before le = grouped_readings readings later (each (slot setup) before) le
 
--- ---- by any judge
+-- ---- over pieces
 
-module _ (judged : Judge) (setup : Setup) (pieces : List Piece) where
-  pub session_over_by : (m : ℕ) → 1 ≤ m → m ≤ length pieces → ((j : ℕ) → 1 ≤ j → j < m → is_over_by judged setup pieces j ≡ false) → is_over_by judged setup pieces m ≡ true → session_by judged setup pieces ≡ over_at_by judged setup pieces m
-  unfolding session_by
-  session_over_by m low high h passes = rw (least_some (is_over_by judged setup pieces) 1 (length pieces) m low (omega arith) h passes, session_by) refl
+module _ (setup : Setup) (pieces : List Piece) where
+  pub session_over : (m : ℕ) → 1 ≤ m → m ≤ length pieces → ((j : ℕ) → 1 ≤ j → j < m → is_over setup pieces j ≡ false) → is_over setup pieces m ≡ true → session setup pieces ≡ over_at setup pieces m
+  unfolding session
+  session_over m low high h passes = rw (least_some (is_over setup pieces) 1 (length pieces) m low (omega arith) h passes, session) refl
 
-  pub session_end_by : ((j : ℕ) → 1 ≤ j → j ≤ length pieces → is_over_by judged setup pieces j ≡ false) → session_by judged setup pieces ≡ at_end (read_first_by judged pieces (length pieces)).past
-  unfolding session_by
-  session_end_by h = rw (least_none (is_over_by judged setup pieces) 1 (length pieces) (λ j a b. h j a (omega arith)), session_by) refl
-
--- ---- by the judge
-
-pub session_over : (setup : Setup) (pieces : List Piece) (m : ℕ) → 1 ≤ m → m ≤ length pieces → ((j : ℕ) → 1 ≤ j → j < m → is_over setup pieces j ≡ false) → is_over setup pieces m ≡ true → session setup pieces ≡ over_at setup pieces m
-session_over setup pieces = session_over_by (judge setup) setup pieces
-
-pub session_end : (setup : Setup) (pieces : List Piece) → ((j : ℕ) → 1 ≤ j → j ≤ length pieces → is_over setup pieces j ≡ false) → session setup pieces ≡ at_end (read_first setup pieces (length pieces)).past
-session_end setup pieces = session_end_by (judge setup) setup pieces
+  pub session_end : ((j : ℕ) → 1 ≤ j → j ≤ length pieces → is_over setup pieces j ≡ false) → session setup pieces ≡ at_end (read_first setup pieces (length pieces)).past
+  unfolding session
+  session_end h = rw (least_none (is_over setup pieces) 1 (length pieces) (λ j a b. h j a (omega arith)), session) refl

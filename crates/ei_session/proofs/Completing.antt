@@ -14,7 +14,7 @@ use Rattle.ei_session.specs.Setup.{Setup}
 use Rattle.ei_session.specs.Refusals.{Refusal, judge}
 use Rattle.ei_session.specs.Served.{least, too_many_handles}
 use Rattle.ei_session.specs.Served.{Disconnect, IdsExhausted, reading_of, read_first, ran_out, is_waiting, is_over, over_at, answer_of, IsGood, Outcome}
-use Rattle.ei_session.specs.Served.{session, reading_by, read_first_by, is_over_by, over_at_by}
+use Rattle.ei_session.specs.Served.{session, reading_of, read_first, is_over, over_at}
 use Rattle.ei_session.specs.Complete.{is_left, disconnects, needed, AreComplete}
 use Rattle.ei_session.proofs.Choices.{not_both}
 use Rattle.ei_session.proofs.Least.{least_none, least_some}
@@ -85,14 +85,14 @@ pub record Stays (a b : Reading Refusal) : Type 0 where
   pub past : b.past ≡ a.past
 
 stays_by : (setup : Setup) (bytes more : List ℕ) → is_waiting (reading_of setup bytes).stop ≡ false → Stays (reading_of setup bytes) (reading_of setup (bytes ++ more))
-unfolding reading_by
+unfolding reading_of
 stays_by setup bytes more w =
     let r = read (judge setup) [] bytes in
     let e = goes_on.cut (judge setup) [] bytes more ∙ kept_at setup r.stop r.past r.rest more w in
     record { stop = ap (λ (x : Reading Refusal). x.stop) e; past = ap (λ (x : Reading Refusal). x.past) e }
 
 stays : (setup : Setup) (pieces : List Piece) (j k : ℕ) → j ≤ k → is_waiting (read_first setup pieces j).stop ≡ false → Stays (read_first setup pieces j) (read_first setup pieces k)
-unfolding read_first_by
+unfolding read_first
 stays setup pieces j k le w =
     let t = take_more pieces j k le in
     subst (λ (x : List ℕ). Stays (reading_of setup (stream (take j pieces))) (reading_of setup x)) (sym (ap stream t.1 ∙ stream_append (take j pieces) t.0)) (stays_by setup (stream (take j pieces)) (stream t.0) w)
@@ -108,11 +108,11 @@ module _ (setup : Setup) (pieces : List Piece) (k : ℕ) (few : k ≤ setup.piec
   handles_at j le = le-ltb 4096 (handle_count (take j pieces)) (omega (arith, handles, fewer_handles pieces j k le))
 
   over_by : (j : ℕ) (w : Bool) → j ≤ k → is_waiting (read_first setup pieces j).stop ≡ w → is_over setup pieces j ≡ not w
-  unfolding is_over_by
+  unfolding is_over
   over_by j w le e = rw (few_at j le, handles_at j le, e) refl
 
   answered_at : over_at setup pieces k ≡ record { handled = (read_first setup pieces k).past; answer = answer_of (read_first setup pieces k).stop (read_first setup pieces k).past }
-  unfolding over_at_by
+  unfolding over_at
   answered_at = rw (few_at k (omega arith), handles_at k (omega arith)) refl
 
 waits_before : (setup : Setup) (pieces : List Piece) (j k : ℕ) → j ≤ k → disconnects setup pieces j ≡ false → disconnects setup pieces k ≡ true → is_waiting (read_first setup pieces j).stop ≡ true
@@ -149,7 +149,7 @@ good_waits (HeaderLength n) past g h = absurd g
 good_waits (RefusedStop e) past g h = absurd g
 
 nothing_read : (setup : Setup) (pieces : List Piece) → (read_first setup pieces 0).stop ≡ Waiting
-unfolding read_first_by reading_by read read_within front stream
+unfolding read_first reading_of read read_within front stream
 nothing_read setup pieces = refl
 
 -- the outcome of such pieces
@@ -188,7 +188,7 @@ module _ (setup : Setup) (pieces : List Piece) where
       record { good = subst (λ (o : Outcome). IsGood o.answer) (sym e) g2; handled = ap (λ (o : Outcome). o.handled) e }
 
   good_first : (k : ℕ) → IsGood (answer_of (reading_of setup (stream (take k pieces))).stop (reading_of setup (stream (take k pieces))).past) → IsGood (answer_of (read_first setup pieces k).stop (read_first setup pieces k).past)
-  unfolding read_first_by
+  unfolding read_first
   good_first k g = g
 
   ends_by : (o : Option ℕ) → least (disconnects setup pieces) 1 (length pieces) ≡ o → unwrap_or o (length pieces) ≤ setup.pieces → handle_count (take (unwrap_or o (length pieces)) pieces) ≤ 4096 → IsGood (answer_of (read_first setup pieces (unwrap_or o (length pieces))).stop (read_first setup pieces (unwrap_or o (length pieces))).past) → Ends setup pieces (unwrap_or o (length pieces))

@@ -24,7 +24,7 @@ use Rattle.ei_session.specs.Serial.{serial}
 use Rattle.ei_session.specs.Refusals.{Refusal, synced, is_at_most, refusal, judge}
 use Rattle.ei_session.specs.Events.{invalid_object_event, callback_event, device_event, device_type_event, device_done_event, resumed_event, interface_events}
 use Rattle.ei_session.specs.Events.{device_events, destroyed_events, callback_events, reply_by, reply, replies}
-use Rattle.ei_session.specs.Served.{reading_by, reading_of, accepted}
+use Rattle.ei_session.specs.Served.{reading_of, accepted}
 use Rattle.ei_session.specs.Told.{tells, told, interface_of, destroys, ReadsAs, IsReply}
 use Rattle.ei_session.proofs.Choices.{not_true, turned, chosen, some_is, none_some, not_both, and_false, and_left, and_right}
 use Rattle.ei_session.proofs.AllParts.{replies_more}
@@ -386,7 +386,7 @@ module _ (setup : Setup) (small : setup.serial < 2 ^ 32) where
   stops_told (RefusedStop e) past rest h = (open_answered past h.0).all
 
   accepted_told : (stream : List ℕ) → IsBytes stream → AreTold setup (accepted setup stream) [] (replies setup (accepted setup stream))
-  unfolding reading_by
+  unfolding reading_of
   accepted_told stream h = let r = is_reading (judge setup) stream h in stops_told _ _ _ r.stops
 
 -- an event of the replies to the messages of a stream

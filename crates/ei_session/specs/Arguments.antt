@@ -1,5 +1,5 @@
 -- The arguments of raw messages, read by the table of messages, and the events, by their names in it.
-use Rattle.std.specs.Prelude.{ℕ, Bool, true, false, List, [], ◌∷◌, length, Option, Some, None, Result, Ok, Err, ◌==◌, if◌then◌else◌}
+use Rattle.std.specs.Prelude.{ℕ, true, false, List, [], length, Option, Some, None, Result, Ok, Err, ◌==◌, if◌then◌else◌}
 use Rattle.ei_spec.specs.declared.interface.KnownInterface.{KnownInterface}
 use Rattle.ei_spec.specs.Value.{Value}
 use Rattle.ei_spec.specs.Reading.{Unread, ArgumentStop, all_at}

@@ -1,5 +1,5 @@
 -- The arguments of requests, by their names in the table of all messages.
-use Rattle.std.specs.Prelude.{ℕ, Bool, true, false, List, Option, Some, None, is_some, ◌==◌, if◌then◌else◌}
+use Rattle.std.specs.Prelude.{ℕ, Bool, false, List, Option, Some, None, is_some, ◌==◌, if◌then◌else◌}
 use Rattle.ei_spec.specs.declared.interface.KnownInterface.{KnownInterface}
 use Rattle.ei_spec.specs.Value.{Value}
 pub use Rattle.ei_spec.specs.FromValues.{first, none, one, two, three, long, text}

@@ -1,12 +1,12 @@
 -- The events of a handshake, and those that hand over the connection and its seat.
-use Rattle.std.specs.Prelude.{ℕ, Bool, true, false, ◌&&◌, List, [], ◌∷◌, ◌++◌, Option, Some, None, is_some, codes, if◌then◌else◌}
+use Rattle.std.specs.Prelude.{ℕ, Bool, ◌&&◌, List, [], ◌∷◌, ◌++◌, Option, Some, None, is_some, codes, if◌then◌else◌}
 use Rattle.std.specs.Option.{option_map}
 use Rattle.std.specs.List.{filter_map}
 use Rattle.ei_spec.specs.declared.interface.KnownInterface.{KnownInterface}
 use Rattle.ei_spec.specs.declared.interface.KnownInterface.TheVariants as known
 use Rattle.ei_spec.specs.Interface.{name_of, the_twelve}
-use Rattle.ei_spec.specs.Value.{Value, Word, Long, Letters}
-use Rattle.ei_spec.specs.Message.{Raw, message}
+use Rattle.ei_spec.specs.Value.{Word, Long, Letters}
+use Rattle.ei_spec.specs.Message.{Raw}
 use Rattle.ei_types.specs.Capability.{capabilities, has_bit}
 use Rattle.ei_session.specs.Setup.{Setup, connection_id, seat_id}
 use Rattle.ei_session.specs.Arguments.{event}

@@ -2,7 +2,7 @@
 use Rattle.std.specs.Prelude.{ℕ, zero, suc, ◌+◌, ◌-◌, ◌≡◌, Bool, true, false, not, ◌||◌, List, [], ◌∷◌, take, length, Option, Some, None, nat_lt, if◌then◌else◌}
 use Rattle.ei_spec.specs.Reading.{HeaderLength as LengthFault}
 use Rattle.ei_spec.specs.Message.{Raw}
-use Rattle.ei_spec.specs.Stream.{Verdict, Stop, Waiting, Ended, HeaderLength, Refusal as RefusedStop, Reading, read}
+use Rattle.ei_spec.specs.Stream.{Stop, Waiting, Ended, HeaderLength, Refusal as RefusedStop, Reading, read}
 use Rattle.ei_spec.specs.Piece.{Piece, stream, handle_count}
 use Rattle.ei_session.specs.Setup.{Setup}
 use Rattle.ei_session.specs.Handshake.{connected}
@@ -10,17 +10,9 @@ use Rattle.ei_session.specs.Devices.{exhausts}
 use Rattle.ei_session.specs.Refusals.{Refusal, Parse, refusal, judge}
 use Rattle.ei_spec.specs.declared.limits.TheConstants.{MOST_UNREAD_HANDLES}
 
--- what becomes of a message, by those before it
-abbrev pub Judge : Type 0
-Judge = List Raw → Raw → Verdict Refusal
-
--- the reading of a stream from its start, by any judge
-unfoldable pub reading_by : Judge → List ℕ → Reading Refusal
-reading_by judged bytes = read judged [] bytes
-
 -- the reading of a stream from its start
-abbrev pub reading_of : Setup → List ℕ → Reading Refusal
-reading_of setup bytes = reading_by (judge setup) bytes
+unfoldable pub reading_of : Setup → List ℕ → Reading Refusal
+reading_of setup bytes = read (judge setup) [] bytes
 
 -- the messages of a stream, the newest first
 abbrev pub accepted : Setup → List ℕ → List Raw
@@ -64,7 +56,7 @@ IsValidReading r = IsGood (answer_at r)
 abbrev pub IsValid : Setup → List ℕ → Type 0
 IsValid setup bytes = IsValidReading (reading_of setup bytes)
 
--- ---- over pieces, by any judge
+-- ---- over pieces
 
 -- whether the first k pieces have more handles than may be unread
 unfoldable pub too_many_handles : List Piece → ℕ → Bool
@@ -76,16 +68,16 @@ least test k zero = None
 least test k (suc n) = elim (test k) [ true ↦ Some k | false ↦ least test (k + 1) n ]
 
 -- the reading of the first k pieces
-unfoldable pub read_first_by : Judge → List Piece → ℕ → Reading Refusal
-read_first_by judged pieces k = reading_by judged (stream (take k pieces))
+unfoldable pub read_first : Setup → List Piece → ℕ → Reading Refusal
+read_first setup pieces k = reading_of setup (stream (take k pieces))
 
 abbrev pub is_waiting : Stop Refusal → Bool
 is_waiting Waiting = true
 is_waiting stop = false
 
 -- whether the session is over with piece k
-unfoldable pub is_over_by : Judge → Setup → List Piece → ℕ → Bool
-is_over_by judged setup pieces k = nat_lt setup.pieces k || (too_many_handles pieces k || not (is_waiting (read_first_by judged pieces k).stop))
+unfoldable pub is_over : Setup → List Piece → ℕ → Bool
+is_over setup pieces k = nat_lt setup.pieces k || (too_many_handles pieces k || not (is_waiting (read_first setup pieces k).stop))
 
 -- the messages handled, the newest first, and the answer
 pub record Outcome : Type 0 where
@@ -93,37 +85,19 @@ pub record Outcome : Type 0 where
   pub answer : Answer
 
 -- the outcome where the session is over with piece m
-unfoldable pub over_at_by : Judge → Setup → List Piece → ℕ → Outcome
-over_at_by judged setup pieces m =
-    if nat_lt setup.pieces m then record { handled = (read_first_by judged pieces (m - 1)).past; answer = PieceLimit }
-    else (if too_many_handles pieces m then record { handled = (read_first_by judged pieces (m - 1)).past; answer = HandleLimit }
-    else record { handled = (read_first_by judged pieces m).past; answer = answer_at (read_first_by judged pieces m) })
+unfoldable pub over_at : Setup → List Piece → ℕ → Outcome
+over_at setup pieces m =
+    if nat_lt setup.pieces m then record { handled = (read_first setup pieces (m - 1)).past; answer = PieceLimit }
+    else (if too_many_handles pieces m then record { handled = (read_first setup pieces (m - 1)).past; answer = HandleLimit }
+    else record { handled = (read_first setup pieces m).past; answer = answer_at (read_first setup pieces m) })
 
 -- the outcome where the pieces end before it is over
 abbrev pub at_end : List Raw → Outcome
 at_end past = record { handled = past; answer = answer_of Waiting past }
 
 -- the outcome of a session over these pieces
-unfoldable pub session_by : Judge → Setup → List Piece → Outcome
-session_by judged setup pieces = elim (least (is_over_by judged setup pieces) 1 (length pieces)) [
-  | Some m ↦ over_at_by judged setup pieces m
-  | None ↦ at_end (read_first_by judged pieces (length pieces)).past
+unfoldable pub session : Setup → List Piece → Outcome
+session setup pieces = elim (least (is_over setup pieces) 1 (length pieces)) [
+  | Some m ↦ over_at setup pieces m
+  | None ↦ at_end (read_first setup pieces (length pieces)).past
 ]
-
--- ---- over pieces
-
--- the reading of the first k pieces
-abbrev pub read_first : Setup → List Piece → ℕ → Reading Refusal
-read_first setup pieces k = read_first_by (judge setup) pieces k
-
--- whether the session is over with piece k
-abbrev pub is_over : Setup → List Piece → ℕ → Bool
-is_over setup pieces k = is_over_by (judge setup) setup pieces k
-
--- the outcome where the session is over with piece m
-abbrev pub over_at : Setup → List Piece → ℕ → Outcome
-over_at setup pieces m = over_at_by (judge setup) setup pieces m
-
--- the outcome of a session over these pieces
-abbrev pub session : Setup → List Piece → Outcome
-session setup pieces = session_by (judge setup) setup pieces

@@ -6,7 +6,7 @@ use Rattle.std.specs.Option.{option_or}
 use Rattle.ei_spec.specs.declared.interface.KnownInterface.{KnownInterface}
 use Rattle.ei_spec.specs.declared.interface.KnownInterface.TheVariants as known
 use Rattle.ei_spec.specs.Interface.{known_of}
-use Rattle.ei_spec.specs.Value.{Kind, Value, IsOf}
+use Rattle.ei_spec.specs.Value.{Value}
 use Rattle.ei_spec.specs.Rows.{Announces, Nothing, Fixed, Named, Row, row_at, new_id, name_in}
 use Rattle.ei_spec.specs.Table.{table}
 use Rattle.ei_spec.specs.Message.{Raw, IsBytes}

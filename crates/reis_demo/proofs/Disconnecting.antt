@@ -12,8 +12,8 @@ use Rattle.ei_spec.proofs.Cuts.{front_none}
 use Rattle.ei_spec.proofs.FrontLaws.{front_again}
 use Rattle.ei_spec.proofs.GoesOn as goes_on
 use Rattle.ei_session.specs.Refusals.{Refusal, judge}
-use Rattle.ei_session.specs.Served.{Disconnect, reading_of, reading_by, read_first, read_first_by, ran_out, is_waiting, is_over, is_over_by, over_at, over_at_by, answer_of, least, too_many_handles}
-use Rattle.ei_session.specs.Served.{Outcome, session, session_by}
+use Rattle.ei_session.specs.Served.{Disconnect, reading_of, read_first, ran_out, is_waiting, is_over, over_at, answer_of, least, too_many_handles}
+use Rattle.ei_session.specs.Served.{Outcome, session}
 use Rattle.reis_demo.specs.Generated.{demo_setup, piece_at, cut, groups_from, opening, disconnect_message, generated_messages, generated_bytes, generated}
 use Rattle.reis_demo.proofs.CutLaws.{joined_again}
 use Rattle.reis_demo.proofs.Passing.{onto, groups_pass, ready_after, read_over, read_opening, opening_ready, end_lawful, end_judged, end_lasts}
@@ -86,7 +86,7 @@ kept_at (RefusedStop e) past rest more w = refl
 
 stays : (bytes more : List ℕ) → is_waiting (reading_of demo_setup bytes).stop ≡ false →
     answer_of (reading_of demo_setup (bytes ++ more)).stop (reading_of demo_setup (bytes ++ more)).past ≡ answer_of (reading_of demo_setup bytes).stop (reading_of demo_setup bytes).past
-unfolding reading_by
+unfolding reading_of
 stays bytes more w =
     let r = read (judge demo_setup) [] bytes in
     ap (λ (x : Reading Refusal). answer_of x.stop x.past) (goes_on.cut (judge demo_setup) [] bytes more ∙ kept_at r.stop r.past r.rest more w)
@@ -97,7 +97,7 @@ stream_append a b = flat_map-append (λ (p : Piece). p.bytes) a b
 
 -- no piece doesn't end it
 nothing_ends : (pieces : List Piece) → is_waiting (reading_of demo_setup (stream (take 0 pieces))).stop ≡ false → ⊥
-unfolding reading_by stream
+unfolding reading_of stream
 nothing_ends pieces h =
     let waits : is_waiting (read (judge demo_setup) [] []).stop ≡ true = ap (λ (r : Reading Refusal). is_waiting r.stop) (goes_on.read_short (judge demo_setup) [] [] front_none) in
     let q : true ≡ false = sym waits ∙ h in cc
@@ -114,15 +114,15 @@ module _ (pieces : List Piece) (few : length pieces ≤ 4294967295) (none : (k :
   handles_at j = let n = none j in le-ltb 4096 (handle_count (take j pieces)) (omega (arith, n))
 
   over_by : (j : ℕ) (w : Bool) → j ≤ length pieces → is_waiting (read_first demo_setup pieces j).stop ≡ w → is_over demo_setup pieces j ≡ not w
-  unfolding is_over_by
+  unfolding is_over
   over_by j w le e = rw (few_at j le, handles_at j, e) refl
 
   answered_at : (j : ℕ) → j ≤ length pieces → (over_at demo_setup pieces j).answer ≡ answer_of (read_first demo_setup pieces j).stop (read_first demo_setup pieces j).past
-  unfolding over_at_by
+  unfolding over_at
   answered_at j le = rw (few_at j le, handles_at j) refl
 
   same_answer : (j : ℕ) → is_waiting (read_first demo_setup pieces j).stop ≡ false → answer_of (read_first demo_setup pieces j).stop (read_first demo_setup pieces j).past ≡ Disconnect
-  unfolding read_first_by
+  unfolding read_first
   same_answer j w =
       let whole : stream (take j pieces) ++ stream (drop j pieces) ≡ stream pieces = sym (stream_append (take j pieces) (drop j pieces)) ∙ ap stream (take-append-drop j pieces) in
       sym (stays (stream (take j pieces)) (stream (drop j pieces)) w)
@@ -130,7 +130,7 @@ module _ (pieces : List Piece) (few : length pieces ≤ 4294967295) (none : (k :
       ∙ disconnects
 
   last_read : is_waiting (read_first demo_setup pieces (length pieces)).stop ≡ false
-  unfolding read_first_by
+  unfolding read_first
   last_read = ap (λ (ps : List Piece). is_waiting (reading_of demo_setup (stream ps)).stop) (take_all (length pieces) pieces (omega arith)) ∙ ends
 
   stops_at : (j : ℕ) (w : Bool) → j ≤ length pieces → is_waiting (read_first demo_setup pieces j).stop ≡ w → is_over demo_setup pieces j ≡ true → w ≡ false
@@ -138,12 +138,12 @@ module _ (pieces : List Piece) (few : length pieces ≤ 4294967295) (none : (k :
   stops_at j false le e over = refl
 
   by_least : (o : Option ℕ) (n : ℕ) → length pieces ≡ suc n → least (is_over demo_setup pieces) 1 (length pieces) ≡ o → (session demo_setup pieces).answer ≡ Disconnect
-  unfolding session_by
+  unfolding session
   by_least (Some m) n some e =
       let l = least_holds (is_over demo_setup pieces) (length pieces) 1 m e in
       let within : m ≤ length pieces = omega (arith, l.2) in
       let w = stops_at m (is_waiting (read_first demo_setup pieces m).stop) within refl l.0 in
-      let outcome : session demo_setup pieces ≡ over_at demo_setup pieces m = rw (e, session_by) refl in
+      let outcome : session demo_setup pieces ≡ over_at demo_setup pieces m = rw (e, session) refl in
       ap (λ (o : Outcome). o.answer) outcome ∙ answered_at m within ∙ same_answer m w
   by_least None n some e =
       let last : is_over demo_setup pieces (1 + n) ≡ false = least_fails (is_over demo_setup pieces) n 1 (ap (least (is_over demo_setup pieces) 1) (sym some) ∙ e) in
@@ -175,7 +175,7 @@ cut_handles size bytes k = no_handles size bytes _ k
 
 -- of any number of groups that fits four bytes, and any first number
 pub ends_by_disconnect : (groups start : ℕ) → groups < 2 ^ 32 → (session demo_setup (generated groups start)).answer ≡ Disconnect
-unfolding reading_by
+unfolding reading_of
 ends_by_disconnect groups start small =
     let bytes = generated_bytes groups start in
     let pieces = cut 4096 bytes in

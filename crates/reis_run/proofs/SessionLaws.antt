@@ -13,7 +13,7 @@ use Rattle.ei_session.specs.Requests.{framed}
 use Rattle.ei_session.specs.Handshake.{connected}
 use Rattle.ei_session.specs.Refusals.{Refusal}
 use Rattle.ei_session.specs.Served.{Answer, Disconnect, End, UnexpectedEof, IdsExhausted, PieceLimit, HandleLimit, Refused}
-use Rattle.ei_session.specs.Served.{Outcome, at_end, read_first_by, session, accepted, read_first, is_over}
+use Rattle.ei_session.specs.Served.{Outcome, at_end, read_first, session, accepted, is_over}
 use Rattle.ei_session.proofs.AllParts.{session_end}
 use Rattle.ei_backend.specs.Outside.{Rose, with_more}
 use Rattle.ei_standing.specs.Standing.{request_in_code}
@@ -183,7 +183,7 @@ ended_bad (Refused r) bad n l e = absurd l
 -- ---- all pieces were taken
 
 accepted_first : (setup : Setup) (pieces : List Piece) (k : ℕ) → (read_first setup pieces k).past ≡ accepted setup (stream (take k pieces))
-unfolding read_first_by
+unfolding read_first
 accepted_first setup pieces k = refl
 
 none_behind_k : (left : Option (List Piece)) (rest : List Piece) → left ≡ Some rest → left ≡ Some [] → rest ≡ []
