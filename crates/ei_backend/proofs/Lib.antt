@@ -16,3 +16,4 @@ pub mod NextIs
 pub mod ShortRows
 pub mod TypedRead
 pub mod IdRoom
+pub mod Lending

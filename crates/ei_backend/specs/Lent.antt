@@ -20,3 +20,15 @@ pub record LentSink {K : Type 0} (faults : K → ℕ) (later : K → K → Type 
   pub write_risen : faults old < faults new → failed
   pub write_faults : faults old ≤ faults new
   pub later_sink : later old new
+
+-- A sink whose wants of memory are told apart from other wants. Want of memory is answered only where its count of wants rose, or
+-- stands at its last value, and wherever the count rose.
+pub record LentSinkWants {K : Type 0} (faults wants : K → ℕ) (later : K → K → Type 0) (failed wanted : Type 0) (old new : K) : Type 0 where
+  pub lent : LentSink faults later failed old new
+  pub want : wanted → Rose (wants old) (wants new)
+  pub want_risen : wants old < wants new → wanted
+  pub want_count : wants old ≤ wants new
+
+-- A clock.
+pub record LentClock {C : Type 0} (later : C → C → Type 0) (old new : C) : Type 0 where
+  pub later_clock : later old new

@@ -1,8 +1,9 @@
 //! What came from a source and isn't read yet, in two rings.
 
-ghost use Rattle.std.specs.Prelude.{◌≡◌, ◌<◌, ◌≤◌, ◌+◌, ℕ, List, length, vec_len, Option, OnOk, OnErr, IfOk, Ok, Err, Some, IsErrOf};
+ghost use Rattle.std.specs.Prelude.{◌≡◌, ◌≤◌, ◌+◌, ℕ, List, length, vec_len, Option, OnOk, OnErr, IfOk, Ok, Err, Some, IsErrOf};
 ghost use Rattle.ei_wire.specs.declared.error.ReadError.TheVariants as read_error;
-ghost use Rattle.ei_backend.specs.Outside.{Piece, Rose};
+ghost use Rattle.ei_backend.specs.Outside.{Piece};
+ghost use Rattle.ei_backend.specs.Lent.{LentSource};
 ghost use Rattle.ei_backend.specs.declared.outside.LastAnswer.TheVariants as answers;
 ghost use Rattle.ei_backend.specs.Incoming.{none_unread, ReadsIn, ReadsPiece};
 ghost use Rattle.ei_backend.specs.Backend.{BackendView, next, Answers, Brings, Shortens};
@@ -126,14 +127,10 @@ impl Incoming {
         ensures told { (pieces : List Piece) → S.left source.old ≡ Some pieces → ReadsPiece pieces (S.left source.new) result self.old self.new }
         ensures memory { IsErrOf result read_error.NoMemory → source.new ≡ source.old }
         ensures room { length self.old.bytes + MOST_PIECE_BYTES ≤ self.old.capacity → IsErrOf result read_error.NoMemory → ⊥ }
-        ensures fault { IsErrOf result read_error.ReadFault → Rose (S.faults source.old) (S.faults source.new) }
-        ensures risen { S.faults source.old < S.faults source.new → IsErrOf result read_error.ReadFault }
         ensures last_piece { OnOk result (S.last source.new ≡ answers.Piece) }
         ensures last_limit { IsErrOf result read_error.HandleLimit → S.last source.new ≡ answers.Piece }
-        ensures last_end { IsErrOf result read_error.UnexpectedEof → S.last source.new ≡ answers.End }
-        ensures last_fault { IsErrOf result read_error.ReadFault → S.last source.new ≡ answers.Fault }
-        ensures count { S.faults source.old ≤ S.faults source.new }
-        ensures later { S.later source.old source.new }
+        ensures source { LentSource S.faults S.last S.later (IsErrOf result read_error.ReadFault) (IsErrOf result read_error.UnexpectedEof)
+            source.old source.new }
     {
         make_room(&mut self.bytes)?;
         let Ok(taken) = source.take(&mut self.room, &mut self.handle_room) else {

@@ -1,6 +1,6 @@
-//! The laws of tables, of room and of the next message. Each function does nothing: its clauses are the laws.
+//! The laws of tables, of room, of the next message and of what is lent. Each function does nothing: its clauses are the laws.
 
-ghost use Rattle.std.specs.Prelude.{◌≡◌, ◌≢◌, ℕ, ◌+◌, ◌<◌, ◌≤◌, Bool, Option, List, ◌∷◌, ◌++◌, Some, None, Ok, nat_eq, length};
+ghost use Rattle.std.specs.Prelude.{◌≡◌, ◌≢◌, ℕ, ◌+◌, ◌<◌, ◌≤◌, Bool, Option, List, ◌∷◌, ◌++◌, Some, None, Ok, nat_eq, length, IsTrue};
 ghost use Rattle.std.specs.List.{IsDistinct, flat_map};
 ghost use Rattle.ei_spec.specs.Value.{Value, handles_of};
 ghost use Rattle.ei_spec.specs.declared.interface.KnownInterface.{KnownInterface};
@@ -8,6 +8,7 @@ ghost use Rattle.ei_spec.specs.Rows.{Row};
 ghost use Rattle.ei_spec.specs.Piece.{Piece};
 ghost use Rattle.ei_spec.specs.Message.{Raw, IsLawful, message, size, bytes_of, front, Short};
 ghost use Rattle.ei_spec.specs.Interface.{Interface, ObjectView};
+ghost use Rattle.ei_backend.specs.Lent.{LentSource, LentSink, LentClock};
 ghost use Rattle.ei_backend.specs.Table.{TableView, Announced, HasIdRoom, accept, found, own, own_start, own_limit, peer_end, with_own, without, new_table};
 ghost use Rattle.ei_backend.specs.Outgoing.{HasSpare, HasRoomFor};
 ghost use Rattle.ei_backend.specs.Step.{reading};
@@ -18,6 +19,7 @@ ghost use Rattle.ei_backend.specs.Growth.{Step, grown, made_by, table_grown, ids
 ghost use Rattle.ei_backend.specs.declared.message.PendingRequestResult.{PendingRequestResult};
 
 use crate::message::MessageEnum;
+use crate::outside::{Clock, Sink, Source};
 pub use crate::ring::ring_laws;
 
 /// Ids only rise, and none is given twice.
@@ -94,4 +96,17 @@ pub fn handed_out<T: MessageEnum>()
         HasSent T.events interface name r target values before after → HasCome interface r target there values added rest before after reader →
         Answers T.target T.code T.values answer left (next T.events reader) → Brings T.announced answer reader.table left.table →
         HandsOut T.target T.code T.values T.announced there r.0 values (new_of r.1 values reader.table.client) answer }
+{}
+
+/// What a call says of a source, a sink and a clock that it was lent: one that it doesn't touch is as the word says, where
+/// the answer is neither a fault nor the source's end; and two calls in a row are one, where the first answered no fault.
+pub fn lent<S: Source, K: Sink, C: Clock>()
+    ensures untouched_source { (x : S) → LentSource S.faults S.last S.later ⊥ ⊥ x x }
+    ensures source_twice { (at_end failed ended : Bool) (x y z : S) → LentSource S.faults S.last S.later ⊥ (IsTrue at_end) x y →
+        LentSource S.faults S.last S.later (IsTrue failed) (IsTrue ended) y z → LentSource S.faults S.last S.later (IsTrue failed) (IsTrue ended) x z }
+    ensures untouched_sink { (x : K) → LentSink K.faults K.later ⊥ x x }
+    ensures sink_twice { (failed : Bool) (x y z : K) → LentSink K.faults K.later ⊥ x y → LentSink K.faults K.later (IsTrue failed) y z →
+        LentSink K.faults K.later (IsTrue failed) x z }
+    ensures untouched_clock { (x : C) → LentClock C.later x x }
+    ensures clock_twice { (x y z : C) → LentClock C.later x y → LentClock C.later y z → LentClock C.later x z }
 {}

@@ -7,7 +7,8 @@ ghost use Rattle.ei_spec.specs.Message.{header, bytes_of, message, size};
 ghost use Rattle.ei_wire.specs.Gives.{value_of_arg};
 ghost use Rattle.ei_wire.specs.declared.error.SendError.TheVariants as send_error;
 ghost use Rattle.ei_wire.specs.declared.error.FlushError.TheVariants as flush_error;
-ghost use Rattle.ei_backend.specs.Outside.{Piece, Rose, with_more};
+ghost use Rattle.ei_backend.specs.Outside.{Piece, with_more};
+ghost use Rattle.ei_backend.specs.Lent.{LentSinkWants};
 ghost use Rattle.ei_backend.specs.Outgoing.{nothing, no_room, more_room, HasRoomFor, args_body, args_handles};
 ghost use Rattle.ei_backend.specs.Outgoing.{with_message, beside, kept_beside, StopsAfter, Flushes};
 
@@ -137,13 +138,8 @@ impl Outgoing {
         ensures nothing_kept { self.old.waiting.bytes ≡ [] → self.new ≡ self.old }
         ensures nothing_put { self.old.waiting.bytes ≡ [] → sink.new ≡ sink.old }
         // what the sink says
-        ensures fault { IsErrOf result flush_error.WriteFault → Rose (K.faults sink.old) (K.faults sink.new) }
-        ensures risen { K.faults sink.old < K.faults sink.new → IsErrOf result flush_error.WriteFault }
-        ensures count { K.faults sink.old ≤ K.faults sink.new }
-        ensures want { IsErrOf result flush_error.NoMemory → Rose (K.wants sink.old) (K.wants sink.new) }
-        ensures want_risen { K.wants sink.old < K.wants sink.new → IsErrOf result flush_error.NoMemory }
-        ensures want_count { K.wants sink.old ≤ K.wants sink.new }
-        ensures later { K.later sink.old sink.new }
+        ensures sink { LentSinkWants K.faults K.wants K.later (IsErrOf result flush_error.WriteFault) (IsErrOf result flush_error.NoMemory)
+            sink.old sink.new }
     {
         let (done, put) = put_all(sink, &self.bytes, &self.handles);
         drop_front(&mut self.bytes, done);
@@ -254,13 +250,8 @@ fn put_all<K: Sink>(
         → K.taken sink.new ≡ Some (with_more (take result.0 bytes.now) (beside result.0 handles.now) held) }
     ensures nothing { bytes.now ≡ [] → IsOk result.1 }
     ensures nothing_put { bytes.now ≡ [] → sink.new ≡ sink.old }
-    ensures fault { IsErrOf result.1 flush_error.WriteFault → Rose (K.faults sink.old) (K.faults sink.new) }
-    ensures risen { K.faults sink.old < K.faults sink.new → IsErrOf result.1 flush_error.WriteFault }
-    ensures count { K.faults sink.old ≤ K.faults sink.new }
-    ensures want { IsErrOf result.1 flush_error.NoMemory → Rose (K.wants sink.old) (K.wants sink.new) }
-    ensures want_risen { K.wants sink.old < K.wants sink.new → IsErrOf result.1 flush_error.NoMemory }
-    ensures want_count { K.wants sink.old ≤ K.wants sink.new }
-    ensures later { K.later sink.old sink.new }
+    ensures sink { LentSinkWants K.faults K.wants K.later (IsErrOf result.1 flush_error.WriteFault) (IsErrOf result.1 flush_error.NoMemory)
+        sink.old sink.new }
 {
     let mut done = 0;
     while done < bytes.len() {

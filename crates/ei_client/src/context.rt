@@ -4,7 +4,8 @@ ghost use Rattle.std.specs.Prelude.{◌≡◌, ◌<◌, ◌≤◌, ◌+◌, ℕ,
 ghost use Rattle.ei_wire.specs.declared.error.ReadError.TheVariants as read_error;
 ghost use Rattle.ei_wire.specs.declared.error.FlushError.TheVariants as flush_error;
 ghost use Rattle.ei_backend.specs.declared.outside.LastAnswer.TheVariants as answers;
-ghost use Rattle.ei_backend.specs.Outside.{Piece, Rose};
+ghost use Rattle.ei_backend.specs.Outside.{Piece};
+ghost use Rattle.ei_backend.specs.Lent.{LentSource, LentSinkWants};
 ghost use Rattle.ei_backend.specs.Table.{found, new_table};
 ghost use Rattle.ei_backend.specs.Outgoing.{StopsAfter, Flushes};
 ghost use Rattle.ei_backend.specs.Backend.{new_backend, ReadsOn, ReadsPiece, Answers, Brings, Shortens, next, unsent_of, with_unsent};
@@ -85,15 +86,10 @@ impl Context {
         // what the source says
         ensures memory { IsErrOf result read_error.NoMemory → source.new ≡ source.old }
         ensures room { length self.old.unread + MOST_PIECE_BYTES ≤ self.old.capacity → IsErrOf result read_error.NoMemory → ⊥ }
-        ensures fault { IsErrOf result read_error.ReadFault → Rose (S.faults source.old) (S.faults source.new) }
-        ensures risen { S.faults source.old < S.faults source.new → IsErrOf result read_error.ReadFault }
         ensures last_piece { OnOk result (S.last source.new ≡ answers.Piece) }
         ensures last_limit { IsErrOf result read_error.HandleLimit → S.last source.new ≡ answers.Piece }
-        ensures last_end { self.old.closed ≡ false → IsErrOf result read_error.UnexpectedEof
-            → S.last source.new ≡ answers.End }
-        ensures last_fault { IsErrOf result read_error.ReadFault → S.last source.new ≡ answers.Fault }
-        ensures count { S.faults source.old ≤ S.faults source.new }
-        ensures later { S.later source.old source.new }
+        ensures source { LentSource S.faults S.last S.later (IsErrOf result read_error.ReadFault)
+            ((self.old.closed ≡ false) × IsErrOf result read_error.UnexpectedEof) source.old source.new }
     {
         self.backend.read(source)
     }
@@ -113,13 +109,8 @@ impl Context {
         ensures nothing_kept { self.old.unsent ≡ [] → self.new ≡ self.old }
         ensures nothing_put { self.old.unsent ≡ [] → sink.new ≡ sink.old }
         // what the sink says
-        ensures fault { IsErrOf result flush_error.WriteFault → Rose (K.faults sink.old) (K.faults sink.new) }
-        ensures risen { K.faults sink.old < K.faults sink.new → IsErrOf result flush_error.WriteFault }
-        ensures count { K.faults sink.old ≤ K.faults sink.new }
-        ensures want { IsErrOf result flush_error.NoMemory → Rose (K.wants sink.old) (K.wants sink.new) }
-        ensures want_risen { K.wants sink.old < K.wants sink.new → IsErrOf result flush_error.NoMemory }
-        ensures want_count { K.wants sink.old ≤ K.wants sink.new }
-        ensures later { K.later sink.old sink.new }
+        ensures sink { LentSinkWants K.faults K.wants K.later (IsErrOf result flush_error.WriteFault) (IsErrOf result flush_error.NoMemory)
+            sink.old sink.new }
     {
         self.backend.flush(sink)
     }

@@ -14,7 +14,8 @@ ghost use Rattle.ei_wire.specs.declared.error.FlushError.TheVariants as flush_er
 ghost use Rattle.ei_types.specs.declared.error.Error.TheVariants as error;
 ghost use Rattle.ei_types.specs.Enums.{disconnect_reason_number};
 ghost use Rattle.ei_backend.specs.Backend.{unsent_of, with_unsent};
-ghost use Rattle.ei_backend.specs.Outside.{Piece, Rose};
+ghost use Rattle.ei_backend.specs.Outside.{Piece};
+ghost use Rattle.ei_backend.specs.Lent.{LentSinkWants};
 ghost use Rattle.ei_backend.specs.Outgoing.{StopsAfter, Flushes};
 ghost use Rattle.ei_backend.specs.Table.{own_end};
 ghost use Rattle.ei_backend.specs.Endpoint.{endpoint_of};
@@ -202,13 +203,8 @@ impl Connection {
         ensures nothing_kept { self.old.ctx.unsent ≡ [] → self.new ≡ self.old }
         ensures nothing_put { self.old.ctx.unsent ≡ [] → sink.new ≡ sink.old }
         // what the sink says
-        ensures fault { IsErrOf result flush_error.WriteFault → Rose (K.faults sink.old) (K.faults sink.new) }
-        ensures risen { K.faults sink.old < K.faults sink.new → IsErrOf result flush_error.WriteFault }
-        ensures count { K.faults sink.old ≤ K.faults sink.new }
-        ensures want { IsErrOf result flush_error.NoMemory → Rose (K.wants sink.old) (K.wants sink.new) }
-        ensures want_risen { K.wants sink.old < K.wants sink.new → IsErrOf result flush_error.NoMemory }
-        ensures want_count { K.wants sink.old ≤ K.wants sink.new }
-        ensures later { K.later sink.old sink.new }
+        ensures sink { LentSinkWants K.faults K.wants K.later (IsErrOf result flush_error.WriteFault) (IsErrOf result flush_error.NoMemory)
+            sink.old sink.new }
     {
         self.context.flush(sink)
     }

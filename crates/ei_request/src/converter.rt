@@ -3,6 +3,7 @@
 ghost use Rattle.std.specs.Prelude.{◌≡◌, [], ℕ, length, true, List, Option, OnOk, OnErr, IfOk, IfErr, IsSome, None, find};
 ghost use Rattle.std.specs.Borrow.{sem};
 ghost use Rattle.ei_types.specs.declared.error.Error.TheVariants as error;
+ghost use Rattle.ei_backend.specs.Lent.{LentClock};
 ghost use Rattle.std.specs.Option.{option_map};
 ghost use Rattle.ei_request.specs.Connection.{new_connection};
 ghost use Rattle.ei_request.specs.Converter.{first_of, rest_of};
@@ -98,7 +99,7 @@ impl EisRequestConverter {
     pub fn handle_request<C: Clock>(&mut self, clock: &mut C, request: Request) -> Result<(), Error>
         ensures handles { Handles self.old request (C.readings clock.old) result (C.readings clock.new) self.new }
         ensures kept { OnErr result (clock.new ≡ clock.old) }
-        ensures later { C.later clock.old clock.new }
+        ensures clock { LentClock C.later clock.old clock.new }
     {
         match request {
             Request::Handshake(_, _) => Err(Error::UnexpectedHandshakeEvent),
@@ -211,7 +212,7 @@ impl EisRequestConverter {
     ) -> Result<(), Error>
         ensures handles { (version : ℕ) → HandlesTo self.old id version (device_meaning request) (C.readings clock.old) result (C.readings clock.new) self.new }
         ensures kept { OnErr result (clock.new ≡ clock.old) }
-        ensures later { C.later clock.old clock.new }
+        ensures clock { LentClock C.later clock.old clock.new }
     {
         let Some(held) = self.handle.find_device(id) else {
             return Ok(());
@@ -273,7 +274,7 @@ impl EisRequestConverter {
         ensures err { OnErr result (self.new ≡ self.old) }
         ensures only { IfErr result (λ e. e ≡ error.NoMemory) }
         ensures kept { OnErr result (clock.new ≡ clock.old) }
-        ensures later { C.later clock.old clock.new }
+        ensures clock { LentClock C.later clock.old clock.new }
     {
         let waiting = self.handle.waiting(id);
         self.queue.reserve(waiting.saturating_add(2))?;

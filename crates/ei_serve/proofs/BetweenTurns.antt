@@ -14,11 +14,17 @@ use Rattle.ei_serve.specs.declared.session.Turn.{Turn}
 use Rattle.ei_serve.specs.declared.session.Turn.TheVariants as turn
 use Rattle.ei_serve.specs.declared.state.SessionState.{SessionState}
 use Rattle.ei_serve.specs.Around.{Around}
-use Rattle.ei_serve.specs.Standing.{Stands, StandsAt, StandsForSome, IsOver, IsSession, HoldsFewBytesIn, HoldsLittle, most_capacity, unsent_in, unsent_of, capacity_in, capacity_of}
+use Rattle.ei_serve.specs.Standing.{Stands, StandsAt, IsOpenIn, StandsForSome, IsOver, IsSession, HoldsFewBytesIn, HoldsLittle, most_capacity, unsent_in, unsent_of, capacity_in, capacity_of}
 use Rattle.ei_serve.specs.Turning.{Turns, goes_on}
 use Rattle.ei_serve.proofs.FewUnread.{unread_few}
 
 -- ---- how little it holds
+
+-- a phase that stands is open
+pub open_in : (setup : Setup) (past : List Raw) (times rest : List ℕ) (handles : List Handle) (p : Phase) → StandsAt setup past times rest handles p → IsOpenIn p
+open_in setup past times rest handles (phase.Handshake b h) s = ap (λ (e : Endpoint). e.closed) s.1.endpoint
+open_in setup past times rest handles (phase.Connected c) s = s.held.opened
+open_in setup past times rest handles phase.Over s = absurd s
 
 -- a phase that stands, with few bytes unread
 few_at : (setup : Setup) (past : List Raw) (times rest : List ℕ) (handles : List Handle) (p : Phase) → StandsAt setup past times rest handles p → length rest < MOST_MESSAGE_BYTES → HoldsFewBytesIn p

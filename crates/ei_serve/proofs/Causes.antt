@@ -1,13 +1,11 @@
 -- What a session says of the outside.
-use Rattle.std.proofs.Common.{◌≡◌, false, ◌≤◌, ◌<◌, ◌+◌, ◌-◌, ◌^◌, ℕ, zero, suc, List, [], ◌∷◌, length, take, Option, Some, Result, Ok, Err, refl, ap, ◌∙◌, inl, inr, arith}
-use Rattle.std.specs.Prelude.{min, OnErr, IsErrOf}
+use Rattle.std.proofs.Common.{◌≡◌, false, ◌≤◌, ℕ, zero, suc, List, [], ◌∷◌, length, take, Option, Some, Result, Ok, Err, refl, ap, ◌∙◌}
+use Rattle.std.specs.Prelude.{OnErr, IsErrOf}
 use Rattle.std.specs.Option.{ForSome}
-use Rattle.std.proofs.lemmas.Bool.{cases_lt}
 use Rattle.std.proofs.lemmas.List.{append-nil}
-use Rattle.std.proofs.Math.Nat.{le_trans, min-le_left, min-le_right, le-min}
 use Rattle.ei_spec.specs.declared.handle.Handle.{Handle}
 use Rattle.ei_spec.specs.Message.{bytes_of}
-use Rattle.ei_backend.specs.Outside.{Piece, Rose, with_more}
+use Rattle.ei_backend.specs.Outside.{Piece, with_more}
 use Rattle.ei_backend.specs.Outgoing.{beside, sent_front}
 use Rattle.ei_backend.specs.Table.{found, new_table, first_object, first_server_id}
 use Rattle.ei_backend.specs.Backend.{BackendView, new_backend, unsent_of}
@@ -15,10 +13,6 @@ use Rattle.ei_handshake.specs.Handshaker.{sends}
 use Rattle.ei_session.specs.Replies.{greeting, greeting_to}
 use Rattle.ei_serve.specs.Causes.{Greeted, GreetedInPart}
 use Rattle.ei_serve.proofs.Standing.{found_first}
-
--- a count that rose since a later value rose since an earlier one
-pub rose_since : (a b c : ℕ) → a ≤ b → Rose b c → Rose a c
-rose_since a b c h r = le_trans {n = min (a + 1) (2 ^ 64 - 1)} {m = min (b + 1) (2 ^ 64 - 1)} (le-min (le_trans (min-le_left (a + 1) (2 ^ 64 - 1)) (omega (arith, h))) (min-le_right (a + 1) (2 ^ 64 - 1))) r
 
 abbrev ok_of : {T : Type 0} (E : Type 0) → T → Result T E
 ok_of E x = Ok x
@@ -30,10 +24,6 @@ err_as r a e same h = let g : a ≡ e = cc in same ∙ ap (λ (x : _). Err x) g
 -- no answer is an error as well
 pub no_risen : {T E P : Type 0} (x : T) (e : E) → ok_of E x ≡ Err e → P
 no_risen x e h = absurd cc
-
--- a count that would tell of an error which is none
-pub ok_kept : {T E : Type 0} (x : T) (e : E) (a b : ℕ) → (a < b → ok_of E x ≡ Err e) → b ≤ a
-ok_kept x e a b h = elim (cases_lt a b) [ inl lt ↦ (let g = h lt in absurd cc) | inr le ↦ le ]
 
 -- the greeting, and no handle
 abbrev pub the_greeting : Piece

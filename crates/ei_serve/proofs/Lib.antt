@@ -11,6 +11,7 @@ pub mod ConversingTakes
 pub mod ConversingSeat
 pub mod ConversingFront
 pub mod Causes
+pub mod Lent
 pub mod NoHandles
 pub mod Standing
 pub mod Taking

@@ -544,6 +544,11 @@ no_end_by e h = absurd h
 pub no_end : (e : Error) (r : Result HowEnded Error) → r ≡ Err e → IsSourceEnd r → IsAtEnd (Err e)
 no_end e r same h = no_end_by e (subst (λ (q : Result HowEnded Error). IsSourceEnd q) same h)
 
+-- a session that isn't started doesn't come to the source's end
+pub no_start_end : {P : Type 0} (e : Error) → RefusesToStart e → IsAtEnd (Err e) → P
+no_start_end error.UnexpectedEof h at_end = absurd h
+no_start_end e h at_end = absurd at_end
+
 over_limit : (setup : Setup) (pieces : List Piece) (k : ℕ) → setup.pieces < k → is_over setup pieces k ≡ true
 unfolding is_over
 over_limit setup pieces k lt = rw (lt-ltb setup.pieces k lt) refl

@@ -256,6 +256,14 @@ no_end_of : (setup : Setup) (pieces : List Piece) (times : List ℕ) (s t : Sess
 no_end_of setup pieces times s t left_old left_new error.UnexpectedEof h at = h
 no_end_of setup pieces times s t left_old left_new e h at = at
 
+ends_unfailed : (b : Bool) (P : Type 0) → IsErrOf (ended_by b) error.ReadFault → P
+ends_unfailed true P h = absurd cc
+ends_unfailed false P h = absurd cc
+
+-- the source's end is no fault of it
+pub no_read_fault : {P : Type 0} (b : Bool) (r : Result Turn Error) → r ≡ ended_by b → IsErrOf r error.ReadFault → P
+no_read_fault {P = P} b r is h = ends_unfailed b P (sym is ∙ h)
+
 -- a piece that is refused is no end
 pub no_end_refused : (setup : Setup) (pieces : List Piece) (times : List ℕ) (s t : SessionState) (left_old left_new : Option (List Piece)) (e : Error) (r : Result Turn Error) (P : Type 0) → r ≡ Err e → TakesPiece setup pieces times s (Err e) t left_old left_new → IsAtEnd r → P
 no_end_refused setup pieces times s t left_old left_new e r P same h at = absurd (no_end_of setup pieces times s t left_old left_new e h (rw same at at))

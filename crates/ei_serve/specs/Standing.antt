@@ -93,6 +93,12 @@ capacity_in (phase.Handshake b h) = b.capacity
 capacity_in (phase.Connected c) = c.handle.ctx.capacity
 capacity_in phase.Over = 0
 
+-- whether a phase's endpoint is open; over, it has none
+abbrev pub IsOpenIn : Phase → Type 0
+IsOpenIn (phase.Handshake b h) = b.closed ≡ false
+IsOpenIn (phase.Connected c) = c.handle.ctx.closed ≡ false
+IsOpenIn phase.Over = ⊥
+
 -- an open endpoint that has nothing to send, with fewer bytes unread than the longest message has
 pub record HoldsFewBytes (b : BackendView) : Type 0 where
   pub opened : b.closed ≡ false

@@ -1,10 +1,10 @@
 //! The connection, message by message.
 
-ghost use Rattle.std.specs.Prelude.{◌≡◌, ◌≤◌, ◌<◌, ◌++◌, List, [], ℕ, IfErr, IsErrOf, OnErr, OnOk, IfOk, None, true, false};
+ghost use Rattle.std.specs.Prelude.{◌≡◌, ◌++◌, List, [], ℕ, IfErr, IsErrOf, OnErr, OnOk, IfOk, None, true, false};
 ghost use Rattle.ei_spec.specs.declared.handle.Handle.{Handle};
 ghost use Rattle.ei_spec.specs.Message.{Raw};
 ghost use Rattle.ei_types.specs.declared.error.Error.TheVariants as error;
-ghost use Rattle.ei_backend.specs.Outside.{Rose};
+ghost use Rattle.ei_backend.specs.Lent.{LentSink, LentClock};
 ghost use Rattle.ei_session.specs.Setup.{Setup as Started};
 ghost use Rattle.ei_session.specs.Handshake.{connected, is_finish};
 ghost use Rattle.ei_serve.specs.Around.{around};
@@ -36,10 +36,7 @@ pub(crate) fn connect<K: Sink>(
         connected before ≡ false → is_finish finish ≡ true →
         HandsOver (setup_of setup) before after handles resp context →
         Connects (setup_of setup) before finish after handles result (K.taken sink.old) (K.taken sink.new) }
-    ensures write_fault { IsErrOf result error.WriteFault → Rose (K.faults sink.old) (K.faults sink.new) }
-    ensures write_risen { K.faults sink.old < K.faults sink.new → IsErrOf result error.WriteFault }
-    ensures write_faults { K.faults sink.old ≤ K.faults sink.new }
-    ensures later_sink { K.later sink.old sink.new }
+    ensures sink { LentSink K.faults K.later (IsErrOf result error.WriteFault) sink.old sink.new }
     ensures no_read_fault { IsErrOf result error.ReadFault → ⊥ }
 {
     let mut converter = EisRequestConverter::new(alloc, context, resp, setup.initial_serial);
@@ -60,12 +57,9 @@ pub(crate) fn converse<K: Sink, C: Clock>(
         IsConnected setup past times rest handles converter.old →
         Steps setup past times rest handles result (phases.Connected converter.new)
         (around None out.old.items (K.taken sink.old) (C.readings clock.old)) (around None out.new.items (K.taken sink.new) (C.readings clock.new)) }
-    ensures write_fault { IsErrOf result error.WriteFault → Rose (K.faults sink.old) (K.faults sink.new) }
-    ensures write_risen { K.faults sink.old < K.faults sink.new → IsErrOf result error.WriteFault }
-    ensures write_faults { K.faults sink.old ≤ K.faults sink.new }
-    ensures later_sink { K.later sink.old sink.new }
+    ensures sink { LentSink K.faults K.later (IsErrOf result error.WriteFault) sink.old sink.new }
     ensures no_read_fault { IsErrOf result error.ReadFault → ⊥ }
-    ensures later_clock { C.later clock.old clock.new }
+    ensures clock { LentClock C.later clock.old clock.new }
 {
     let Some(pending) = converter.handle_mut().context_mut().pending_request()? else {
         return Ok(Step::Waiting);
@@ -97,12 +91,9 @@ fn take_request<K: Sink, C: Clock>(
         IsAsked setup past times rest handles request converter.old →
         Steps setup past times rest handles result (phases.Connected converter.new)
         (around None out.old.items (K.taken sink.old) (C.readings clock.old)) (around None out.new.items (K.taken sink.new) (C.readings clock.new)) }
-    ensures write_fault { IsErrOf result error.WriteFault → Rose (K.faults sink.old) (K.faults sink.new) }
-    ensures write_risen { K.faults sink.old < K.faults sink.new → IsErrOf result error.WriteFault }
-    ensures write_faults { K.faults sink.old ≤ K.faults sink.new }
-    ensures later_sink { K.later sink.old sink.new }
+    ensures sink { LentSink K.faults K.later (IsErrOf result error.WriteFault) sink.old sink.new }
     ensures no_read_fault { IsErrOf result error.ReadFault → ⊥ }
-    ensures later_clock { C.later clock.old clock.new }
+    ensures clock { LentClock C.later clock.old clock.new }
 {
     converter.handle_request(clock, request)?;
     let policy = hand_out(converter, out)?;

@@ -6,14 +6,14 @@ ghost use Rattle.ei_spec.specs.Message.{Raw};
 ghost use Rattle.ei_types.specs.Capability.{all_bits};
 ghost use Rattle.ei_types.specs.declared.error.Error.TheVariants as error;
 ghost use Rattle.ei_wire.specs.declared.error.ReadError.TheVariants as read_error;
-ghost use Rattle.ei_backend.specs.Outside.{Piece, Rose};
-ghost use Rattle.ei_backend.specs.declared.outside.LastAnswer.TheVariants as answers;
+ghost use Rattle.ei_backend.specs.Outside.{Piece};
+ghost use Rattle.ei_backend.specs.Lent.{LentSource, LentSink, LentClock};
 ghost use Rattle.ei_session.specs.Setup.{Setup as Started};
 ghost use Rattle.ei_session.specs.Handshake.{connected, is_finish};
 ghost use Rattle.ei_serve.specs.declared.phase.Phase.TheVariants as phases;
 ghost use Rattle.ei_serve.specs.Around.{around};
 ghost use Rattle.ei_serve.specs.Causes.{Greeted, GreetedInPart, RefusesToStart};
-ghost use Rattle.ei_serve.specs.Standing.{unsent_in, capacity_in, StandsAt, setup_of};
+ghost use Rattle.ei_serve.specs.Standing.{unsent_in, capacity_in, IsOpenIn, StandsAt, setup_of};
 ghost use Rattle.ei_serve.specs.Steps.{Steps, HandsOverIn, ConnectsPhase};
 ghost use Rattle.ei_serve.specs.Taking.{ReadsPhase};
 ghost use Rattle.ei_serve.specs.Turning.{HandlesAll};
@@ -63,10 +63,7 @@ impl Phase {
         ensures only { IfErr result RefusesToStart }
         ensures greeted { OnOk result ((held : Piece) → K.taken sink.old ≡ Some held → Greeted held (K.taken sink.new)) }
         ensures greeted_in_part { OnErr result ((held : Piece) → K.taken sink.old ≡ Some held → GreetedInPart held (K.taken sink.new)) }
-        ensures write_fault { IsErrOf result error.WriteFault → Rose (K.faults sink.old) (K.faults sink.new) }
-        ensures write_risen { K.faults sink.old < K.faults sink.new → IsErrOf result error.WriteFault }
-        ensures write_faults { K.faults sink.old ≤ K.faults sink.new }
-        ensures later_sink { K.later sink.old sink.new }
+        ensures sink { LentSink K.faults K.later (IsErrOf result error.WriteFault) sink.old sink.new }
     {
         let mut context = Context::new(alloc)?;
         let handshaker = EisHandshaker::new(alloc, &mut context, initial_serial)?;
@@ -128,14 +125,8 @@ impl Phase {
         ensures reads { (setup : Started) (past : List Raw) (times rest : List ℕ) (handles : List Handle) →
             length rest < 1048576 → StandsAt setup past times rest handles self.old →
             ReadsPhase setup past times rest handles result self.new (S.left source.old) (S.left source.new) }
-        ensures last_end { (setup : Started) (past : List Raw) (times rest : List ℕ) (handles : List Handle) →
-            StandsAt setup past times rest handles self.old →
-            IsErrOf result read_error.UnexpectedEof → S.last source.new ≡ answers.End }
-        ensures last_fault { IsErrOf result read_error.ReadFault → S.last source.new ≡ answers.Fault }
-        ensures read_fault { IsErrOf result read_error.ReadFault → Rose (S.faults source.old) (S.faults source.new) }
-        ensures read_risen { S.faults source.old < S.faults source.new → IsErrOf result read_error.ReadFault }
-        ensures read_faults { S.faults source.old ≤ S.faults source.new }
-        ensures later_source { S.later source.old source.new }
+        ensures source { LentSource S.faults S.last S.later (IsErrOf result read_error.ReadFault)
+            (IsOpenIn self.old × IsErrOf result read_error.UnexpectedEof) source.old source.new }
     {
         match self {
             Phase::Handshake(context, _) => context.read(source),
@@ -157,12 +148,9 @@ impl Phase {
             StandsAt (setup_of setup) past times rest handles self.old →
             Steps (setup_of setup) past times rest handles result self.new
             (around None out.old.items (K.taken sink.old) (C.readings clock.old)) (around None out.new.items (K.taken sink.new) (C.readings clock.new)) }
-        ensures write_fault { IsErrOf result error.WriteFault → Rose (K.faults sink.old) (K.faults sink.new) }
-        ensures write_risen { K.faults sink.old < K.faults sink.new → IsErrOf result error.WriteFault }
-        ensures write_faults { K.faults sink.old ≤ K.faults sink.new }
-        ensures later_sink { K.later sink.old sink.new }
+        ensures sink { LentSink K.faults K.later (IsErrOf result error.WriteFault) sink.old sink.new }
         ensures no_read_fault { IsErrOf result error.ReadFault → ⊥ }
-        ensures later_clock { C.later clock.old clock.new }
+        ensures clock { LentClock C.later clock.old clock.new }
     {
         match self {
             Phase::Handshake(context, handshaker) => match shake(context, handshaker)? {
@@ -190,10 +178,7 @@ impl Phase {
             connected before ≡ false → is_finish finish ≡ true →
             HandsOverIn (setup_of setup) before after handles resp self.old →
             ConnectsPhase (setup_of setup) before finish after handles result self.new (K.taken sink.old) (K.taken sink.new) }
-        ensures write_fault { IsErrOf result error.WriteFault → Rose (K.faults sink.old) (K.faults sink.new) }
-        ensures write_risen { K.faults sink.old < K.faults sink.new → IsErrOf result error.WriteFault }
-        ensures write_faults { K.faults sink.old ≤ K.faults sink.new }
-        ensures later_sink { K.later sink.old sink.new }
+        ensures sink { LentSink K.faults K.later (IsErrOf result error.WriteFault) sink.old sink.new }
         ensures no_read_fault { IsErrOf result error.ReadFault → ⊥ }
     {
         let Phase::Handshake(context, _) = mem::replace(self, Phase::Over) else {
@@ -204,7 +189,6 @@ impl Phase {
     }
 
     /// Handles every whole message.
-    #[tactic(auto, using(crate::proofs::Causes::rose_since))]
     pub(crate) fn handle_messages<K: Sink, C: Clock>(
         &mut self,
         alloc: Global,
@@ -217,12 +201,9 @@ impl Phase {
             StandsAt (setup_of setup) past times rest handles self.old →
             HandlesAll (setup_of setup) past times rest handles result self.new
             (around None out.old.items (K.taken sink.old) (C.readings clock.old)) (around None out.new.items (K.taken sink.new) (C.readings clock.new)) }
-        ensures write_fault { IsErrOf result error.WriteFault → Rose (K.faults sink.old) (K.faults sink.new) }
-        ensures write_risen { K.faults sink.old < K.faults sink.new → IsErrOf result error.WriteFault }
-        ensures write_faults { K.faults sink.old ≤ K.faults sink.new }
-        ensures later_sink { K.later sink.old sink.new }
+        ensures sink { LentSink K.faults K.later (IsErrOf result error.WriteFault) sink.old sink.new }
         ensures no_read_fault { IsErrOf result error.ReadFault → ⊥ }
-        ensures later_clock { C.later clock.old clock.new }
+        ensures clock { LentClock C.later clock.old clock.new }
     {
         // Each message has bytes, so there are no more messages than bytes.
         for _message in 0..self.unread_len() {

@@ -1,12 +1,12 @@
 //! A whole session.
 
-ghost use Rattle.std.specs.Prelude.{◌≡◌, ◌≤◌, ◌<◌, ◌+◌, ℕ, List, Some, IsErrOf, IfErr, OnOk};
+ghost use Rattle.std.specs.Prelude.{◌≡◌, ◌≤◌, ◌+◌, ℕ, List, Some, IsErrOf, IfErr, OnOk};
 ghost use Rattle.ei_types.specs.Capability.{bits_of, all_bits};
 ghost use Rattle.ei_types.specs.declared.error.Error.TheVariants as error;
 ghost use Rattle.ei_session.specs.Served.{session};
 ghost use Rattle.ei_session.specs.Complete.{AreComplete};
 ghost use Rattle.ei_backend.specs.Outside.{Piece, Rose};
-ghost use Rattle.ei_backend.specs.declared.outside.LastAnswer.TheVariants as answers;
+ghost use Rattle.ei_backend.specs.Lent.{LentSource, LentSink, LentClock};
 ghost use Rattle.ei_serve.specs.Standing.{setup_of};
 ghost use Rattle.ei_serve.specs.Serving.{AnswersAs, IsDecided, IsCutShort, IsOfSession, IsSourceEnd, TookPieces, TookAllOf, HandsOut, LeftReadings, Replied};
 ghost use Rattle.ei_serve.specs.Serving.{ReadValid, Handled, CutShort};
@@ -29,7 +29,6 @@ use std::alloc::Global;
 /// after it `InvalidInterfaceVersion` of a callback or a touchscreen, `Request` of `InvalidCapabilities`,
 /// `TooManyTouches`, `DuplicatedTouchDown` and `InvalidTextLength`, and `IdsExhausted` where the ids for a
 /// new device run out.
-#[tactic(auto, using(crate::proofs::Causes::rose_since))]
 pub fn serve<S: Source, K: Sink, C: Clock>(
     alloc: Global,
     source: &mut S,
@@ -65,20 +64,10 @@ pub fn serve<S: Source, K: Sink, C: Clock>(
         IfErr result (λ e. e ≡ error.NoMemory) }
     // over any source
     ensures only { IfErr result IsOfSession }
-    ensures last_end { IsSourceEnd result → S.last source.new ≡ answers.End }
-    ensures last_fault { IsErrOf result error.ReadFault → S.last source.new ≡ answers.Fault }
-    // what the source says
-    ensures read_fault { IsErrOf result error.ReadFault → Rose (S.faults source.old) (S.faults source.new) }
-    ensures read_risen { S.faults source.old < S.faults source.new → IsErrOf result error.ReadFault }
-    ensures read_faults { S.faults source.old ≤ S.faults source.new }
-    ensures later_source { S.later source.old source.new }
-    // what the sink says
-    ensures write_fault { IsErrOf result error.WriteFault → Rose (K.faults sink.old) (K.faults sink.new) }
-    ensures write_risen { K.faults sink.old < K.faults sink.new → IsErrOf result error.WriteFault }
-    ensures write_faults { K.faults sink.old ≤ K.faults sink.new }
-    ensures later_sink { K.later sink.old sink.new }
-    // what the clock says
-    ensures later_clock { C.later clock.old clock.new }
+    // what source, sink and clock say
+    ensures source { LentSource S.faults S.last S.later (IsErrOf result error.ReadFault) (IsSourceEnd result) source.old source.new }
+    ensures sink { LentSink K.faults K.later (IsErrOf result error.WriteFault) sink.old sink.new }
+    ensures clock { LentClock C.later clock.old clock.new }
 {
     let mut session = Session::start(alloc, setup, sink)?;
     for _turn in 0..u64::from(setup.pieces) + 1 {

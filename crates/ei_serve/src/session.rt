@@ -5,7 +5,7 @@ ghost use Rattle.ei_session.specs.Setup.{Setup as Started};
 ghost use Rattle.ei_types.specs.Capability.{bits_of, all_bits};
 ghost use Rattle.ei_types.specs.declared.error.Error.TheVariants as error;
 ghost use Rattle.ei_backend.specs.Outside.{Piece};
-ghost use Rattle.ei_backend.specs.Lent.{LentSource, LentSink};
+ghost use Rattle.ei_backend.specs.Lent.{LentSource, LentSink, LentClock};
 ghost use Rattle.ei_serve.specs.Around.{around};
 ghost use Rattle.ei_serve.specs.Causes.{Greeted, GreetedInPart, RefusesToStart};
 ghost use Rattle.ei_serve.specs.Standing.{Stands, IsOver, HoldsLittle, setup_of, unsent_of, capacity_of, most_capacity};
@@ -166,7 +166,7 @@ impl Session {
         // what source, sink and clock say
         ensures source { LentSource S.faults S.last S.later (IsErrOf result error.ReadFault) (IsAtEnd result) source.old source.new }
         ensures sink { LentSink K.faults K.later (IsErrOf result error.WriteFault) sink.old sink.new }
-        ensures later_clock { C.later clock.old clock.new }
+        ensures clock { LentClock C.later clock.old clock.new }
     {
         self.state.take_turn(source, sink, clock, out)
     }

@@ -1,12 +1,12 @@
 //! What a session holds, and a turn over it.
 
-ghost use Rattle.std.specs.Prelude.{◌≡◌, ◌≤◌, List, ℕ, ◌<◌, ◌^◌, nat_le, Ok, false, IsErrOf};
+ghost use Rattle.std.specs.Prelude.{◌≡◌, List, ℕ, ◌<◌, ◌^◌, nat_le, Ok, false, IsErrOf};
 ghost use Rattle.ei_session.specs.Setup.{Setup as Started};
 ghost use Rattle.ei_types.specs.declared.error.Error.TheVariants as error;
-ghost use Rattle.ei_backend.specs.Outside.{Piece, Rose};
-ghost use Rattle.ei_backend.specs.declared.outside.LastAnswer.TheVariants as answers;
+ghost use Rattle.ei_backend.specs.Outside.{Piece};
+ghost use Rattle.ei_backend.specs.Lent.{LentSource, LentSink, LentClock};
 ghost use Rattle.ei_serve.specs.Around.{around};
-ghost use Rattle.ei_serve.specs.Standing.{Stands, IsOver};
+ghost use Rattle.ei_serve.specs.Standing.{Stands, StandsForSome, IsOver};
 ghost use Rattle.ei_serve.specs.Taking.{TakesPiece, piece_came};
 ghost use Rattle.ei_serve.specs.Turning.{Turns, IsAtEnd, goes_on, at_end};
 
@@ -39,19 +39,11 @@ impl SessionState {
         ensures turns { (setup : Started) (pieces : List Piece) (times : List ℕ) → Stands setup pieces times self.old →
             Turns setup pieces times result self.new (around (S.left source.old) out.old.items (K.taken sink.old) (C.readings clock.old))
             (around (S.left source.new) out.new.items (K.taken sink.new) (C.readings clock.new)) }
-        ensures last_end { (setup : Started) (pieces : List Piece) (times : List ℕ) → Stands setup pieces times self.old → IsAtEnd result
-            → S.last source.new ≡ answers.End }
-        ensures last_fault { IsErrOf result error.ReadFault → S.last source.new ≡ answers.Fault }
         ensures over { goes_on result ≡ false → IsOver self.new }
-        ensures read_fault { IsErrOf result error.ReadFault → Rose (S.faults source.old) (S.faults source.new) }
-        ensures read_risen { S.faults source.old < S.faults source.new → IsErrOf result error.ReadFault }
-        ensures read_faults { S.faults source.old ≤ S.faults source.new }
-        ensures later_source { S.later source.old source.new }
-        ensures write_fault { IsErrOf result error.WriteFault → Rose (K.faults sink.old) (K.faults sink.new) }
-        ensures write_risen { K.faults sink.old < K.faults sink.new → IsErrOf result error.WriteFault }
-        ensures write_faults { K.faults sink.old ≤ K.faults sink.new }
-        ensures later_sink { K.later sink.old sink.new }
-        ensures later_clock { C.later clock.old clock.new }
+        ensures source { LentSource S.faults S.last S.later (IsErrOf result error.ReadFault)
+            (StandsForSome self.old × IsAtEnd result) source.old source.new }
+        ensures sink { LentSink K.faults K.later (IsErrOf result error.WriteFault) sink.old sink.new }
+        ensures clock { LentClock C.later clock.old clock.new }
     {
         let answer = self.try_turn(source, sink, clock, out);
         if goes_on(&answer) {
@@ -72,18 +64,10 @@ impl SessionState {
         ensures turns { (setup : Started) (pieces : List Piece) (times : List ℕ) → Stands setup pieces times self.old →
             Turns setup pieces times result self.new (around (S.left source.old) out.old.items (K.taken sink.old) (C.readings clock.old))
             (around (S.left source.new) out.new.items (K.taken sink.new) (C.readings clock.new)) }
-        ensures last_end { (setup : Started) (pieces : List Piece) (times : List ℕ) → Stands setup pieces times self.old → IsAtEnd result
-            → S.last source.new ≡ answers.End }
-        ensures last_fault { IsErrOf result error.ReadFault → S.last source.new ≡ answers.Fault }
-        ensures read_fault { IsErrOf result error.ReadFault → Rose (S.faults source.old) (S.faults source.new) }
-        ensures read_risen { S.faults source.old < S.faults source.new → IsErrOf result error.ReadFault }
-        ensures read_faults { S.faults source.old ≤ S.faults source.new }
-        ensures later_source { S.later source.old source.new }
-        ensures write_fault { IsErrOf result error.WriteFault → Rose (K.faults sink.old) (K.faults sink.new) }
-        ensures write_risen { K.faults sink.old < K.faults sink.new → IsErrOf result error.WriteFault }
-        ensures write_faults { K.faults sink.old ≤ K.faults sink.new }
-        ensures later_sink { K.later sink.old sink.new }
-        ensures later_clock { C.later clock.old clock.new }
+        ensures source { LentSource S.faults S.last S.later (IsErrOf result error.ReadFault)
+            (StandsForSome self.old × IsAtEnd result) source.old source.new }
+        ensures sink { LentSink K.faults K.later (IsErrOf result error.WriteFault) sink.old sink.new }
+        ensures clock { LentClock C.later clock.old clock.new }
     {
         if !self.take_piece(source)? {
             return at_end(self.phase.is_connected());
@@ -96,14 +80,9 @@ impl SessionState {
     fn take_piece<S: Source>(&mut self, source: &mut S) -> Result<bool, Error>
         ensures takes { (setup : Started) (pieces : List Piece) (times : List ℕ) → Stands setup pieces times self.old →
             TakesPiece setup pieces times self.old result self.new (S.left source.old) (S.left source.new) }
-        ensures read_fault { IsErrOf result error.ReadFault → Rose (S.faults source.old) (S.faults source.new) }
-        ensures read_risen { S.faults source.old < S.faults source.new → IsErrOf result error.ReadFault }
-        ensures read_faults { S.faults source.old ≤ S.faults source.new }
-        ensures later_source { S.later source.old source.new }
+        ensures source { LentSource S.faults S.last S.later (IsErrOf result error.ReadFault)
+            (StandsForSome self.old × (result ≡ Ok false)) source.old source.new }
         ensures no_write_fault { IsErrOf result error.WriteFault → ⊥ }
-        ensures last_end { (setup : Started) (pieces : List Piece) (times : List ℕ) → Stands setup pieces times self.old → result ≡ Ok false
-            → S.last source.new ≡ answers.End }
-        ensures last_fault { IsErrOf result error.ReadFault → S.last source.new ≡ answers.Fault }
     {
         let is_full = is_full(self.taken, self.setup.pieces);
         let read = self.phase.read(source);

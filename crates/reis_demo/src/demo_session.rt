@@ -1,6 +1,7 @@
 //! The session over the generated stream.
 
 ghost use Rattle.std.specs.Prelude.{◌≡◌, IfOk, OnOk, Ok};
+ghost use Rattle.ei_backend.specs.Lent.{LentClock};
 ghost use Rattle.ei_serve.specs.Standing.{setup_of};
 ghost use Rattle.ei_serve.specs.declared.session.Ended.TheVariants as ended;
 ghost use Rattle.ei_serve.specs.Serving.{AnswersAs, IsDecided, LeftReadings};
@@ -53,7 +54,7 @@ pub fn demo<C: Clock>(
     ensures decided { IfOk result (λ summary. IsDecided summary.answer) }
     ensures disconnects { IfOk result (λ summary. summary.answer ≡ Ok ended.Disconnect) }
     ensures readings { OnOk result (LeftReadings demo_setup (demo_session groups start).handled (C.readings clock.old) (C.readings clock.new)) }
-    ensures later { C.later clock.old clock.new }
+    ensures clock { LentClock C.later clock.old clock.new }
 {
     let mut source = Generated::new(alloc, groups, start)?;
     let bytes_in = source.bytes_left();

@@ -7,7 +7,8 @@ ghost use Rattle.ei_spec.specs.Table.{key_state};
 ghost use Rattle.ei_spec.specs.Value.{Word};
 ghost use Rattle.ei_types.specs.Enums.{key_state_number};
 
-use ei_backend::laws::{bursts, ring_laws, tables};
+use ei_backend::laws::{bursts, lent, ring_laws, tables};
+use ei_backend::{Pieces, Readings, Tray};
 use ei_spec::Handle;
 use ei_spec::laws::{all_messages, enums, groups, messages, spelling, waiting_inputs};
 use ei_types::KeyState;
@@ -46,4 +47,5 @@ pub(crate) fn laws_at_types() {
     ring_laws();
     tables();
     bursts();
+    lent::<Pieces, Tray, Readings>();
 }

@@ -1,6 +1,7 @@
 use Rattle.std.proofs.Common.{refl}
 use Rattle.std.proofs.lemmas.Result.{err_from_is_err_and}
 use Rattle.ei_serve.specs.Standing.{setup_of}
+use Rattle.ei_serve.proofs.Lent.{sink_unsent}
 use Rattle.ei_serve.proofs.ConversingSeat.{unseated, connects, cuts_off}
 use Rattle.ei_serve.proofs.connected.connect.Goals as goal
 
@@ -19,3 +20,8 @@ pub returns-clause-connects : goal.returns-clause-connects
 returns-clause-connects g c = λ before finish after handles off is over.
     connects (setup_of c.args.setup) before after handles c.args.resp c.args.context over finish _ c.new-converter.ensures _ c.handle_mut-handle.ensures.value c.args.setup.capabilities refl _ c.in_ok-add_seat.ensures.ok c.in_ok-add_seat.ensures.ring _ c.context_mut.ensures.value off is
     c.flush.new.self _ _ c.in_ok-flush.ensures.stops c.in_ok-flush.ensures.kept c.in_ok-flush.ensures.took
+
+pub returns-in_err-add_seat-clause-sink : goal.returns-in_err-add_seat-clause-sink
+returns-in_err-add_seat-clause-sink g c =
+    let p = err_from_is_err_and c.from_residual.result c.from_residual.ensures.1 in
+    sink_unsent _ _ _ p.1 p.2 (g.met.K.Sink.later_refl _)

@@ -1,11 +1,13 @@
 use Rattle.std.proofs.Common.{◌∙◌, ap, Err, arith}
 use Rattle.std.proofs.lemmas.Result.{err_from_is_err_and}
+use Rattle.ei_backend.proofs.Lending.{rose_since, untouched_source, source_as, source_twice, sink_twice, untouched_clock, clock_twice}
 use Rattle.ei_types.specs.declared.error.Error.{Error}
 use Rattle.ei_serve.specs.Standing.{setup_of}
-use Rattle.ei_serve.proofs.Causes.{err_as, no_risen, ok_kept, rose_since}
+use Rattle.ei_serve.proofs.Causes.{err_as, no_risen}
+use Rattle.ei_serve.proofs.Lent.{as_err, err_back, sink_passed, sink_unfailed, sink_ok}
 use Rattle.ei_serve.proofs.BetweenTurns.{not_over}
 use Rattle.ei_serve.proofs.Running.{starts, goes_on}
-use Rattle.ei_serve.proofs.Serves.{greeted, greeted_in_part, not_started, no_start_read, failed, disconnects, ends, no_end, too_many_turns, start_is_of_session, sure}
+use Rattle.ei_serve.proofs.Serves.{greeted, greeted_in_part, not_started, no_start_read, no_start_end, failed, disconnects, ends, no_end, too_many_turns, start_is_of_session, sure}
 use Rattle.ei_serve.proofs.Serves.{turn_is_of_session}
 use Rattle.ei_serve.proofs.serve_loop.serve.Goals as goal
 
@@ -56,24 +58,24 @@ returns-in_err-session-clause-complete g c = λ told is complete no_read no_writ
     sure (setup_of c.args.setup) told _ _ _ _ (p.1 ∙ ap (λ (e : Error). Err e) p.2) complete s (no_start_read _ c.in_err-session.ensures.only)
     (λ q. no_write (c.in_err-session.ensures.sink.write_fault (ap (λ (e : Error). Err e) q)))
 
-pub returns-in_err-session-clause-read_risen : goal.returns-in_err-session-clause-read_risen
-returns-in_err-session-clause-read_risen g c = λ lt. absurd (omega (arith, lt))
-
-pub returns-in_err-session-clause-write_risen : goal.returns-in_err-session-clause-write_risen
-returns-in_err-session-clause-write_risen g c = λ lt.
+pub returns-in_err-session-clause-source : goal.returns-in_err-session-clause-source
+returns-in_err-session-clause-source g c =
     let p = err_from_is_err_and c.from_residual.result c.from_residual.ensures.1 in
-    err_as _ _ _ (p.1 ∙ ap (λ (e : Error). Err e) p.2) (c.in_err-session.ensures.sink.write_risen lt)
+    let same = p.1 ∙ ap (λ (e : Error). Err e) p.2 in
+    source_as (λ f. absurd f) (λ q. no_start_read _ c.in_err-session.ensures.only (as_err _ _ _ same q)) (λ q. no_start_end _ c.in_err-session.ensures.only (no_end _ _ same q))
+    (untouched_source (g.met.S.Source.later_refl _))
+
+pub returns-in_err-session-clause-sink : goal.returns-in_err-session-clause-sink
+returns-in_err-session-clause-sink g c =
+    let p = err_from_is_err_and c.from_residual.result c.from_residual.ensures.1 in
+    sink_passed _ _ _ (p.1 ∙ ap (λ (e : Error). Err e) p.2) c.in_err-session.ensures.sink
 
 pub loop-turn-init : goal.loop-turn-init
 loop-turn-init g c = record {
   running = starts (setup_of c.args.setup) c.in_ok-session.session _ c.args.out.now.items _ _ _ c.in_ok-session.ensures.stands (greeted (setup_of c.args.setup) _ _ c.in_ok-session.ensures.greeted);
-  read_faults = omega arith;
-  read_kept = omega arith;
-  write_faults = c.in_ok-session.ensures.sink.write_faults;
-  write_kept = ok_kept _ _ _ _ c.in_ok-session.ensures.sink.write_risen;
-  later_source = g.met.S.Source.later_refl _;
-  later_sink = c.in_ok-session.ensures.sink.later_sink;
-  later_clock = g.met.C.Clock.later_refl _;
+  source = untouched_source (g.met.S.Source.later_refl _);
+  sink = sink_unfailed _ _ c.in_ok-session.ensures.sink;
+  clock = untouched_clock (g.met.C.Clock.later_refl _);
 }
 
 pub turn-requires : goal.turn-requires
@@ -86,13 +88,9 @@ loop-turn-preserved g c =
     let r = c.loop-turn.invariant.running in
     record {
       running = goes_on (setup_of c.args.setup) _ _ _ _ _ _ r (rw c.in-GoOn.is at (c.in_ok-turn.ensures.turns (setup_of c.args.setup) r.pieces r.times r.stands));
-      read_faults = omega (arith, c.loop-turn.invariant.read_faults, c.in_ok-turn.ensures.source.read_faults);
-      read_kept = omega (arith, c.loop-turn.invariant.read_kept, ok_kept _ _ _ _ c.in_ok-turn.ensures.source.read_risen);
-      write_faults = omega (arith, c.loop-turn.invariant.write_faults, c.in_ok-turn.ensures.sink.write_faults);
-      write_kept = omega (arith, c.loop-turn.invariant.write_kept, ok_kept _ _ _ _ c.in_ok-turn.ensures.sink.write_risen);
-      later_source = g.met.S.Source.later_trans _ _ _ c.loop-turn.invariant.later_source c.in_ok-turn.ensures.source.later_source;
-      later_sink = g.met.K.Sink.later_trans _ _ _ c.loop-turn.invariant.later_sink c.in_ok-turn.ensures.sink.later_sink;
-      later_clock = g.met.C.Clock.later_trans _ _ _ c.loop-turn.invariant.later_clock c.in_ok-turn.ensures.later_clock;
+      source = source_as (no_risen _ _) (λ f. absurd f) (λ f. absurd f) (source_twice g.met.S.Source.later_trans (λ f. f) c.loop-turn.invariant.source c.in_ok-turn.ensures.source);
+      sink = sink_twice g.met.K.Sink.later_trans (λ f. f) c.loop-turn.invariant.sink (sink_unfailed _ _ c.in_ok-turn.ensures.sink);
+      clock = clock_twice g.met.C.Clock.later_trans c.loop-turn.invariant.clock c.in_ok-turn.ensures.clock;
     }
 
 pub returns-in_err-turn-clause-answer : goal.returns-in_err-turn-clause-answer
@@ -149,23 +147,22 @@ returns-in_err-turn-clause-complete g c = λ told is complete no_read no_write.
     let r = c.loop-turn.invariant.running in
     let s = failed (setup_of c.args.setup) _ _ _ _ _ r (omega (arith, c.loop-turn-test.true, c.from-turn-end.ensures)) told is _ _ _ (p.1 ∙ ap (λ (e : Error). Err e) p.2) (c.in_err-turn.ensures.turns (setup_of c.args.setup) r.pieces r.times r.stands) in
     sure (setup_of c.args.setup) told _ _ _ _ (p.1 ∙ ap (λ (e : Error). Err e) p.2) complete s
-    (λ q. no_read (rose_since _ _ _ c.loop-turn.invariant.read_faults (c.in_err-turn.ensures.source.read_fault (ap (λ (e : Error). Err e) q))))
-    (λ q. no_write (rose_since _ _ _ c.loop-turn.invariant.write_faults (c.in_err-turn.ensures.sink.write_fault (ap (λ (e : Error). Err e) q))))
+    (λ q. no_read (rose_since _ _ _ c.loop-turn.invariant.source.read_faults (c.in_err-turn.ensures.source.read_fault (ap (λ (e : Error). Err e) q))))
+    (λ q. no_write (rose_since _ _ _ c.loop-turn.invariant.sink.write_faults (c.in_err-turn.ensures.sink.write_fault (ap (λ (e : Error). Err e) q))))
 
-pub returns-in_err-turn-clause-read_risen : goal.returns-in_err-turn-clause-read_risen
-returns-in_err-turn-clause-read_risen g c = λ lt.
+pub returns-in_err-turn-clause-source : goal.returns-in_err-turn-clause-source
+returns-in_err-turn-clause-source g c =
     let p = err_from_is_err_and c.from_residual-in_err-turn.result c.from_residual-in_err-turn.ensures.1 in
-    err_as _ _ _ (p.1 ∙ ap (λ (e : Error). Err e) p.2) (c.in_err-turn.ensures.source.read_risen (omega (arith, lt, c.loop-turn.invariant.read_kept)))
+    let same = p.1 ∙ ap (λ (e : Error). Err e) p.2 in
+    source_as (err_as _ _ _ same) (err_back _ _ _ same) (no_end _ _ same) (source_twice g.met.S.Source.later_trans (λ f. f) c.loop-turn.invariant.source c.in_err-turn.ensures.source)
 
-pub returns-in_err-turn-clause-write_risen : goal.returns-in_err-turn-clause-write_risen
-returns-in_err-turn-clause-write_risen g c = λ lt.
+pub returns-in_err-turn-clause-sink : goal.returns-in_err-turn-clause-sink
+returns-in_err-turn-clause-sink g c =
     let p = err_from_is_err_and c.from_residual-in_err-turn.result c.from_residual-in_err-turn.ensures.1 in
-    err_as _ _ _ (p.1 ∙ ap (λ (e : Error). Err e) p.2) (c.in_err-turn.ensures.sink.write_risen (omega (arith, lt, c.loop-turn.invariant.write_kept)))
+    sink_passed _ _ _ (p.1 ∙ ap (λ (e : Error). Err e) p.2) (sink_twice g.met.K.Sink.later_trans (λ f. f) c.loop-turn.invariant.sink c.in_err-turn.ensures.sink)
 
-pub returns-in_err-turn-clause-last_end : goal.returns-in_err-turn-clause-last_end
-returns-in_err-turn-clause-last_end g c = λ at_end.
-    let p = err_from_is_err_and c.from_residual-in_err-turn.result c.from_residual-in_err-turn.ensures.1 in
-    c.in_err-turn.ensures.source.last_end (no_end _ _ (p.1 ∙ ap (λ (e : Error). Err e) p.2) at_end)
+pub returns-in_err-turn-clause-clock : goal.returns-in_err-turn-clause-clock
+returns-in_err-turn-clause-clock g c = clock_twice g.met.C.Clock.later_trans c.loop-turn.invariant.clock c.in_err-turn.ensures.clock
 
 pub returns-in-Disconnect-clause-answer : goal.returns-in-Disconnect-clause-answer
 returns-in-Disconnect-clause-answer g c = λ told is.
@@ -237,27 +234,29 @@ returns-in-End-clause-pieces g c = λ told is.
     let r = c.loop-turn.invariant.running in
     (ends (setup_of c.args.setup) _ _ _ _ _ r (omega (arith, c.loop-turn-test.true, c.from-turn-end.ensures)) told is (rw c.in-End.is at (c.in_ok-turn.ensures.turns (setup_of c.args.setup) r.pieces r.times r.stands))).pieces
 
-pub returns-in-End-clause-last_end : goal.returns-in-End-clause-last_end
-returns-in-End-clause-last_end g c = λ at_end.
-    c.in_ok-turn.ensures.source.last_end (rw c.in-End.is tt)
+pub returns-in-Disconnect-clause-source : goal.returns-in-Disconnect-clause-source
+returns-in-Disconnect-clause-source g c = source_as (no_risen _ _) (no_risen _ _) (λ f. absurd f) (source_twice g.met.S.Source.later_trans (λ f. f) c.loop-turn.invariant.source c.in_ok-turn.ensures.source)
 
-pub returns-in-Disconnect-clause-read_risen : goal.returns-in-Disconnect-clause-read_risen
-returns-in-Disconnect-clause-read_risen g c = λ lt. no_risen _ _ (c.in_ok-turn.ensures.source.read_risen (omega (arith, lt, c.loop-turn.invariant.read_kept)))
+pub returns-in-Disconnect-clause-sink : goal.returns-in-Disconnect-clause-sink
+returns-in-Disconnect-clause-sink g c = sink_ok _ _ (sink_twice g.met.K.Sink.later_trans (λ f. f) c.loop-turn.invariant.sink (sink_unfailed _ _ c.in_ok-turn.ensures.sink))
 
-pub returns-in-Disconnect-clause-write_risen : goal.returns-in-Disconnect-clause-write_risen
-returns-in-Disconnect-clause-write_risen g c = λ lt. no_risen _ _ (c.in_ok-turn.ensures.sink.write_risen (omega (arith, lt, c.loop-turn.invariant.write_kept)))
+pub returns-in-Disconnect-clause-clock : goal.returns-in-Disconnect-clause-clock
+returns-in-Disconnect-clause-clock g c = clock_twice g.met.C.Clock.later_trans c.loop-turn.invariant.clock c.in_ok-turn.ensures.clock
 
-pub returns-in-End-clause-read_risen : goal.returns-in-End-clause-read_risen
-returns-in-End-clause-read_risen g c = λ lt. no_risen _ _ (c.in_ok-turn.ensures.source.read_risen (omega (arith, lt, c.loop-turn.invariant.read_kept)))
+pub returns-in-End-clause-source : goal.returns-in-End-clause-source
+returns-in-End-clause-source g c = source_as (no_risen _ _) (no_risen _ _) (λ _. rw c.in-End.is tt) (source_twice g.met.S.Source.later_trans (λ f. f) c.loop-turn.invariant.source c.in_ok-turn.ensures.source)
 
-pub returns-in-End-clause-write_risen : goal.returns-in-End-clause-write_risen
-returns-in-End-clause-write_risen g c = λ lt. no_risen _ _ (c.in_ok-turn.ensures.sink.write_risen (omega (arith, lt, c.loop-turn.invariant.write_kept)))
+pub returns-in-End-clause-sink : goal.returns-in-End-clause-sink
+returns-in-End-clause-sink g c = sink_ok _ _ (sink_twice g.met.K.Sink.later_trans (λ f. f) c.loop-turn.invariant.sink (sink_unfailed _ _ c.in_ok-turn.ensures.sink))
 
-pub returns-clause-read_risen : goal.returns-clause-read_risen
-returns-clause-read_risen g c = λ lt. absurd (omega (arith, lt, c.loop-turn.invariant.read_kept))
+pub returns-in-End-clause-clock : goal.returns-in-End-clause-clock
+returns-in-End-clause-clock g c = clock_twice g.met.C.Clock.later_trans c.loop-turn.invariant.clock c.in_ok-turn.ensures.clock
 
-pub returns-clause-write_risen : goal.returns-clause-write_risen
-returns-clause-write_risen g c = λ lt. absurd (omega (arith, lt, c.loop-turn.invariant.write_kept))
+pub returns-clause-source : goal.returns-clause-source
+returns-clause-source g c = absurd (too_many_turns (setup_of c.args.setup) _ _ _ _ c.loop-turn.invariant.running (omega (arith, c.loop-turn-test.false, c.from-turn-end.ensures)))
+
+pub returns-clause-sink : goal.returns-clause-sink
+returns-clause-sink g c = absurd (too_many_turns (setup_of c.args.setup) _ _ _ _ c.loop-turn.invariant.running (omega (arith, c.loop-turn-test.false, c.from-turn-end.ensures)))
 
 pub returns-clause-complete : goal.returns-clause-complete
 returns-clause-complete g c = absurd (too_many_turns (setup_of c.args.setup) _ _ _ _ c.loop-turn.invariant.running (omega (arith, c.loop-turn-test.false, c.from-turn-end.ensures)))

@@ -8,11 +8,11 @@ use Rattle.reis_run.proofs.session.serve_lines.Goals as goal
 
 pub returns-clause-ends : goal.returns-clause-ends
 returns-clause-ends g c = λ text told.
-    let one_input = sym c.over-source.ensures.same_reference ∙ c.serve-answer.ensures.later_source.same_reference ∙ sym c.close-input.ensures.same_reference in
+    let one_input = sym c.over-source.ensures.same_reference ∙ c.serve-answer.ensures.source.later_source.same_reference ∙ sym c.close-input.ensures.same_reference in
     let w =
     went g.I.Input.text g.I.Input.faults g.I.Input.later _ c.input-1.given.0 c.over-source.result c.serve-answer.new.source c.serve-answer.result
-    c.over-source.ensures.fresh c.over-source.ensures.unasked c.serve-answer.ensures.later_source (c.input-1.given.1 one_input ∙ c.close-input.ensures.same)
-    c.serve-answer.ensures.read_risen c.serve-answer.ensures.read_fault c.serve-answer.ensures.last_end c.serve-answer.ensures.last_fault in
+    c.over-source.ensures.fresh c.over-source.ensures.unasked c.serve-answer.ensures.source.later_source (c.input-1.given.1 one_input ∙ c.close-input.ensures.same)
+    c.serve-answer.ensures.source.read_risen c.serve-answer.ensures.source.read_fault c.serve-answer.ensures.source.last_end c.serve-answer.ensures.source.last_fault in
     let first = told_at_first g.I.Input.text _ _ text c.over-source.ensures.fresh told in
     let pieces = pieces_of text in
     let says = c.serve-answer.ensures in
@@ -34,11 +34,11 @@ returns-clause-ends g c = λ text told.
 
 pub returns-clause-requests : goal.returns-clause-requests
 returns-clause-requests g c = λ text told d.
-    let one_input = sym c.over-source.ensures.same_reference ∙ c.serve-answer.ensures.later_source.same_reference ∙ sym c.close-input.ensures.same_reference in
+    let one_input = sym c.over-source.ensures.same_reference ∙ c.serve-answer.ensures.source.later_source.same_reference ∙ sym c.close-input.ensures.same_reference in
     let w =
     went g.I.Input.text g.I.Input.faults g.I.Input.later _ c.input-1.given.0 c.over-source.result c.serve-answer.new.source c.serve-answer.result
-    c.over-source.ensures.fresh c.over-source.ensures.unasked c.serve-answer.ensures.later_source (c.input-1.given.1 one_input ∙ c.close-input.ensures.same)
-    c.serve-answer.ensures.read_risen c.serve-answer.ensures.read_fault c.serve-answer.ensures.last_end c.serve-answer.ensures.last_fault in
+    c.over-source.ensures.fresh c.over-source.ensures.unasked c.serve-answer.ensures.source.later_source (c.input-1.given.1 one_input ∙ c.close-input.ensures.same)
+    c.serve-answer.ensures.source.read_risen c.serve-answer.ensures.source.read_fault c.serve-answer.ensures.source.last_end c.serve-answer.ensures.source.last_fault in
     let first = told_at_first g.I.Input.text _ _ text c.over-source.ensures.fresh told in
     let pieces = pieces_of text in
     let says = c.serve-answer.ensures in
@@ -59,11 +59,11 @@ returns-clause-requests g c = λ text told d.
 
 pub returns-clause-replies : goal.returns-clause-replies
 returns-clause-replies g c = λ text told d.
-    let one_input = sym c.over-source.ensures.same_reference ∙ c.serve-answer.ensures.later_source.same_reference ∙ sym c.close-input.ensures.same_reference in
+    let one_input = sym c.over-source.ensures.same_reference ∙ c.serve-answer.ensures.source.later_source.same_reference ∙ sym c.close-input.ensures.same_reference in
     let w =
     went g.I.Input.text g.I.Input.faults g.I.Input.later _ c.input-1.given.0 c.over-source.result c.serve-answer.new.source c.serve-answer.result
-    c.over-source.ensures.fresh c.over-source.ensures.unasked c.serve-answer.ensures.later_source (c.input-1.given.1 one_input ∙ c.close-input.ensures.same)
-    c.serve-answer.ensures.read_risen c.serve-answer.ensures.read_fault c.serve-answer.ensures.last_end c.serve-answer.ensures.last_fault in
+    c.over-source.ensures.fresh c.over-source.ensures.unasked c.serve-answer.ensures.source.later_source (c.input-1.given.1 one_input ∙ c.close-input.ensures.same)
+    c.serve-answer.ensures.source.read_risen c.serve-answer.ensures.source.read_fault c.serve-answer.ensures.source.last_end c.serve-answer.ensures.source.last_fault in
     let first = told_at_first g.I.Input.text _ _ text c.over-source.ensures.fresh told in
     let pieces = pieces_of text in
     let says = c.serve-answer.ensures in
@@ -84,11 +84,11 @@ returns-clause-replies g c = λ text told d.
 
 pub returns-clause-readings : goal.returns-clause-readings
 returns-clause-readings g c = λ text told d.
-    let one_input = sym c.over-source.ensures.same_reference ∙ c.serve-answer.ensures.later_source.same_reference ∙ sym c.close-input.ensures.same_reference in
+    let one_input = sym c.over-source.ensures.same_reference ∙ c.serve-answer.ensures.source.later_source.same_reference ∙ sym c.close-input.ensures.same_reference in
     let w =
     went g.I.Input.text g.I.Input.faults g.I.Input.later _ c.input-1.given.0 c.over-source.result c.serve-answer.new.source c.serve-answer.result
-    c.over-source.ensures.fresh c.over-source.ensures.unasked c.serve-answer.ensures.later_source (c.input-1.given.1 one_input ∙ c.close-input.ensures.same)
-    c.serve-answer.ensures.read_risen c.serve-answer.ensures.read_fault c.serve-answer.ensures.last_end c.serve-answer.ensures.last_fault in
+    c.over-source.ensures.fresh c.over-source.ensures.unasked c.serve-answer.ensures.source.later_source (c.input-1.given.1 one_input ∙ c.close-input.ensures.same)
+    c.serve-answer.ensures.source.read_risen c.serve-answer.ensures.source.read_fault c.serve-answer.ensures.source.last_end c.serve-answer.ensures.source.last_fault in
     let first = told_at_first g.I.Input.text _ _ text c.over-source.ensures.fresh told in
     let pieces = pieces_of text in
     let says = c.serve-answer.ensures in
@@ -109,11 +109,11 @@ returns-clause-readings g c = λ text told d.
 
 pub returns-clause-cut_short : goal.returns-clause-cut_short
 returns-clause-cut_short g c = λ text told d.
-    let one_input = sym c.over-source.ensures.same_reference ∙ c.serve-answer.ensures.later_source.same_reference ∙ sym c.close-input.ensures.same_reference in
+    let one_input = sym c.over-source.ensures.same_reference ∙ c.serve-answer.ensures.source.later_source.same_reference ∙ sym c.close-input.ensures.same_reference in
     let w =
     went g.I.Input.text g.I.Input.faults g.I.Input.later _ c.input-1.given.0 c.over-source.result c.serve-answer.new.source c.serve-answer.result
-    c.over-source.ensures.fresh c.over-source.ensures.unasked c.serve-answer.ensures.later_source (c.input-1.given.1 one_input ∙ c.close-input.ensures.same)
-    c.serve-answer.ensures.read_risen c.serve-answer.ensures.read_fault c.serve-answer.ensures.last_end c.serve-answer.ensures.last_fault in
+    c.over-source.ensures.fresh c.over-source.ensures.unasked c.serve-answer.ensures.source.later_source (c.input-1.given.1 one_input ∙ c.close-input.ensures.same)
+    c.serve-answer.ensures.source.read_risen c.serve-answer.ensures.source.read_fault c.serve-answer.ensures.source.last_end c.serve-answer.ensures.source.last_fault in
     let first = told_at_first g.I.Input.text _ _ text c.over-source.ensures.fresh told in
     let pieces = pieces_of text in
     let says = c.serve-answer.ensures in
@@ -134,11 +134,11 @@ returns-clause-cut_short g c = λ text told d.
 
 pub returns-clause-given : goal.returns-clause-given
 returns-clause-given g c = λ text told d.
-    let one_input = sym c.over-source.ensures.same_reference ∙ c.serve-answer.ensures.later_source.same_reference ∙ sym c.close-input.ensures.same_reference in
+    let one_input = sym c.over-source.ensures.same_reference ∙ c.serve-answer.ensures.source.later_source.same_reference ∙ sym c.close-input.ensures.same_reference in
     let w =
     went g.I.Input.text g.I.Input.faults g.I.Input.later _ c.input-1.given.0 c.over-source.result c.serve-answer.new.source c.serve-answer.result
-    c.over-source.ensures.fresh c.over-source.ensures.unasked c.serve-answer.ensures.later_source (c.input-1.given.1 one_input ∙ c.close-input.ensures.same)
-    c.serve-answer.ensures.read_risen c.serve-answer.ensures.read_fault c.serve-answer.ensures.last_end c.serve-answer.ensures.last_fault in
+    c.over-source.ensures.fresh c.over-source.ensures.unasked c.serve-answer.ensures.source.later_source (c.input-1.given.1 one_input ∙ c.close-input.ensures.same)
+    c.serve-answer.ensures.source.read_risen c.serve-answer.ensures.source.read_fault c.serve-answer.ensures.source.last_end c.serve-answer.ensures.source.last_fault in
     let first = told_at_first g.I.Input.text _ _ text c.over-source.ensures.fresh told in
     let pieces = pieces_of text in
     let says = c.serve-answer.ensures in
@@ -159,21 +159,21 @@ returns-clause-given g c = λ text told d.
 
 pub returns-clause-fault : goal.returns-clause-fault
 returns-clause-fault g c = λ d.
-    let one_input = sym c.over-source.ensures.same_reference ∙ c.serve-answer.ensures.later_source.same_reference ∙ sym c.close-input.ensures.same_reference in
+    let one_input = sym c.over-source.ensures.same_reference ∙ c.serve-answer.ensures.source.later_source.same_reference ∙ sym c.close-input.ensures.same_reference in
     let w =
     went g.I.Input.text g.I.Input.faults g.I.Input.later _ c.input-1.given.0 c.over-source.result c.serve-answer.new.source c.serve-answer.result
-    c.over-source.ensures.fresh c.over-source.ensures.unasked c.serve-answer.ensures.later_source (c.input-1.given.1 one_input ∙ c.close-input.ensures.same)
-    c.serve-answer.ensures.read_risen c.serve-answer.ensures.read_fault c.serve-answer.ensures.last_end c.serve-answer.ensures.last_fault in
+    c.over-source.ensures.fresh c.over-source.ensures.unasked c.serve-answer.ensures.source.later_source (c.input-1.given.1 one_input ∙ c.close-input.ensures.same)
+    c.serve-answer.ensures.source.read_risen c.serve-answer.ensures.source.read_fault c.serve-answer.ensures.source.last_end c.serve-answer.ensures.source.last_fault in
     line_fault g.I.Input.text g.I.Input.faults g.I.Input.later _ _ c.serve-answer.new.source c.serve-answer.result c.bad_line-bad.result w c.bad_line-bad.ensures
     (sym c.last_line.ensures ∙ d)
 
 pub returns-clause-count : goal.returns-clause-count
 returns-clause-count g c =
-    let one_input = sym c.over-source.ensures.same_reference ∙ c.serve-answer.ensures.later_source.same_reference ∙ sym c.close-input.ensures.same_reference in
+    let one_input = sym c.over-source.ensures.same_reference ∙ c.serve-answer.ensures.source.later_source.same_reference ∙ sym c.close-input.ensures.same_reference in
     let w =
     went g.I.Input.text g.I.Input.faults g.I.Input.later _ c.input-1.given.0 c.over-source.result c.serve-answer.new.source c.serve-answer.result
-    c.over-source.ensures.fresh c.over-source.ensures.unasked c.serve-answer.ensures.later_source (c.input-1.given.1 one_input ∙ c.close-input.ensures.same)
-    c.serve-answer.ensures.read_risen c.serve-answer.ensures.read_fault c.serve-answer.ensures.last_end c.serve-answer.ensures.last_fault in
+    c.over-source.ensures.fresh c.over-source.ensures.unasked c.serve-answer.ensures.source.later_source (c.input-1.given.1 one_input ∙ c.close-input.ensures.same)
+    c.serve-answer.ensures.source.read_risen c.serve-answer.ensures.source.read_fault c.serve-answer.ensures.source.last_end c.serve-answer.ensures.source.last_fault in
     went_count g.I.Input.text g.I.Input.faults g.I.Input.later _ _ c.serve-answer.new.source c.serve-answer.result w
 
 pub returns-in-Err-clause-cut_short : goal.returns-in-Err-clause-cut_short

@@ -1,4 +1,5 @@
 use Rattle.std.proofs.Common.{subst, sym}
+use Rattle.ei_backend.proofs.Lending.{source_as}
 use Rattle.ei_serve.specs.declared.state.SessionState.{SessionState}
 use Rattle.ei_serve.specs.Standing.{Stands, IsOver}
 use Rattle.ei_serve.proofs.BetweenTurns.{stands_for_some, session_after, over_exactly, holds_little}
@@ -19,19 +20,4 @@ returns-clause-little g c = holds_little _ (session_after c.self.inside.state c.
 pub returns-clause-source : goal.returns-clause-source
 returns-clause-source g c =
     let b = stands_for_some c.self.inside.state c.self.invariant (λ h. c.requires.going (subst (λ (s : SessionState). IsOver s) c.self.view_is h)) in
-    record {
-      read_fault = c.take_turn.ensures.read_fault;
-      read_risen = c.take_turn.ensures.read_risen;
-      read_faults = c.take_turn.ensures.read_faults;
-      last_fault = c.take_turn.ensures.last_fault;
-      last_end = c.take_turn.ensures.last_end b.setup b.pieces b.times b.stands;
-      later_source = c.take_turn.ensures.later_source;
-    }
-
-pub returns-clause-sink : goal.returns-clause-sink
-returns-clause-sink g c = record {
-  write_fault = c.take_turn.ensures.write_fault;
-  write_risen = c.take_turn.ensures.write_risen;
-  write_faults = c.take_turn.ensures.write_faults;
-  later_sink = c.take_turn.ensures.later_sink;
-}
+    source_as (λ f. f) (λ f. f) (λ at_end. (b, at_end)) c.take_turn.ensures.source
