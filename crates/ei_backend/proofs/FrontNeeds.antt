@@ -1,10 +1,9 @@
 -- What more bytes make of the message at the front.
-use Rattle.std.proofs.Common.{◌≡◌, ℕ, ◌<◌, ◌≤◌, List, ◌++◌, length, take, drop, refl, sym, ap, ◌∙◌, arith}
+use Rattle.std.proofs.Common.{◌≡◌, ℕ, ◌<◌, ◌≤◌, List, ◌++◌, length, take, drop, refl, ap, ◌∙◌, arith}
 use Rattle.std.proofs.lemmas.Bool.{lt-ltb, le-ltb}
 use Rattle.std.proofs.lemmas.List.{take-append-le, drop-append-le, length-append, length-drop}
-use Rattle.ei_spec.specs.Message.{Raw, Short, Unlawful, Whole, of_le4, size_at, front}
-use Rattle.ei_spec.proofs.FrontLaws.{whole_more, unlawful_more}
-use Rattle.ei_backend.specs.Front.{IsNeeded, behind}
+use Rattle.ei_spec.specs.Message.{Short, of_le4, size_at, front}
+use Rattle.ei_backend.specs.Front.{IsNeeded}
 
 size_more : (bytes more : List ℕ) → 16 ≤ length bytes → size_at (bytes ++ more) ≡ size_at bytes
 size_more bytes more le =
@@ -25,9 +24,3 @@ is_needed bytes n is header low high less = record {
       let l = length-append bytes more in
       short_at (bytes ++ more) (omega (arith, l)) (omega (arith, s, is)) (omega (arith, s, is)) (omega (arith, s, is, l));
 }
-
-pub behind_unlawful : (bytes more : List ℕ) (n : ℕ) → Unlawful n ≡ front bytes → front (bytes ++ more) ≡ behind more (front bytes)
-behind_unlawful bytes more n e = unlawful_more bytes more n (sym e) ∙ ap (behind more) e
-
-pub behind_whole : (bytes more : List ℕ) (m : Raw) (rest : List ℕ) → Whole m rest ≡ front bytes → front (bytes ++ more) ≡ behind more (front bytes)
-behind_whole bytes more m rest e = whole_more bytes more m rest (sym e) ∙ ap (behind more) e

@@ -11,6 +11,8 @@ pub mod ReadingOn
 pub mod RingLaws
 pub mod FrontNeeds
 pub mod Behind
+pub mod Copied
+pub mod BodyIs
 pub mod FoundAfter
 pub mod NextIs
 pub mod ShortRows

@@ -1,5 +1,5 @@
 -- The message at the front, as the code has it, and what more bytes make of it.
-use Rattle.std.specs.Prelude.{◌≡◌, ◌+◌, ◌<◌, ◌≤◌, ℕ, List, ◌++◌, length, drop}
+use Rattle.std.specs.Prelude.{◌≡◌, ◌+◌, ◌<◌, ◌≤◌, ℕ, Bool, false, nat_le, List, ◌++◌, length, drop}
 use Rattle.ei_spec.specs.Message.{Front, Short, Unlawful, Whole, front}
 use Rattle.ei_backend.specs.declared.front.FrontMessage.{FrontMessage}
 use Rattle.ei_backend.specs.declared.front.FrontMessage.TheVariants as code
@@ -16,14 +16,20 @@ pub record IsNeeded (bytes : List ℕ) (needed : ℕ) : Type 0 where
   pub missing : length bytes < needed
   pub short : (more : List ℕ) → length bytes + length more < needed → front (bytes ++ more) ≡ Short
 
--- a whole message stands in the bytes, and is no longer than a message may be; where there is none, it is known how many bytes are needed
+-- a whole message stands in the bytes; where there is none, it is known how many bytes are needed
 abbrev pub IsLawful : List ℕ → FrontMessage → Type 0
 IsLawful bytes (code.Short needed) = IsNeeded bytes needed
 IsLawful bytes (code.Unlawful len) = Unit {0}
-IsLawful bytes (code.Whole id opcode body len) = (16 ≤ len) × (len ≤ length bytes) × (length body.now + 16 ≡ len) × (len ≤ MOST_MESSAGE_BYTES)
+IsLawful bytes (code.Whole id opcode body len) = len ≤ length bytes
 
--- the front of more bytes, where the first of them have it already
-abbrev pub behind : List ℕ → Front → Front
-behind more Short = Short
-behind more (Unlawful n) = Unlawful n
-behind more (Whole m rest) = Whole m (rest ++ more)
+-- a whole message is a header and its body, and no longer than a message may be
+abbrev pub IsSound : FrontMessage → Type 0
+IsSound (code.Short needed) = Unit {0}
+IsSound (code.Unlawful len) = Unit {0}
+IsSound (code.Whole id opcode body len) = (16 ≤ len) × (length body.now + 16 ≡ len) × (len ≤ MOST_MESSAGE_BYTES)
+
+-- whether bytes that were short have what was needed among the first so many
+abbrev pub ends_within : FrontMessage → ℕ → Bool
+ends_within (code.Short needed) all = nat_le needed all
+ends_within (code.Unlawful len) all = false
+ends_within (code.Whole id opcode body len) all = false

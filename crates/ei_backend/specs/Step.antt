@@ -5,6 +5,7 @@ use Rattle.ei_wire.specs.declared.error.ParseError.TheVariants as error
 use Rattle.ei_backend.specs.Table.{TableView}
 use Rattle.ei_backend.specs.Incoming.{IncomingView}
 use Rattle.ei_backend.specs.Backend.{BackendView}
+use Rattle.ei_backend.specs.declared.reading.Step.{Step}
 use Rattle.ei_backend.specs.declared.message.PendingRequestResult.{PendingRequestResult}
 use Rattle.ei_backend.specs.declared.message.PendingRequestResult.TheVariants as pending
 
@@ -15,6 +16,10 @@ reading bytes handles table b = record b { table = table; unread = bytes; handle
 -- the same with the ring
 abbrev pub holding : IncomingView → TableView → BackendView → BackendView
 holding i table b = record b { table = table; unread = i.bytes; handles = i.handles; capacity = i.capacity }
+
+-- nothing was taken
+abbrev pub no_step : Step
+no_step = record { bytes = 0; handles = 0 }
 
 -- an answer took at least one byte, unless there was none or its length is unlawful
 abbrev pub TakesSome : {M : Type 0} → Option (PendingRequestResult M) → ℕ → Type 0

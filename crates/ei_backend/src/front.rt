@@ -1,13 +1,13 @@
 //! The message at the front of some bytes.
 
-ghost use Rattle.std.specs.Prelude.{◌≡◌, ◌+◌, ◌^◌, ◌<◌, ◌++◌, true, false, length};
-ghost use Rattle.ei_spec.specs.Message.{Short, front};
-ghost use Rattle.ei_backend.specs.Front.{front_view, IsLawful, behind};
+ghost use Rattle.std.specs.Prelude.{◌≡◌};
+ghost use Rattle.ei_spec.specs.Message.{front};
+ghost use Rattle.ei_backend.specs.Front.{front_view, IsLawful, IsSound, ends_within};
 
 use ei_spec::limits::MOST_MESSAGE_BYTES;
 
 /// The bytes of a header.
-const HEADER_BYTES: usize = 16;
+pub(crate) const HEADER_BYTES: usize = 16;
 
 /// What stands at the front.
 #[derive(Clone, Copy)]
@@ -20,11 +20,12 @@ pub(crate) enum FrontMessage<'a> {
     Whole(u64, u32, &'a [u8], usize),
 }
 
-#[inline]
+#[inline(always)]
 #[tactic(auto, unfolding(ei_spec::specs::Message::front, ei_spec::specs::Message::of_le4, ei_spec::specs::Message::of_le8))]
 pub(crate) fn front_of(bytes: &[u8]) -> FrontMessage<'_>
     ensures value { front_view bytes.now result ≡ front bytes.now }
     ensures lawful { IsLawful bytes.now result }
+    ensures sound { IsSound result }
 {
     if bytes.len() < HEADER_BYTES {
         return FrontMessage::Short(HEADER_BYTES);
@@ -44,14 +45,13 @@ pub(crate) fn front_of(bytes: &[u8]) -> FrontMessage<'_>
     FrontMessage::Whole(id, opcode, &bytes[HEADER_BYTES..end], end)
 }
 
-/// Whether a header or a message begins in the first bytes and ends in the second, which follow them.
-#[inline]
-pub(crate) fn is_across(first: &[u8], second: &[u8]) -> bool
-    ensures across { result ≡ true → front first.now ≡ Short }
-    ensures in_first { result ≡ false → front (first.now ++ second.now) ≡ behind second.now (front first.now) }
+/// Whether a header or a message ends behind the bytes that it was looked for in: within the first `all` bytes.
+#[inline(always)]
+pub(crate) fn is_across(front: FrontMessage<'_>, all: usize) -> bool
+    ensures { result ≡ ends_within front.entry all }
 {
-    match front_of(first) {
-        FrontMessage::Short(needed) => needed - first.len() <= second.len(),
+    match front {
+        FrontMessage::Short(needed) => needed <= all,
         FrontMessage::Unlawful(_) | FrontMessage::Whole(..) => false,
     }
 }

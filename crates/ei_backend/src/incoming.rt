@@ -1,6 +1,6 @@
 //! What came from a source and isn't read yet, in two rings.
 
-ghost use Rattle.std.specs.Prelude.{◌≡◌, ◌≤◌, ◌+◌, ℕ, List, length, vec_len, Option, OnOk, OnErr, IfOk, Ok, Err, Some, IsErrOf};
+ghost use Rattle.std.specs.Prelude.{◌≡◌, ◌≤◌, ◌+◌, ℕ, List, length, vec_len, Option, None, OnOk, OnErr, IfOk, Ok, Err, Some, IsErrOf};
 ghost use Rattle.ei_wire.specs.declared.error.ReadError.TheVariants as read_error;
 ghost use Rattle.ei_backend.specs.Outside.{Piece};
 ghost use Rattle.ei_backend.specs.Lent.{LentSource};
@@ -98,24 +98,34 @@ impl Incoming {
         self.bytes.capacity()
     }
 
-    /// The message at the front, taken out, if it is whole.
+    /// The message at the front, taken out, if it is whole. The room for a piece is idle then, and serves to
+    /// read a message that lies across the end of the ring.
     ///
     /// Where memory runs out, what is unread and the table stay.
     pub(crate) fn next<T: MessageEnum>(
         &mut self,
         alloc: Global,
         table: &mut Table,
-    ) -> Result<Option<PendingRequestResult<T>>, NoMemory>
+        answer: &mut Result<Option<PendingRequestResult<T>>, NoMemory>,
+    )
     where
         T: Drop,
-        ensures ok { (b : BackendView) → IfOk result (λ answer. Answers T.target T.code T.values answer (holding self.new table.new b) (next T.events
+        requires { answer.old ≡ Ok None }
+        ensures ok { (b : BackendView) → IfOk answer.new (λ said. Answers T.target T.code T.values said (holding self.new table.new b) (next T.events
             (holding self.old table.old b))) }
-        ensures announced { IfOk result (λ answer. Brings T.announced answer table.old table.new) }
-        ensures shorter { IfOk result (λ answer. Shortens self.old.bytes self.new.bytes answer) }
-        ensures err { OnErr result (self.new ≡ self.old) }
-        ensures err_table { OnErr result (table.new ≡ table.old) }
+        ensures announced { IfOk answer.new (λ said. Brings T.announced said table.old table.new) }
+        ensures shorter { IfOk answer.new (λ said. Shortens self.old.bytes self.new.bytes said) }
+        ensures err { OnErr answer.new (self.new ≡ self.old) }
+        ensures err_table { OnErr answer.new (table.new ≡ table.old) }
     {
-        next_message(alloc, &mut self.bytes, &mut self.handles, table)
+        next_message(
+            alloc,
+            &mut self.bytes,
+            &mut self.handles,
+            &mut self.room,
+            table,
+            answer,
+        );
     }
 
     /// Takes a piece from the source, and puts it behind what is there. It answers how many bytes came.

@@ -1,13 +1,16 @@
 //! Reading the message at the front of what is unread, in place.
 
-ghost use Rattle.std.specs.Prelude.{◌≡◌, ◌≤◌, length, drop, IfOk, OnErr, IsErrOf};
+ghost use Rattle.std.specs.Prelude.{◌≡◌, ◌≤◌, ◌<◌, ℕ, List, length, take, drop, IfOk, OnErr, Ok, Some, None};
 ghost use Rattle.circular_buffer.specs.Buffer.{buffer};
-ghost use Rattle.ei_wire.specs.declared.error.ParseError.TheVariants as error;
+ghost use Rattle.ei_spec.specs.Message as message;
+ghost use Rattle.ei_backend.specs.declared.front.TheConstants.{HEADER_BYTES};
+ghost use Rattle.ei_backend.specs.declared.message.PendingRequestResult.TheVariants as pending;
+ghost use Rattle.ei_backend.specs.Front.{front_view, IsLawful, IsSound};
 ghost use Rattle.ei_backend.specs.Table.{Announced};
-ghost use Rattle.ei_backend.specs.Backend.{BackendView, body_read, Says, next, Answers, Brings, Shortens};
-ghost use Rattle.ei_backend.specs.Step.{reading, TakesSome};
+ghost use Rattle.ei_backend.specs.Backend.{BackendView, body_read, of_outcome, next, Answers, Brings, Shortens};
+ghost use Rattle.ei_backend.specs.Step.{reading, no_step, TakesSome};
 
-use crate::front::{FrontMessage, front_of, is_across};
+use crate::front::{FrontMessage, HEADER_BYTES, front_of, is_across};
 use crate::message::{MessageEnum, PendingRequestResult};
 use crate::object::Object;
 use crate::table::Table;
@@ -16,88 +19,53 @@ use ei_spec::Handle;
 use ei_wire::{ByteStream, NoMemory, ParseError};
 use std::alloc::Global;
 
-/// What stood at the front, and how many bytes and handles it took.
-struct Step<T> {
-    answer: Option<PendingRequestResult<T>>,
+/// How many bytes and handles a message took.
+#[derive(Clone, Copy)]
+struct Step {
     bytes: usize,
     handles: usize,
 }
 
-impl<T> Step<T> {
-    #[inline]
-    fn new(answer: Option<PendingRequestResult<T>>, bytes: usize, handles: usize) -> Step<T>
-        ensures { result ≡ record { answer = answer; bytes = bytes; handles = handles } }
-    {
-        Step {
-            answer,
-            bytes,
-            handles,
-        }
-    }
-}
-
-/// Reads the message at the front of the rings, and takes it out. Where it lies across the end of its ring,
-/// it is moved there first; else nothing is copied.
+/// Reads the message at the front of the rings, and takes it out. Where it lies across the end of its ring, or handles
+/// are unread, it is copied to `scratch`, or the ring is made contiguous if it is longer; else nothing is copied.
 ///
 /// Where memory runs out, what is unread and the table stay.
+#[inline(always)]
 pub(crate) fn next_message<T: MessageEnum>(
     alloc: Global,
     bytes: &mut HeapCircularBuffer<u8>,
     handles: &mut HeapCircularBuffer<Handle>,
+    scratch: &mut [u8],
     table: &mut Table,
-) -> Result<Option<PendingRequestResult<T>>, NoMemory>
+    answer: &mut Result<Option<PendingRequestResult<T>>, NoMemory>,
+)
 where
     T: Drop,
-    ensures ok { (b : BackendView) → IfOk result (λ answer. Answers T.target T.code T.values answer (reading bytes.new.items handles.new.items table.new b)
+    requires scratch { HEADER_BYTES ≤ length scratch.old }
+    requires no_answer { answer.old ≡ Ok None }
+    ensures ok { (b : BackendView) → IfOk answer.new (λ said. Answers T.target T.code T.values said (reading bytes.new.items handles.new.items table.new b)
         (next T.events (reading bytes.old.items handles.old.items table.old b))) }
-    ensures announced { IfOk result (λ answer. Brings T.announced answer table.old table.new) }
-    ensures shorter { IfOk result (λ answer. Shortens bytes.old.items bytes.new.items answer) }
-    ensures err { OnErr result (bytes.new.items ≡ bytes.old.items) }
-    ensures err_handles { OnErr result (handles.new.items ≡ handles.old.items) }
-    ensures err_table { OnErr result (table.new ≡ table.old) }
+    ensures announced { IfOk answer.new (λ said. Brings T.announced said table.old table.new) }
+    ensures shorter { IfOk answer.new (λ said. Shortens bytes.old.items bytes.new.items said) }
+    ensures err { OnErr answer.new (bytes.new.items ≡ bytes.old.items) }
+    ensures err_handles { OnErr answer.new (handles.new.items ≡ handles.old.items) }
+    ensures err_table { OnErr answer.new (table.new ≡ table.old) }
     ensures capacity { bytes.new.capacity ≡ bytes.old.capacity }
     ensures handle_capacity { handles.new.capacity ≡ handles.old.capacity }
 {
-    let Step {
-        answer,
-        bytes: bytes_taken,
-        handles: handles_taken,
-    } = step_in(alloc, bytes, handles.make_contiguous(), table)?;
-    drop_front(bytes, bytes_taken);
-    drop_front(handles, handles_taken);
-    Ok(answer)
-}
-
-/// Reads the message at the front of a ring, if it is whole: from the ring's first bytes, or, where it begins
-/// before the end of the ring and ends behind it, from all of them, once they lie in one piece.
-///
-/// Where memory runs out, the table stays.
-fn step_in<T: MessageEnum>(
-    alloc: Global,
-    bytes: &mut HeapCircularBuffer<u8>,
-    handles: &[Handle],
-    table: &mut Table,
-) -> Result<Step<T>, NoMemory>
-where
-    T: Drop,
-    ensures ok { (b : BackendView) → IfOk result (λ step. Answers T.target T.code T.values step.answer (reading (drop step.bytes bytes.old.items)
-        (drop step.handles handles.now) table.new b) (next T.events (reading bytes.old.items handles.now table.old b))) }
-    ensures announced { IfOk result (λ step. Brings T.announced step.answer table.old table.new) }
-    ensures within { IfOk result (λ step. step.bytes ≤ length bytes.old.items) }
-    ensures shorter { IfOk result (λ step. TakesSome step.answer step.bytes) }
-    ensures err { OnErr result (table.new ≡ table.old) }
-    ensures kept { bytes.new ≡ bytes.old }
-{
-    let (first, second) = bytes.as_slices();
-    if is_across(first, second) {
-        step_of(alloc, bytes.make_contiguous(), handles, table)
-    } else {
-        step_of(alloc, first, handles, table)
+    let mut step = Step {
+        bytes: 0,
+        handles: 0,
+    };
+    step_in(alloc, bytes, handles, scratch, table, &mut step, answer);
+    drop_front(bytes, step.bytes);
+    if step.handles > 0 {
+        drop_front(handles, step.handles);
     }
 }
 
 /// Takes the first items out.
-#[inline]
+#[inline(always)]
 fn drop_front<T: Drop>(items: &mut HeapCircularBuffer<T>, count: usize)
     ensures { items.new ≡ buffer (drop count items.old.items) items.old.capacity }
 {
@@ -105,47 +73,198 @@ fn drop_front<T: Drop>(items: &mut HeapCircularBuffer<T>, count: usize)
     items.truncate_front(left);
 }
 
-/// Reads the message at the front, if it is whole.
+/// Reads the message at the front of a ring, if it is whole: mostly in the ring's first bytes, with no handle
+/// unread. It says in `step` what the message takes.
 ///
-/// Where memory runs out, the table stays.
-fn step_of<T: MessageEnum>(
+/// Where memory runs out, the table stays, and nothing is taken.
+#[inline(always)]
+fn step_in<T: MessageEnum>(
     alloc: Global,
-    bytes: &[u8],
-    handles: &[Handle],
+    bytes: &mut HeapCircularBuffer<u8>,
+    handles: &mut HeapCircularBuffer<Handle>,
+    scratch: &mut [u8],
     table: &mut Table,
-) -> Result<Step<T>, NoMemory>
+    step: &mut Step,
+    answer: &mut Result<Option<PendingRequestResult<T>>, NoMemory>,
+)
 where
     T: Drop,
-    ensures ok { (b : BackendView) → IfOk result (λ step. Answers T.target T.code T.values step.answer (reading (drop step.bytes bytes.now)
-        (drop step.handles handles.now) table.new b) (next T.events (reading bytes.now handles.now table.old b))) }
-    ensures announced { IfOk result (λ step. Brings T.announced step.answer table.old table.new) }
-    ensures within { IfOk result (λ step. step.bytes ≤ length bytes.now) }
-    ensures shorter { IfOk result (λ step. TakesSome step.answer step.bytes) }
-    ensures err { OnErr result (table.new ≡ table.old) }
+    requires scratch { HEADER_BYTES ≤ length scratch.old }
+    requires nothing { step.old ≡ no_step }
+    requires no_answer { answer.old ≡ Ok None }
+    ensures ok { (b : BackendView) → IfOk answer.new (λ said. Answers T.target T.code T.values said (reading (drop step.new.bytes bytes.old.items)
+        (drop step.new.handles handles.old.items) table.new b) (next T.events (reading bytes.old.items handles.old.items table.old b))) }
+    ensures announced { IfOk answer.new (λ said. Brings T.announced said table.old table.new) }
+    ensures within { step.new.bytes ≤ length bytes.old.items }
+    ensures shorter { IfOk answer.new (λ said. TakesSome said step.new.bytes) }
+    ensures err { OnErr answer.new (table.new ≡ table.old) }
+    ensures err_step { OnErr answer.new (step.new ≡ no_step) }
+    ensures kept { bytes.new ≡ bytes.old }
+    ensures handles_kept { handles.new ≡ handles.old }
 {
-    match front_of(bytes) {
-        FrontMessage::Short(_) => Ok(Step::new(None, 0, 0)),
-        FrontMessage::Unlawful(len) => {
-            let error = ParseError::HeaderLength(len);
-            Ok(Step::new(Some(PendingRequestResult::ParseError(error)), 0, 0))
+    if handles.is_empty() {
+        let (first, _second) = bytes.as_slices();
+        let front = front_of(first);
+        if !is_across(front, bytes.len()) {
+            step_of(alloc, front, &[], table, step, answer);
+            return;
         }
+    }
+    let unread_handles = handles.make_contiguous();
+    step_across(alloc, bytes, unread_handles, scratch, table, step, answer);
+}
+
+/// Reads the message at the front of a ring, if it is whole, where it may lie across the end of the ring, or handles
+/// are unread: it is copied to `scratch` first, if it fits there.
+///
+/// Where memory runs out, the table stays, and nothing is taken.
+#[inline(never)]
+fn step_across<T: MessageEnum>(
+    alloc: Global,
+    bytes: &mut HeapCircularBuffer<u8>,
+    handles: &[Handle],
+    scratch: &mut [u8],
+    table: &mut Table,
+    step: &mut Step,
+    answer: &mut Result<Option<PendingRequestResult<T>>, NoMemory>,
+)
+where
+    T: Drop,
+    requires scratch { HEADER_BYTES ≤ length scratch.old }
+    requires nothing { step.old ≡ no_step }
+    requires no_answer { answer.old ≡ Ok None }
+    ensures ok { (b : BackendView) → IfOk answer.new (λ said. Answers T.target T.code T.values said (reading (drop step.new.bytes bytes.old.items)
+        (drop step.new.handles handles.now) table.new b) (next T.events (reading bytes.old.items handles.now table.old b))) }
+    ensures announced { IfOk answer.new (λ said. Brings T.announced said table.old table.new) }
+    ensures within { step.new.bytes ≤ length bytes.old.items }
+    ensures shorter { IfOk answer.new (λ said. TakesSome said step.new.bytes) }
+    ensures err { OnErr answer.new (table.new ≡ table.old) }
+    ensures err_step { OnErr answer.new (step.new ≡ no_step) }
+    ensures kept { bytes.new ≡ bytes.old }
+{
+    let count = gather(bytes, scratch);
+    let front = front_of(&scratch[..count]);
+    if is_across(front, bytes.len()) {
+        step_apart(
+            alloc,
+            front_of(bytes.make_contiguous()),
+            handles,
+            table,
+            step,
+            answer,
+        )
+    } else {
+        step_apart(alloc, front, handles, table, step, answer)
+    }
+}
+
+/// Copies the first bytes of a ring, as many as there are and fit. It answers how many.
+fn copy_front(bytes: &HeapCircularBuffer<u8>, scratch: &mut [u8]) -> usize
+    ensures within { result ≤ length bytes.now.items }
+    ensures fits { result ≤ length scratch.old }
+    ensures copied { take result scratch.new ≡ take result bytes.now.items }
+{
+    let (first, second) = bytes.as_slices();
+    let from_first = first.len().min(scratch.len());
+    let from_second = second.len().min(scratch.len() - from_first);
+    let count = from_first + from_second;
+    scratch[..from_first].copy_from_slice(&first[..from_first]);
+    scratch[from_first..count].copy_from_slice(&second[..from_second]);
+    count
+}
+
+/// Copies the message at the front of a ring, or as much as its header, where it isn't whole or doesn't fit.
+/// It answers how many bytes.
+fn gather(bytes: &HeapCircularBuffer<u8>, scratch: &mut [u8]) -> usize
+    requires { HEADER_BYTES ≤ length scratch.old }
+    ensures within { result ≤ length bytes.now.items }
+    ensures fits { result ≤ length scratch.old }
+    ensures copied { take result scratch.new ≡ take result bytes.now.items }
+{
+    let header = copy_front(bytes, &mut scratch[..HEADER_BYTES]);
+    match front_of(&scratch[..header]) {
+        FrontMessage::Short(needed) if needed <= bytes.len() && needed <= scratch.len() => {
+            copy_front(bytes, &mut scratch[..needed])
+        }
+        _ => header,
+    }
+}
+
+/// Reads what stands at the front of some bytes, and says in `step` what it takes.
+///
+/// Where memory runs out, the table stays, and nothing is taken.
+#[inline(always)]
+fn step_of<T: MessageEnum>(
+    alloc: Global,
+    front: FrontMessage<'_>,
+    handles: &[Handle],
+    table: &mut Table,
+    step: &mut Step,
+    answer: &mut Result<Option<PendingRequestResult<T>>, NoMemory>,
+)
+where
+    T: Drop,
+    requires sound { IsSound front }
+    requires nothing { step.old ≡ no_step }
+    requires no_answer { answer.old ≡ Ok None }
+    ensures ok { (bytes : List ℕ) → front_view bytes front.entry ≡ message.front bytes → (b : BackendView) → IfOk answer.new (λ said. Answers T.target T.code T.values said
+        (reading (drop step.new.bytes bytes) (drop step.new.handles handles.now) table.new b) (next T.events (reading bytes handles.now table.old b))) }
+    ensures announced { IfOk answer.new (λ said. Brings T.announced said table.old table.new) }
+    ensures within { (bytes : List ℕ) → IsLawful bytes front.entry → step.new.bytes ≤ length bytes }
+    ensures shorter { IfOk answer.new (λ said. TakesSome said step.new.bytes) }
+    ensures err { OnErr answer.new (table.new ≡ table.old) }
+    ensures err_step { OnErr answer.new (step.new ≡ no_step) }
+{
+    match front {
+        FrontMessage::Short(_) => {}
+        FrontMessage::Unlawful(len) => refuse(answer, ParseError::HeaderLength(len)),
         FrontMessage::Whole(id, opcode, body, len) => match table.object_for_id(id) {
-            None => Ok(Step::new(Some(PendingRequestResult::InvalidObject(id)), len, 0)),
-            Some(target) => {
-                let target = target.clone()?;
-                let (read, taken) = read_body(alloc, target, opcode, body, handles, table);
-                let answer = match read {
-                    Err(ParseError::NoMemory) => return Err(NoMemory),
-                    Err(error) => PendingRequestResult::ParseError(error),
-                    Ok(message) => PendingRequestResult::Request(message),
-                };
-                Ok(Step::new(Some(answer), len, taken))
+            None => {
+                find_none(answer, id);
+                step.bytes = len;
             }
+            Some(target) => match target.clone() {
+                Err(_) => *answer = Err(NoMemory),
+                Ok(target) => {
+                    let taken = &mut step.handles;
+                    read_body(alloc, target, opcode, body, handles, table, taken, answer);
+                    step.bytes = if answer.is_ok() { len } else { 0 };
+                }
+            },
         },
     }
 }
 
+/// The same, as a call of its own: what is rare shares it.
+#[inline(never)]
+fn step_apart<T: MessageEnum>(
+    alloc: Global,
+    front: FrontMessage<'_>,
+    handles: &[Handle],
+    table: &mut Table,
+    step: &mut Step,
+    answer: &mut Result<Option<PendingRequestResult<T>>, NoMemory>,
+)
+where
+    T: Drop,
+    requires sound { IsSound front }
+    requires nothing { step.old ≡ no_step }
+    requires no_answer { answer.old ≡ Ok None }
+    ensures ok { (bytes : List ℕ) → front_view bytes front.entry ≡ message.front bytes → (b : BackendView) → IfOk answer.new (λ said. Answers T.target T.code T.values said
+        (reading (drop step.new.bytes bytes) (drop step.new.handles handles.now) table.new b) (next T.events (reading bytes handles.now table.old b))) }
+    ensures announced { IfOk answer.new (λ said. Brings T.announced said table.old table.new) }
+    ensures within { (bytes : List ℕ) → IsLawful bytes front.entry → step.new.bytes ≤ length bytes }
+    ensures shorter { IfOk answer.new (λ said. TakesSome said step.new.bytes) }
+    ensures err { OnErr answer.new (table.new ≡ table.old) }
+    ensures err_step { OnErr answer.new (step.new ≡ no_step) }
+{
+    step_of(alloc, front, handles, table, step, answer)
+}
+
 /// Reads the whole body of a message, and says how many handles it took.
+///
+/// Where memory runs out, the table stays, and no handle is taken.
+#[inline(always)]
 fn read_body<T: MessageEnum>(
     alloc: Global,
     target: Object,
@@ -153,27 +272,57 @@ fn read_body<T: MessageEnum>(
     body: &[u8],
     handles: &[Handle],
     table: &mut Table,
-) -> (Result<T, ParseError>, usize)
+    taken: &mut usize,
+    answer: &mut Result<Option<PendingRequestResult<T>>, NoMemory>,
+)
 where
     T: Drop,
-    requires { length body.now ≤ 1048560 }
-    ensures says { Says T.target T.code T.values target opcode result.0 table.new result.1 (body_read T.events target opcode body.now handles.now table.old) }
-    ensures announced { IfOk result.0 (λ m. Announced (T.announced m) table.old table.new) }
-    ensures memory { IsErrOf result.0 error.NoMemory → table.new ≡ table.old }
+    requires body { length body.now ≤ 1048560 }
+    requires nothing { taken.old ≡ 0 }
+    requires no_answer { answer.old ≡ Ok None }
+    ensures ok { (rest : List ℕ) → (b : BackendView) → IfOk answer.new (λ said. Answers T.target T.code T.values said
+        (reading rest (drop taken.new handles.now) table.new b)
+        (of_outcome (reading rest handles.now table.old b) target opcode rest (body_read T.events target opcode body.now handles.now table.old))) }
+    ensures announced { IfOk answer.new (λ said. Brings T.announced said table.old table.new) }
+    ensures some { (n : ℕ) → 0 < n → IfOk answer.new (λ said. TakesSome said n) }
+    ensures err { OnErr answer.new (table.new ≡ table.old) }
+    ensures err_taken { OnErr answer.new (taken.new ≡ 0) }
 {
     let mut stream = ByteStream::new(alloc, body, handles);
     let parsed = T::parse(alloc, target, opcode, &mut stream, table);
-    let taken = stream.handles_taken();
     match parsed {
-        Err(error) => (Err(error), taken),
         Ok(message) => {
+            *taken = stream.handles_taken();
+            *answer = Ok(Some(PendingRequestResult::Request(message)));
             let rest = stream.rest();
             if rest != 0 {
                 let len = 16 + body.len() as u32;
-                let error = ParseError::MessageLength(len + rest as u32, len);
-                return (Err(error), taken);
+                refuse(answer, ParseError::MessageLength(len + rest as u32, len));
             }
-            (Ok(message), taken)
+        }
+        Err(ParseError::NoMemory) => *answer = Err(NoMemory),
+        Err(error) => {
+            *taken = stream.handles_taken();
+            refuse(answer, error);
         }
     }
+}
+
+/// Answers that a message is refused.
+#[inline(never)]
+fn refuse<T: Drop>(
+    answer: &mut Result<Option<PendingRequestResult<T>>, NoMemory>,
+    error: ParseError,
+)
+    ensures { answer.new ≡ Ok (Some (pending.ParseError error)) }
+{
+    *answer = Ok(Some(PendingRequestResult::ParseError(error)));
+}
+
+/// Answers that no object has the id.
+#[inline(never)]
+fn find_none<T: Drop>(answer: &mut Result<Option<PendingRequestResult<T>>, NoMemory>, id: u64)
+    ensures { answer.new ≡ Ok (Some (pending.InvalidObject id)) }
+{
+    *answer = Ok(Some(PendingRequestResult::InvalidObject(id)));
 }

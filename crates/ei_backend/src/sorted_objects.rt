@@ -7,7 +7,26 @@ ghost use Rattle.ei_backend.specs.Table.{RiseWithin, Rise, by_id, IsPlace};
 
 use crate::object::Object;
 
-/// Where the object of an id stands.
+/// Where the object of an id stands, if no id between that of the first object and it is missing. Ids are given
+/// one by one, so it is there mostly, and any other place is none of its.
+#[inline(always)]
+fn likely_place(objects: &[Object], id: u64) -> Option<usize>
+    ensures { IfSome result (IsPlace id objects.now) }
+{
+    let first = objects.first()?.id();
+    if id < first || id - first >= objects.len() as u64 {
+        return None;
+    }
+    let at = (id - first) as usize;
+    if objects[at].id() == id {
+        Some(at)
+    } else {
+        None
+    }
+}
+
+/// Where the object of an id stands, by binary search.
+#[inline(never)]
 fn place(objects: &[Object], id: u64) -> Option<usize>
     requires { Rise objects.now }
     ensures found { IfSome result (IsPlace id objects.now) }
@@ -17,10 +36,14 @@ fn place(objects: &[Object], id: u64) -> Option<usize>
 }
 
 /// The object of an id.
+#[inline(always)]
 pub(crate) fn look_up(objects: &[Object], id: u64) -> Option<&Object>
     requires { Rise objects.now }
     ensures { option_copied result ≡ get (by_id objects.now) id }
 {
+    if let Some(at) = likely_place(objects, id) {
+        return Some(&objects[at]);
+    }
     match place(objects, id) {
         Some(at) => Some(&objects[at]),
         None => None,

@@ -24,7 +24,7 @@ use std::marker::Model;
 ///
 /// The ids below 0xff00000000000000, 0 among them, are a client's, the others a server's. The objects of each
 /// range stand in a vector by rising ids: those of this end's range in `own`, the others in `peer`. Ids only
-/// rise, so a new object goes to the end of a vector, and a look-up is a binary search.
+/// rise, so a new object goes to the end of a vector. A look-up tries one place, and then is a binary search.
 #[derive(Drop)]
 pub struct Table {
     own: Vec<Object>,

@@ -156,6 +156,8 @@ impl Context {
         ensures few_left { result ≡ Ok None → length self.new.unread < MOST_MESSAGE_BYTES }
         ensures err { OnErr result (self.new ≡ self.old) }
     {
-        self.backend.pending()
+        let mut answer = Ok(None);
+        self.backend.pending_into(&mut answer);
+        answer
     }
 }
