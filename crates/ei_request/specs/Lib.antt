@@ -11,6 +11,7 @@ pub mod Removing
 pub mod Making
 pub mod Reading
 pub mod Converter
+pub mod Queue
 pub mod Refusing
 pub mod Handling
 pub mod Lending

@@ -5,7 +5,6 @@ ghost use Rattle.std.specs.Prelude.{true, [], ◌∷◌, find, length};
 ghost use Rattle.std.specs.Option.{option_copied, option_map};
 ghost use Rattle.std.specs.FinMap as finite;
 ghost use Rattle.std.specs.Borrow.{sem};
-ghost use Rattle.std.specs.VecDeque.{deque_len, deque_capacity};
 ghost use Rattle.ei_spec.specs.declared.limits.TheConstants.{MOST_MESSAGE_BYTES};
 ghost use Rattle.ei_spec.specs.Interface.{Known};
 ghost use Rattle.ei_spec.specs.Message.{size};
@@ -34,10 +33,10 @@ ghost use Rattle.ei_request.specs.Lending.{LendsContext};
 
 use crate::device::Device;
 use crate::devices::Devices;
-use crate::event::EisRequest;
 use crate::held::{HeldDevice, HeldSeat};
 use crate::input::Input;
 use crate::making::{self, Allowed, DeviceSetup};
+use crate::queue::Queue;
 use crate::seat::Seat;
 use crate::{holding, seats, sending};
 use ei_backend::{HasBackend, Interface, Object, Sink};
@@ -50,7 +49,6 @@ use ei_types::{
 };
 use ei_wire::{EiText, FlushError, SendError};
 use std::alloc::Global;
-use std::collections::VecDeque;
 use std::marker::Model;
 
 /// The connection of a server after the handshake. It owns the context, and holds the seats and the devices.
@@ -549,6 +547,7 @@ impl Connection {
     }
 
     /// Does what a request to the interface of that id and version asks: an input, or else the release.
+    #[inline(always)]
     pub(crate) fn obey(&mut self, id: u64, version: u32, asked: Option<Input>) -> Result<(), Error>
         ensures accepted { OnOk result (asked_refusal version asked (find (has_interface id) self.old.devices) ≡ None) }
         ensures ok { OnOk result (self.new ≡ obeys self.old id asked) }
@@ -565,6 +564,7 @@ impl Connection {
     }
 
     /// The interface of that id leaves its device, if one has it: `destroyed`, with the next serial.
+    #[inline(never)]
     fn give_up(&mut self, id: u64) -> Result<(), SendError>
         ensures ok { OnOk result (self.new ≡ obeys self.old id None) }
         ensures err { OnErr result (self.new ≡ self.old) }
@@ -588,17 +588,11 @@ impl Connection {
     }
 
     /// Hands out what waits on the device of that id, with a frame. There is room for it.
-    pub(crate) fn hand_out(
-        &mut self,
-        queue: &mut VecDeque<EisRequest>,
-        id: u64,
-        serial: u32,
-        time: u64,
-    )
-        requires room { deque_len queue.old + length (waiting_of (find (is_device id) self.old.devices)) + 2 ≤ deque_capacity queue.old }
+    pub(crate) fn hand_out(&mut self, queue: &mut Queue, id: u64, serial: u32, time: u64)
+        requires room { length (waiting_of (find (is_device id) self.old.devices)) + 2 ≤ queue.old.room }
         ensures queue { queue.new.items ≡ queue.old.items ++ group_of (find (is_device id) self.old.devices) serial time }
         ensures ok { self.new ≡ emptied_at self.old id }
-        ensures left { deque_len queue.new < deque_capacity queue.new }
+        ensures left { 0 < queue.new.room }
     {
         self.devices.hand_out(queue, id, serial, time);
     }

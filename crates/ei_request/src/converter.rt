@@ -1,6 +1,6 @@
 //! The server's converter.
 
-ghost use Rattle.std.specs.Prelude.{◌≡◌, [], ℕ, length, true, List, Option, OnOk, OnErr, IfOk, IfErr, IsSome, None, find};
+ghost use Rattle.std.specs.Prelude.{◌≡◌, ◌++◌, [], ℕ, length, true, List, Option, OnOk, OnErr, IfOk, IfErr, IsSome, None, find};
 ghost use Rattle.std.specs.Borrow.{sem};
 ghost use Rattle.ei_types.specs.declared.error.Error.TheVariants as error;
 ghost use Rattle.ei_backend.specs.Lent.{LentClock};
@@ -16,20 +16,21 @@ ghost use Rattle.ei_request.specs.Lending.{LendsHandle};
 use crate::connection::Connection;
 use crate::event::{self, EisRequest};
 use crate::input::{self, Input};
+use crate::queue::Queue;
 use crate::seat::Seat;
 use ei_backend::{Clock, Interface, Object};
 use ei_handshake::EisHandshakeResp;
 use ei_server::{Context, Request, connection, device, seat};
 use ei_types::{DeviceCapabilities, Error, RequestError};
+use ei_wire::NoMemory;
 use std::alloc::Global;
-use std::collections::VecDeque;
 use std::marker::Model;
 
 /// Makes what a server is asked for out of a client's requests.
 #[derive(Drop)]
 pub struct EisRequestConverter {
     handle: Connection,
-    queue: VecDeque<EisRequest>,
+    queue: Queue,
 }
 
 impl Model for EisRequestConverter {
@@ -54,7 +55,7 @@ impl EisRequestConverter {
     {
         EisRequestConverter {
             handle: Connection::new(alloc, context, resp, initial_serial),
-            queue: VecDeque::new(alloc),
+            queue: Queue::new(alloc),
         }
     }
 
@@ -85,7 +86,21 @@ impl EisRequestConverter {
         ensures first { result ≡ first_of self.old.queue }
         ensures rest { self.new ≡ record self.old { queue = rest_of self.old.queue } }
     {
-        self.queue.pop_front()
+        self.queue.take_first()
+    }
+
+    /// Moves all requests that are queued behind `out`, in their order, or none.
+    ///
+    /// `NoMemory`: nothing moves.
+    #[inline]
+    pub fn drain_into(&mut self, out: &mut Vec<EisRequest>) -> Result<(), NoMemory>
+        ensures out { OnOk result (out.new.items ≡ out.old.items ++ self.old.queue) }
+        ensures emptied { OnOk result (self.new ≡ record self.old { queue = [] }) }
+        ensures kept { OnErr result (out.new.items ≡ out.old.items) }
+        ensures err { OnErr result (self.new ≡ self.old) }
+    {
+        self.queue.drain_into(out)?;
+        Ok(())
     }
 
     /// Does what a request of the client asks, and queues what it means. An input waits for a frame of its device; a
@@ -96,6 +111,7 @@ impl EisRequestConverter {
     /// mask with a bit outside those given to the seat. `TooManyTouches` for a touch that goes down where sixteen
     /// are, `DuplicatedTouchDown` for one that is down. `InvalidTextLength` for a text of no bytes or of more than 254.
     /// `NoMemory`. A refused call queues nothing, asks no clock, and leaves touches, serial and buffers.
+    #[inline(always)]
     pub fn handle_request<C: Clock>(&mut self, clock: &mut C, request: Request) -> Result<(), Error>
         ensures handles { Handles self.old request (C.readings clock.old) result (C.readings clock.new) self.new }
         ensures kept { OnErr result (clock.new ≡ clock.old) }
@@ -134,6 +150,7 @@ impl EisRequestConverter {
     }
 
     /// A request to an interface of a device: an input, or else the release.
+    #[inline(always)]
     fn obey(&mut self, target: &Object, asked: Option<Input>) -> Result<(), Error>
         ensures accepted { OnOk result (asked_refusal target.now.version asked (find (has_interface target.now.id) self.old.handle.devices) ≡ None) }
         ensures ok { OnOk result (self.new ≡ record self.old { handle = obeys self.old.handle target.now.id asked }) }
@@ -144,6 +161,7 @@ impl EisRequestConverter {
     }
 
     /// A request to the connection.
+    #[inline(never)]
     fn handle_connection(&mut self, request: connection::Request) -> Result<(), Error>
         ensures { (id version : ℕ) (told : Option (List ℕ)) → HandlesTo self.old id version (connection_meaning request) told result told self.new }
     {
@@ -155,12 +173,13 @@ impl EisRequestConverter {
                 }
                 self.handle.call_back(&callback)?;
             }
-            connection::Request::Disconnect => self.queue.push_back(EisRequest::Disconnect)?,
+            connection::Request::Disconnect => self.queue.push(EisRequest::Disconnect)?,
         }
         Ok(())
     }
 
     /// A request to the seat of that id.
+    #[inline(never)]
     fn handle_seat(&mut self, id: u64, request: seat::Request) -> Result<(), Error>
         ensures { (version : ℕ) (told : Option (List ℕ)) → HandlesTo self.old id version (seat_meaning request) told result told self.new }
     {
@@ -169,12 +188,12 @@ impl EisRequestConverter {
             seat::Request::Bind { capabilities } => {
                 if let Some((seat, capabilities)) = self.masked(id, capabilities)? {
                     self.queue
-                        .push_back(EisRequest::Bind(event::Bind { seat, capabilities }))?;
+                        .push(EisRequest::Bind(event::Bind { seat, capabilities }))?;
                 }
             }
             seat::Request::RequestDevice { capabilities } => {
                 if let Some((seat, capabilities)) = self.masked(id, capabilities)? {
-                    self.queue.push_back(EisRequest::RequestDevice(event::RequestDevice {
+                    self.queue.push(EisRequest::RequestDevice(event::RequestDevice {
                         seat,
                         capabilities,
                     }))?;
@@ -204,6 +223,7 @@ impl EisRequestConverter {
     }
 
     /// A request to the device of that id.
+    #[inline(always)]
     fn handle_device<C: Clock>(
         &mut self,
         clock: &mut C,
@@ -213,6 +233,27 @@ impl EisRequestConverter {
         ensures handles { (version : ℕ) → HandlesTo self.old id version (device_meaning request) (C.readings clock.old) result (C.readings clock.new) self.new }
         ensures kept { OnErr result (clock.new ≡ clock.old) }
         ensures clock { LentClock C.later clock.old clock.new }
+    {
+        match request {
+            device::Request::Frame {
+                last_serial,
+                timestamp,
+            } => self.frame(id, last_serial, timestamp),
+            request => self.handle_closing(clock, id, request),
+        }
+    }
+
+    /// A request to the device of that id, which closes an open group, if it isn't a frame.
+    #[inline(never)]
+    fn handle_closing<C: Clock>(
+        &mut self,
+        clock: &mut C,
+        id: u64,
+        request: device::Request,
+    ) -> Result<(), Error>
+        ensures handles { (version : ℕ) → HandlesTo self.old id version (device_meaning request) (C.readings clock.old) result (C.readings clock.new) self.new }
+        ensures kept { OnErr result (clock.new ≡ clock.old) }
+        ensures later { C.later clock.old clock.new }
     {
         let Some(held) = self.handle.find_device(id) else {
             return Ok(());
@@ -254,20 +295,20 @@ impl EisRequestConverter {
         }
     }
 
-    /// Hands out what waits on the device of that id with a frame. The device is held.
+    /// Hands out what waits on the device of that id with a frame, if it is held.
     fn frame(&mut self, id: u64, serial: u32, time: u64) -> Result<(), Error>
-        requires held { IsSome (device_in self.old id) }
         ensures ok { OnOk result (self.new ≡ hands_out self.old id serial time (device_in self.old id)) }
         ensures err { OnErr result (self.new ≡ self.old) }
         ensures only { IfErr result (λ e. e ≡ error.NoMemory) }
     {
         let waiting = self.handle.waiting(id);
-        self.queue.reserve(waiting.saturating_add(2))?;
+        self.queue.reserve_group(waiting)?;
         self.handle.hand_out(&mut self.queue, id, serial, time);
         Ok(())
     }
 
     /// Hands out what waits on the device of that id with a made frame, and the request behind it. The device is held.
+    #[inline(never)]
     fn close<C: Clock>(&mut self, clock: &mut C, id: u64, request: EisRequest) -> Result<(), Error>
         requires held { IsSome (device_in self.old id) }
         ensures ok { OnOk result (ClosesWith self.old id request (C.readings clock.old) (C.readings clock.new) self.new) }
@@ -277,11 +318,11 @@ impl EisRequestConverter {
         ensures clock { LentClock C.later clock.old clock.new }
     {
         let waiting = self.handle.waiting(id);
-        self.queue.reserve(waiting.saturating_add(2))?;
+        self.queue.reserve_group(waiting)?;
         let time = if waiting > 0 { clock.now() } else { 0 };
         let serial = self.handle.last_serial();
         self.handle.hand_out(&mut self.queue, id, serial, time);
-        self.queue.push_back_reserved(request);
+        self.queue.push_reserved(request);
         Ok(())
     }
 }

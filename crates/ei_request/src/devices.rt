@@ -3,21 +3,19 @@
 ghost use Rattle.std.specs.Prelude.{◌≡◌, ◌≤◌, ◌<◌, ◌+◌, ◌++◌, ◌∷◌, [], OnOk, OnErr, IfErr, None, not, length, find};
 ghost use Rattle.std.specs.Option.{option_copied};
 ghost use Rattle.std.specs.List.{filter};
-ghost use Rattle.std.specs.VecDeque.{deque_len, deque_capacity};
 ghost use Rattle.ei_wire.specs.declared.error.SendError.TheVariants as send_error;
 ghost use Rattle.ei_request.specs.Held.{is_device, is_of_key, is_of_seat, has_interface, changed_first, without_first, emptied, untouched};
 ghost use Rattle.ei_request.specs.Held.{without_interface, takes_input, group_of, waiting_of, gone_ids};
 ghost use Rattle.ei_request.specs.Refusing.{input_refusal, Tells};
 
 use crate::device::Device;
-use crate::event::EisRequest;
 use crate::held::HeldDevice;
 use crate::holding;
 use crate::input::Input;
+use crate::queue::Queue;
 use ei_types::Error;
 use ei_wire::SendError;
 use std::alloc::{AllocError, Global};
-use std::collections::VecDeque;
 use std::marker::Model;
 
 /// The devices of a connection, in the order in which they were added.
@@ -155,6 +153,7 @@ impl Devices {
 // What is asked of a device.
 impl Devices {
     /// The device that has the interface of that id and version takes an input, if one has it.
+    #[inline(always)]
     pub(crate) fn hear(&mut self, id: u64, version: u32, input: Input) -> Result<(), Error>
         ensures accepted { OnOk result (input_refusal version input (find (has_interface id) self.old.items) ≡ None) }
         ensures ok { OnOk result (self.new.items ≡ changed_first (has_interface id) (takes_input input) self.old.items) }
@@ -172,17 +171,11 @@ impl Devices {
     }
 
     /// Hands out what waits on the device of that id, with a frame. There is room for it.
-    pub(crate) fn hand_out(
-        &mut self,
-        queue: &mut VecDeque<EisRequest>,
-        id: u64,
-        serial: u32,
-        time: u64,
-    )
-        requires room { deque_len queue.old + length (waiting_of (find (is_device id) self.old.items)) + 2 ≤ deque_capacity queue.old }
+    pub(crate) fn hand_out(&mut self, queue: &mut Queue, id: u64, serial: u32, time: u64)
+        requires room { length (waiting_of (find (is_device id) self.old.items)) + 2 ≤ queue.old.room }
         ensures queue { queue.new.items ≡ queue.old.items ++ group_of (find (is_device id) self.old.items) serial time }
         ensures ok { self.new.items ≡ changed_first (is_device id) emptied self.old.items }
-        ensures left { deque_len queue.new < deque_capacity queue.new }
+        ensures left { 0 < queue.new.room }
     {
         holding::hand_out(&mut self.held, self.rising, queue, id, serial, time);
     }

@@ -3,7 +3,7 @@
 ghost use Rattle.std.specs.Prelude.{◌≡◌, ◌<◌, ◌≤◌, ◌+◌, ◌∷◌, [], ◌++◌, OnOk, OnErr, IfErr, Some, None, length, false};
 ghost use Rattle.std.specs.Prelude.{IfSome, nat_eq, position, if◌then◌else◌};
 ghost use Rattle.std.specs.Option.{option_copied};
-ghost use Rattle.std.specs.VecDeque.{deque_len, deque_capacity};
+ghost use Rattle.std.specs.Vec.{vec_len};
 ghost use Rattle.std.specs.List.{list_any};
 ghost use Rattle.ei_spec.specs.Interface.{Known};
 ghost use Rattle.ei_wire.specs.declared.error.SendError.TheVariants as send_error;
@@ -18,6 +18,7 @@ ghost use Rattle.ei_types.specs.declared.error.Error.TheVariants as error;
 use crate::device::Device;
 use crate::event::{self, EisRequest};
 use crate::input::Input;
+use crate::queue::Queue;
 use ei_backend::{Interface, InterfaceName, Object};
 use ei_server::Seat as SeatProxy;
 use ei_spec::KnownInterface;
@@ -27,6 +28,7 @@ use ei_wire::{EiText, RawFloat, SendError};
 use std::alloc::Global;
 use std::collections::VecDeque;
 use std::marker::Model;
+use std::mem;
 
 /// A seat, with the capabilities that it was given, and whether the client released it.
 #[derive(Drop)]
@@ -101,7 +103,7 @@ pub(crate) struct HeldDevice {
     device: Device,
     name: Option<EiText>,
     interfaces: Vec<Object>,
-    waiting: VecDeque<Input>,
+    waiting: Vec<Input>,
     touches: Vec<u32>,
 }
 
@@ -129,7 +131,7 @@ impl HeldDevice {
             device,
             name,
             interfaces,
-            waiting: VecDeque::new(alloc),
+            waiting: Vec::new(alloc),
             touches: Vec::new(alloc),
         }
     }
@@ -213,6 +215,7 @@ impl HeldDevice {
     /// `TooManyTouches` where a touch goes down and sixteen are, `DuplicatedTouchDown` where it is down;
     /// `InvalidInterfaceVersion` where a touchscreen of a version below 2 cancels one; `InvalidTextLength` for a
     /// text of no bytes or of more than 254; `NoMemory`. Then nothing changes.
+    #[inline(always)]
     pub(crate) fn take(&mut self, version: u32, input: Input) -> Result<(), Error>
         ensures accepted { OnOk result (input_refusal version input (Some self.old) ≡ None) }
         ensures ok { OnOk result (self.new ≡ takes_input input self.old) }
@@ -260,11 +263,11 @@ impl HeldDevice {
 
     /// Hands out what waits, each input with this time, and a frame of this serial behind them; nothing
     /// where nothing waits. There is room for it.
-    pub(crate) fn hand_out(&mut self, queue: &mut VecDeque<EisRequest>, serial: u32, time: u64)
-        requires room { deque_len queue.old + length self.old.waiting + 2 ≤ deque_capacity queue.old }
+    pub(crate) fn hand_out(&mut self, queue: &mut Queue, serial: u32, time: u64)
+        requires room { length self.old.waiting + 2 ≤ queue.old.room }
         ensures queue { queue.new.items ≡ queue.old.items ++ group_requests self.old.device self.old.waiting serial time }
         ensures emptied { self.new ≡ emptied self.old }
-        ensures left { deque_len queue.new < deque_capacity queue.new }
+        ensures left { 0 < queue.new.room }
     {
         push_group(queue, &self.device, &mut self.waiting, serial, time);
     }
@@ -348,19 +351,22 @@ fn touch_place(touches: &[u32], touch: u32) -> Option<usize>
 }
 
 /// An input waits.
-fn push_input(waiting: &mut VecDeque<Input>, input: Input) -> Result<(), Error>
+#[inline(always)]
+fn push_input(waiting: &mut Vec<Input>, input: Input) -> Result<(), Error>
     ensures ok { OnOk result (waiting.new.items ≡ waiting.old.items ++ input ∷ []) }
     ensures err { OnErr result (waiting.new.items ≡ waiting.old.items) }
     ensures only { IfErr result (λ e. e ≡ error.NoMemory) }
 {
-    waiting.push_back(input)?;
+    waiting.reserve(1)?;
+    waiting.push_reserved(input);
     Ok(())
 }
 
 /// A touch goes down, and the input waits.
+#[inline(always)]
 fn press(
     touches: &mut Vec<u32>,
-    waiting: &mut VecDeque<Input>,
+    waiting: &mut Vec<Input>,
     touch_id: u32,
     x: RawFloat,
     y: RawFloat,
@@ -385,9 +391,10 @@ fn press(
 }
 
 /// A touch that is down ends, and the input waits. Nothing where it isn't down.
+#[inline(always)]
 fn lift(
     touches: &mut Vec<u32>,
-    waiting: &mut VecDeque<Input>,
+    waiting: &mut Vec<Input>,
     touch_id: u32,
     input: Input,
 ) -> Result<(), Error>
@@ -407,25 +414,23 @@ fn lift(
 }
 
 /// Hands out a group. There is room for it, and for one more request behind it.
-fn push_group(
-    queue: &mut VecDeque<EisRequest>,
-    device: &Device,
-    waiting: &mut VecDeque<Input>,
-    serial: u32,
-    time: u64,
-)
-    requires room { deque_len queue.old + deque_len waiting.old + 2 ≤ deque_capacity queue.old }
+fn push_group(queue: &mut Queue, device: &Device, waiting: &mut Vec<Input>, serial: u32, time: u64)
+    requires room { vec_len waiting.old + 2 ≤ queue.old.room }
     ensures queue { queue.new.items ≡ queue.old.items ++ group_requests device.now waiting.old.items serial time }
     ensures emptied { waiting.new.items ≡ [] }
-    ensures left { deque_len queue.new < deque_capacity queue.new }
+    ensures left { 0 < queue.new.room }
 {
     if waiting.is_empty() {
         return;
     }
-    while let Some(input) = waiting.pop_front() {
-        queue.push_back_reserved(input.timed(device.copy(), time));
+    // The memory of what waited is kept.
+    let alloc = *waiting.allocator();
+    let mut inputs = VecDeque::from_vec(mem::replace(waiting, Vec::new(alloc)));
+    while let Some(input) = inputs.pop_front() {
+        input.queue_timed(queue, device, time);
     }
-    queue.push_back_reserved(EisRequest::Frame(event::Frame {
+    *waiting = inputs.into_vec();
+    queue.push_reserved(EisRequest::Frame(event::Frame {
         device: device.copy(),
         last_serial: serial,
         time,

@@ -5,7 +5,6 @@
 ghost use Rattle.std.specs.Prelude.{◌≡◌, ◌≤◌, ◌<◌, ◌+◌, ◌++◌, ◌∷◌, [], OnOk, OnErr, IfErr, Some, None, not, true, length, position, find};
 ghost use Rattle.std.specs.Option.{option_copied};
 ghost use Rattle.std.specs.List.{filter, list_any};
-ghost use Rattle.std.specs.VecDeque.{deque_len, deque_capacity};
 ghost use Rattle.ei_types.specs.declared.error.Error.TheVariants as error;
 ghost use Rattle.ei_wire.specs.declared.error.SendError.TheVariants as send_error;
 ghost use Rattle.ei_request.specs.Held.{is_seat, is_device, is_of_key, is_of_seat, has_interface, changed_first, without_first, released, emptied, untouched};
@@ -15,12 +14,11 @@ ghost use Rattle.ei_request.specs.Rising.{Rise, IsOnlyPlace};
 ghost use Rattle.ei_request.specs.Refusing.{input_refusal, Tells};
 
 use crate::device::Device;
-use crate::event::EisRequest;
 use crate::held::{HeldDevice, HeldSeat};
 use crate::input::Input;
+use crate::queue::Queue;
 use ei_types::Error;
 use ei_wire::SendError;
-use std::collections::VecDeque;
 
 /// Where the seat of that id stands.
 fn seat_place(seats: &[HeldSeat], id: u64) -> Option<usize>
@@ -98,6 +96,7 @@ fn key_place(devices: &[HeldDevice], rising: bool, device: &Device) -> Option<us
 }
 
 /// Where the device stands that has the interface of that id.
+#[inline(never)]
 fn owner_place(devices: &[HeldDevice], rising: bool, id: u64) -> Option<usize>
     requires { rising ≡ true → Rise devices.now }
     ensures { result ≡ position (has_interface id) devices.now }
@@ -151,6 +150,7 @@ pub(crate) fn find_owner(devices: &[HeldDevice], rising: bool, id: u64) -> Optio
 }
 
 /// The device that has the interface of that id and version takes an input, if one has it.
+#[inline(always)]
 pub(crate) fn hear(
     devices: &mut Vec<HeldDevice>,
     rising: bool,
@@ -195,16 +195,16 @@ pub(crate) fn waiting(devices: &[HeldDevice], rising: bool, id: u64) -> usize
 pub(crate) fn hand_out(
     devices: &mut Vec<HeldDevice>,
     rising: bool,
-    queue: &mut VecDeque<EisRequest>,
+    queue: &mut Queue,
     id: u64,
     serial: u32,
     time: u64,
 )
     requires rises { rising ≡ true → Rise devices.old.items }
-    requires room { deque_len queue.old + length (waiting_of (find (is_device id) devices.old.items)) + 2 ≤ deque_capacity queue.old }
+    requires room { length (waiting_of (find (is_device id) devices.old.items)) + 2 ≤ queue.old.room }
     ensures queue { queue.new.items ≡ queue.old.items ++ group_of (find (is_device id) devices.old.items) serial time }
     ensures ok { devices.new.items ≡ changed_first (is_device id) emptied devices.old.items }
-    ensures left { deque_len queue.new < deque_capacity queue.new }
+    ensures left { 0 < queue.new.room }
 {
     if let Some(at) = device_place(devices, rising, id) {
         devices[at].hand_out(queue, serial, time);

@@ -1,6 +1,6 @@
 //! Inputs that wait for their time.
 
-ghost use Rattle.std.specs.Prelude.{◌≡◌, Some};
+ghost use Rattle.std.specs.Prelude.{◌≡◌, ◌<◌, ◌+◌, ◌++◌, ◌∷◌, [], Some};
 ghost use Rattle.ei_server.specs.declared.scroll.Request.TheVariants as scroll;
 ghost use Rattle.ei_request.specs.Timed.{timed};
 ghost use Rattle.ei_request.specs.Typed.{input_asked, pointer_meaning, pointer_absolute_meaning, scroll_meaning, button_meaning};
@@ -8,6 +8,7 @@ ghost use Rattle.ei_request.specs.Typed.{keyboard_meaning, touchscreen_meaning, 
 
 use crate::device::Device;
 use crate::event::{self, EisRequest};
+use crate::queue::Queue;
 use ei_server::{button, keyboard, pointer, pointer_absolute, scroll, text, touchscreen};
 use ei_types::{ButtonState, KeyState};
 use ei_wire::{EiText, RawFloat};
@@ -73,105 +74,135 @@ pub(crate) enum Input {
 }
 
 impl Input {
-    /// The request that it becomes.
-    pub(crate) fn timed(self, device: Device, time: u64) -> EisRequest
-        ensures { result ≡ timed device time self }
+    /// Queues the request that it becomes. There is room for it.
+    // Each request is made in the queue, and not moved there.
+    pub(crate) fn queue_timed(self, queue: &mut Queue, device: &Device, time: u64)
+        requires { 0 < queue.old.room }
+        ensures items { queue.new.items ≡ queue.old.items ++ timed device.now time self ∷ [] }
+        ensures room { queue.new.room + 1 ≡ queue.old.room }
     {
         match self {
-            Input::PointerMotion { dx, dy } => EisRequest::PointerMotion(event::PointerMotion {
-                device,
-                time,
-                dx,
-                dy,
-            }),
+            Input::PointerMotion { dx, dy } => queue.push_reserved(EisRequest::PointerMotion(
+                event::PointerMotion {
+                    device: device.copy(),
+                    time,
+                    dx,
+                    dy,
+                },
+            )),
             Input::PointerMotionAbsolute {
                 dx_absolute,
                 dy_absolute,
-            } => EisRequest::PointerMotionAbsolute(event::PointerMotionAbsolute {
-                device,
-                time,
-                dx_absolute,
-                dy_absolute,
-            }),
-            Input::Button { button, state } => EisRequest::Button(event::Button {
-                device,
-                time,
-                button,
-                state,
-            }),
-            Input::ScrollDelta { dx, dy } => EisRequest::ScrollDelta(event::ScrollDelta {
-                device,
-                time,
-                dx,
-                dy,
-            }),
-            Input::ScrollStop { x, y } => EisRequest::ScrollStop(event::ScrollStop {
-                device,
-                time,
-                x,
-                y,
-            }),
-            Input::ScrollCancel { x, y } => EisRequest::ScrollCancel(event::ScrollCancel {
-                device,
-                time,
-                x,
-                y,
-            }),
+            } => queue.push_reserved(EisRequest::PointerMotionAbsolute(
+                event::PointerMotionAbsolute {
+                    device: device.copy(),
+                    time,
+                    dx_absolute,
+                    dy_absolute,
+                },
+            )),
+            Input::Button { button, state } => queue.push_reserved(EisRequest::Button(
+                event::Button {
+                    device: device.copy(),
+                    time,
+                    button,
+                    state,
+                },
+            )),
+            Input::ScrollDelta { dx, dy } => queue.push_reserved(EisRequest::ScrollDelta(
+                event::ScrollDelta {
+                    device: device.copy(),
+                    time,
+                    dx,
+                    dy,
+                },
+            )),
+            Input::ScrollStop { x, y } => queue.push_reserved(EisRequest::ScrollStop(
+                event::ScrollStop {
+                    device: device.copy(),
+                    time,
+                    x,
+                    y,
+                },
+            )),
+            Input::ScrollCancel { x, y } => queue.push_reserved(EisRequest::ScrollCancel(
+                event::ScrollCancel {
+                    device: device.copy(),
+                    time,
+                    x,
+                    y,
+                },
+            )),
             Input::ScrollDiscrete {
                 discrete_dx,
                 discrete_dy,
-            } => EisRequest::ScrollDiscrete(event::ScrollDiscrete {
-                device,
+            } => queue.push_reserved(EisRequest::ScrollDiscrete(event::ScrollDiscrete {
+                device: device.copy(),
                 time,
                 discrete_dx,
                 discrete_dy,
-            }),
-            Input::KeyboardKey { key, state } => EisRequest::KeyboardKey(event::KeyboardKey {
-                device,
-                time,
-                key,
-                state,
-            }),
-            Input::TouchDown { touch_id, x, y } => EisRequest::TouchDown(event::TouchDown {
-                device,
-                time,
-                touch_id,
-                x,
-                y,
-            }),
-            Input::TouchMotion { touch_id, x, y } => EisRequest::TouchMotion(event::TouchMotion {
-                device,
-                time,
-                touch_id,
-                x,
-                y,
-            }),
-            Input::TouchUp { touch_id } => EisRequest::TouchUp(event::TouchUp {
-                device,
-                time,
-                touch_id,
-            }),
-            Input::TouchCancel { touch_id } => EisRequest::TouchCancel(event::TouchCancel {
-                device,
-                time,
-                touch_id,
-            }),
-            Input::TextKeysym { keysym, state } => EisRequest::TextKeysym(event::TextKeysym {
-                device,
-                time,
-                keysym,
-                state,
-            }),
-            Input::TextUtf8 { text } => EisRequest::TextUtf8(event::TextUtf8 {
-                device,
-                time,
-                text,
-            }),
+            })),
+            Input::KeyboardKey { key, state } => queue.push_reserved(EisRequest::KeyboardKey(
+                event::KeyboardKey {
+                    device: device.copy(),
+                    time,
+                    key,
+                    state,
+                },
+            )),
+            Input::TouchDown { touch_id, x, y } => queue.push_reserved(EisRequest::TouchDown(
+                event::TouchDown {
+                    device: device.copy(),
+                    time,
+                    touch_id,
+                    x,
+                    y,
+                },
+            )),
+            Input::TouchMotion { touch_id, x, y } => queue.push_reserved(EisRequest::TouchMotion(
+                event::TouchMotion {
+                    device: device.copy(),
+                    time,
+                    touch_id,
+                    x,
+                    y,
+                },
+            )),
+            Input::TouchUp { touch_id } => queue.push_reserved(EisRequest::TouchUp(
+                event::TouchUp {
+                    device: device.copy(),
+                    time,
+                    touch_id,
+                },
+            )),
+            Input::TouchCancel { touch_id } => queue.push_reserved(EisRequest::TouchCancel(
+                event::TouchCancel {
+                    device: device.copy(),
+                    time,
+                    touch_id,
+                },
+            )),
+            Input::TextKeysym { keysym, state } => queue.push_reserved(EisRequest::TextKeysym(
+                event::TextKeysym {
+                    device: device.copy(),
+                    time,
+                    keysym,
+                    state,
+                },
+            )),
+            Input::TextUtf8 { text } => queue.push_reserved(EisRequest::TextUtf8(
+                event::TextUtf8 {
+                    device: device.copy(),
+                    time,
+                    text,
+                },
+            )),
         }
     }
 }
 
 /// The input that a request to a pointer is; none where it is the release.
+#[inline(always)]
 pub(crate) fn of_pointer(request: pointer::Request) -> Option<Input>
     ensures { result ≡ input_asked (pointer_meaning request) }
 {
@@ -182,6 +213,7 @@ pub(crate) fn of_pointer(request: pointer::Request) -> Option<Input>
 }
 
 /// The input that a request to a pointer of points is; none where it is the release.
+#[inline(always)]
 pub(crate) fn of_pointer_absolute(request: pointer_absolute::Request) -> Option<Input>
     ensures { result ≡ input_asked (pointer_absolute_meaning request) }
 {
@@ -210,6 +242,7 @@ fn scroll_end(x: u32, y: u32, is_cancel: u32) -> Input
 }
 
 /// The input that a request to scroll is; none where it is the release.
+#[inline(always)]
 pub(crate) fn of_scroll(request: scroll::Request) -> Option<Input>
     ensures { result ≡ input_asked (scroll_meaning request) }
 {
@@ -225,6 +258,7 @@ pub(crate) fn of_scroll(request: scroll::Request) -> Option<Input>
 }
 
 /// The input that a request to a button is; none where it is the release.
+#[inline(always)]
 pub(crate) fn of_button(request: button::Request) -> Option<Input>
     ensures { result ≡ input_asked (button_meaning request) }
 {
@@ -235,6 +269,7 @@ pub(crate) fn of_button(request: button::Request) -> Option<Input>
 }
 
 /// The input that a request to a keyboard is; none where it is the release.
+#[inline(always)]
 pub(crate) fn of_keyboard(request: keyboard::Request) -> Option<Input>
     ensures { result ≡ input_asked (keyboard_meaning request) }
 {
@@ -245,6 +280,7 @@ pub(crate) fn of_keyboard(request: keyboard::Request) -> Option<Input>
 }
 
 /// The input that a request to a touchscreen is; none where it is the release.
+#[inline(always)]
 pub(crate) fn of_touchscreen(request: touchscreen::Request) -> Option<Input>
     ensures { result ≡ input_asked (touchscreen_meaning request) }
 {
@@ -266,6 +302,7 @@ pub(crate) fn of_touchscreen(request: touchscreen::Request) -> Option<Input>
 }
 
 /// The input that a request to put in text is; none where it is the release.
+#[inline(always)]
 pub(crate) fn of_text(request: text::Request) -> Option<Input>
     ensures { result ≡ input_asked (text_meaning request) }
 {

@@ -14,6 +14,7 @@ mod held;
 mod holding;
 mod input;
 mod making;
+mod queue;
 mod seat;
 mod seats;
 mod sending;

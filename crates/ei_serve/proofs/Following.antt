@@ -1,6 +1,6 @@
 -- What is done behind the requests that are handed out.
-use Rattle.std.proofs.Common.{◌≡◌, true, List, [], ◌∷◌, ◌++◌, Option, Some, None, Result, Ok, Err, is_some, refl, ap, ◌∙◌}
-use Rattle.std.specs.Prelude.{find, OnOk}
+use Rattle.std.proofs.Common.{◌≡◌, ◌<◌, ◌-◌, suc, true, List, [], ◌∷◌, ◌++◌, length, Option, Some, None, Result, Ok, Err, is_some, refl, sym, ap, ◌∙◌, arith}
+use Rattle.std.specs.Prelude.{find, slice_get, OnOk}
 use Rattle.ei_spec.specs.Interface.{ObjectView}
 use Rattle.ei_backend.specs.Endpoint.{endpoint_of}
 use Rattle.ei_wire.specs.declared.error.SendError.{SendError}
@@ -13,26 +13,41 @@ use Rattle.ei_request.specs.Held.{SeatView, is_seat}
 use Rattle.ei_request.specs.Connection.{ConnectionView}
 use Rattle.ei_request.specs.Sending.{tells}
 use Rattle.ei_request.specs.Making.{AddsDevice, granted_by, new_device}
-use Rattle.ei_serve.specs.declared.policy.Policy.{Policy}
+use Rattle.ei_serve.specs.declared.policy.Policy.TheVariants as policy
 use Rattle.ei_serve.specs.Policy.{policy_of, policy_behind, AddsResumed, AddsIfHeld}
 
 -- ---- the last request
-
--- what is done behind some requests, where that was done behind those before them
-abbrev pub policy_after : Policy → List EisRequest → Policy
-policy_after p [] = p
-policy_after p (r ∷ rs) = policy_behind (r ∷ rs)
-
--- of one more
-pub after_one : (p : Policy) (r : EisRequest) (rs : List EisRequest) → policy_after (policy_of r) rs ≡ policy_after p (r ∷ rs)
-after_one p r [] = refl
-after_one p r (s ∷ rs) = refl
 
 -- behind all
 pub behind_last : (xs : List EisRequest) (r : EisRequest) → policy_behind (xs ++ r ∷ []) ≡ policy_of r
 behind_last [] r = refl
 behind_last (x ∷ []) r = refl
 behind_last (x ∷ y ∷ xs) r = behind_last (y ∷ xs) r
+
+-- of the one in the last place
+pub behind_place : (rs : List EisRequest) (r : EisRequest) → slice_get rs (length rs - 1) ≡ Some r → policy_of r ≡ policy_behind rs
+behind_place [] r e = absurd cc
+behind_place (s ∷ []) r e =
+    let same : s ≡ r = cc in
+    ap policy_of (sym same)
+behind_place (s ∷ t ∷ rs) r e =
+    let shift : length (s ∷ t ∷ rs) - 1 ≡ suc (length (t ∷ rs) - 1) = omega arith in
+    behind_place (t ∷ rs) r (sym (ap (slice_get (s ∷ t ∷ rs)) shift) ∙ e)
+
+-- none is in it where there are none
+pub none_behind : (rs : List EisRequest) → slice_get rs (length rs - 1) ≡ None → policy.Nothing ≡ policy_behind rs
+none_behind [] e = refl
+none_behind (s ∷ []) e = absurd cc
+none_behind (s ∷ t ∷ rs) e =
+    let shift : length (s ∷ t ∷ rs) - 1 ≡ suc (length (t ∷ rs) - 1) = omega arith in
+    none_behind (t ∷ rs) (sym (ap (slice_get (s ∷ t ∷ rs)) shift) ∙ e)
+
+-- behind some and others behind them: that of the others
+pub behind_others : (rs qs : List EisRequest) → 0 < length qs → policy_behind (rs ++ qs) ≡ policy_behind qs
+behind_others [] qs h = refl
+behind_others (r ∷ []) [] h = absurd (omega (arith, h))
+behind_others (r ∷ []) (q ∷ qs) h = refl
+behind_others (r ∷ s ∷ rs) qs h = behind_others (s ∷ rs) qs h
 
 -- ---- a device that is added
 

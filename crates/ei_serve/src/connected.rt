@@ -15,7 +15,7 @@ ghost use Rattle.ei_serve.specs.Policy.{policy_behind};
 ghost use Rattle.ei_serve.specs.declared.phase.Phase.TheVariants as phases;
 
 use crate::phase::Step;
-use crate::policy::{Policy, policy_of};
+use crate::policy::{Policy, policy_behind};
 use crate::session::Setup;
 use ei_backend::{Clock, PendingRequestResult, Sink};
 use ei_handshake::EisHandshakeResp;
@@ -107,6 +107,7 @@ fn take_request<K: Sink, C: Clock>(
 }
 
 /// Hands out the requests that are queued, all or none, and answers what is done behind the last of them.
+#[inline(always)]
 fn hand_out(converter: &mut EisRequestConverter, out: &mut Vec<EisRequest>) -> Result<Policy, Error>
     ensures hands_out { OnOk result (out.new.items ≡ out.old.items ++ converter.old.queue) }
     ensures policy { IfOk result (λ p. p ≡ policy_behind converter.old.queue) }
@@ -114,11 +115,9 @@ fn hand_out(converter: &mut EisRequestConverter, out: &mut Vec<EisRequest>) -> R
     ensures kept { OnErr result (out.new.items ≡ out.old.items) }
     ensures only { IfErr result (λ e. e ≡ error.NoMemory) }
 {
-    out.reserve(converter.queued_len())?;
-    let mut policy = Policy::Nothing;
-    while let Some(request) = converter.next_request() {
-        policy = policy_of(&request);
-        out.push_reserved(request);
+    if converter.queued_len() == 0 {
+        return Ok(Policy::Nothing);
     }
-    Ok(policy)
+    converter.drain_into(out)?;
+    Ok(policy_behind(out))
 }

@@ -3,7 +3,7 @@
 ghost use Rattle.std.specs.Prelude.{◌≡◌, ◌↔◌, OnOk, IsErrOf, find};
 ghost use Rattle.ei_wire.specs.declared.error.SendError.TheVariants as send_error;
 ghost use Rattle.ei_request.specs.Held.{is_seat};
-ghost use Rattle.ei_serve.specs.Policy.{policy_of, device_if, Follows, LacksIds, AddsIfHeld, RunOutIfHeld};
+ghost use Rattle.ei_serve.specs.Policy.{policy_of, policy_behind, device_if, Follows, LacksIds, AddsIfHeld, RunOutIfHeld};
 
 use ei_request::{Connection, Device, EisRequest, Seat};
 use ei_types::{DeviceCapabilities, DeviceType};
@@ -23,7 +23,8 @@ pub(crate) enum Policy {
 }
 
 /// What is done behind the request. A `bind` or `request_device` makes a device where some capability is wanted.
-pub(crate) fn policy_of(request: &EisRequest) -> Policy
+#[inline(always)]
+fn policy_of(request: &EisRequest) -> Policy
     ensures { result ≡ policy_of request.now }
 {
     match request {
@@ -35,7 +36,19 @@ pub(crate) fn policy_of(request: &EisRequest) -> Policy
     }
 }
 
+/// What is done behind these requests: that of the last.
+#[inline(always)]
+pub(crate) fn policy_behind(requests: &[EisRequest]) -> Policy
+    ensures { result ≡ policy_behind requests.now }
+{
+    match requests.last() {
+        Some(last) => policy_of(last),
+        None => Policy::Nothing,
+    }
+}
+
 /// A device for the seat, where some capability is wanted.
+#[inline(never)]
 fn device_if(seat: &Seat, wanted: DeviceCapabilities) -> Policy
     ensures { result ≡ device_if seat.now wanted }
 {
@@ -51,6 +64,7 @@ impl Policy {
     /// Does it.
     ///
     /// `IdsExhausted` exactly where a device is to be announced and the own ids run out with it; `NoMemory`.
+    #[inline(always)]
     pub(crate) fn follow(&self, handle: &mut Connection) -> Result<(), SendError>
         ensures ok { OnOk result (Follows self.now handle.old handle.new) }
         ensures exhausted { IsErrOf result send_error.IdsExhausted ↔ LacksIds self.now handle.old }
@@ -66,6 +80,7 @@ impl Policy {
 }
 
 /// Announces a device of the seat, if that is held, and that it takes input.
+#[inline(never)]
 fn add_device(
     handle: &mut Connection,
     seat: &Seat,

@@ -1,5 +1,4 @@
 use Rattle.std.proofs.Common.{◌+◌, ◌≤◌, ◌++◌, length, Option, sym, ap, ◌∙◌, subst, arith}
-use Rattle.std.specs.VecDeque.{deque_len, deque_capacity}
 use Rattle.std.proofs.lemmas.List.{append-nil}
 use Rattle.ei_request.specs.Held.{DeviceView, is_device, emptied, group_of, waiting_of}
 use Rattle.ei_request.proofs.FirstOnes.{changed_here, found_here, none_here, changed_none}
@@ -8,7 +7,7 @@ use Rattle.ei_request.proofs.holding.hand_out.Goals as goal
 pub hand_out-requires : goal.hand_out-requires
 hand_out-requires c =
     let found = found_here (is_device c.args.id) c.args.devices.now.items c.deref.result.now c.device_place.result c.in-Some.at c.index_mut.result.now c.deref.ensures.value c.device_place.ensures c.in-Some.is c.index_mut.ensures.value in
-    record { room = subst (λ (o : Option DeviceView). deque_len c.args.queue.now + length (waiting_of o) + 2 ≤ deque_capacity c.args.queue.now) found c.requires.room }
+    record { room = subst (λ (o : Option DeviceView). length (waiting_of o) + 2 ≤ c.args.queue.now.room) found c.requires.room }
 
 pub returns-in-Some-clause-queue : goal.returns-in-Some-clause-queue
 returns-in-Some-clause-queue c =

@@ -18,9 +18,9 @@ returns-clause-ok g c =
       | then-waiting-gt0 w ↦ rw (w.clock-is, w.time-is) (asked_of_clock (device_in view c.args.id) _ _ _ (omega arith) (λ told e. w.now-time.ensures.reading told e))
       | else-waiting-gt0 w ↦ rw (w.clock-is, w.time-is) (not_asked_of_clock (device_in view c.args.id) _ _ _ (omega arith) refl)
     ] in
-    let queue : c.push_back_reserved.new.self.items ≡ (view.queue ++ group_of (device_in view c.args.id) view.handle.last_serial c.if-waiting-gt0.time) ++ c.args.request ∷ [] =
-    c.push_back_reserved.ensures.items ∙ ap (λ (q : List EisRequest). q ++ c.args.request ∷ [])
-    (c.hand_out.ensures.queue ∙ ap (λ (q : List EisRequest). q ++ group_of (device_in view c.args.id) c.last_serial-serial.result c.if-waiting-gt0.time) c.reserve.ensures.items
+    let queue : c.push_reserved.new.self.items ≡ (view.queue ++ group_of (device_in view c.args.id) view.handle.last_serial c.if-waiting-gt0.time) ++ c.args.request ∷ [] =
+    c.push_reserved.ensures.items ∙ ap (λ (q : List EisRequest). q ++ c.args.request ∷ [])
+    (c.hand_out.ensures.queue ∙ ap (λ (q : List EisRequest). q ++ group_of (device_in view c.args.id) c.last_serial-serial.result c.if-waiting-gt0.time) c.reserve_group.ensures.items
     ∙ ap (λ (n : ℕ). view.queue ++ group_of (device_in view c.args.id) n c.if-waiting-gt0.time) c.last_serial-serial.ensures) in
-    subst (λ (old : ConverterView). ClosesWith old c.args.id c.args.request (readings c.args.clock.now) (readings c.if-waiting-gt0.clock) (record { handle = c.hand_out.new.self; queue = c.push_back_reserved.new.self.items })) c.self.view_is
-    (closed_with view c.args.id c.if-waiting-gt0.time c.args.request (readings c.args.clock.now) (readings c.if-waiting-gt0.clock) c.hand_out.new.self c.push_back_reserved.new.self.items held times c.hand_out.ensures.ok queue)
+    subst (λ (old : ConverterView). ClosesWith old c.args.id c.args.request (readings c.args.clock.now) (readings c.if-waiting-gt0.clock) (record { handle = c.hand_out.new.self; queue = c.push_reserved.new.self.items })) c.self.view_is
+    (closed_with view c.args.id c.if-waiting-gt0.time c.args.request (readings c.args.clock.now) (readings c.if-waiting-gt0.clock) c.hand_out.new.self c.push_reserved.new.self.items held times c.hand_out.ensures.ok queue)

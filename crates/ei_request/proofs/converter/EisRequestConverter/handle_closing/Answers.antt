@@ -6,7 +6,7 @@ use Rattle.ei_request.specs.Held.{is_device}
 use Rattle.ei_request.specs.Converter.{ConverterView}
 use Rattle.ei_request.specs.Handling.{device_in, start_of, stop_of}
 use Rattle.ei_request.proofs.Closing.{closes_as}
-use Rattle.ei_request.proofs.converter.EisRequestConverter.handle_device.Goals as goal
+use Rattle.ei_request.proofs.converter.EisRequestConverter.handle_closing.Goals as goal
 
 pub returns-in-StartEmulating-clause-handles : goal.returns-in-StartEmulating-clause-handles
 returns-in-StartEmulating-clause-handles g c =
