@@ -1,4 +1,5 @@
 pub mod Held
 pub mod HexSource
 pub mod LaterReadings
+pub mod Lent
 pub mod Text

@@ -1,5 +1,5 @@
 -- The pieces that a text spells, a line each.
-use Rattle.std.specs.Prelude.{◌≡◌, ◌⊎◌, ℕ, ◌+◌, ◌-◌, ◌^◌, min, ◌==◌, ◌||◌, nat_lt, Bool, false, if◌then◌else◌}
+use Rattle.std.specs.Prelude.{◌≡◌, ℕ, ◌+◌, ◌-◌, ◌^◌, min, ◌==◌, ◌||◌, nat_lt, Bool, false, if◌then◌else◌}
 use Rattle.std.specs.Prelude.{List, [], ◌∷◌, ◌++◌, length, take, map, Option, Some, None, Result, Ok, Err}
 use Rattle.std.specs.Option.{option_map}
 use Rattle.hex.specs.Hex.{decode_of}
@@ -88,11 +88,11 @@ Spell lines pieces = map piece_of_line lines ≡ map (λ p. Some p) pieces
 abbrev pub whole_lines : List ℕ → List (List ℕ)
 whole_lines text = take (length (split text) - 1) (split text)
 
--- Of a text these are the pieces of the whole lines that were given, each of which spells one.
--- A last line without a newline is whole where all of the text was given, and that it ends there.
+-- Of a text these are the pieces of the lines given whole, each of which spells one. A line is whole once its newline was given:
+-- bytes behind the last newline are none, also where they are the last of the text, since the input hasn't said that it ends there.
 pub record AreGiven (text : List ℕ) (left : Option (List ℕ)) (pieces : List Piece) : Type 0 where
   pub rest : List ℕ
   pub left_is : left ≡ Some rest
   pub given : List ℕ
   pub text_is : text ≡ given ++ rest
-  pub spelled : Spell (whole_lines given) pieces ⊎ ((rest ≡ []) × Spell (split text) pieces)
+  pub spelled : Spell (whole_lines given) pieces

@@ -15,11 +15,13 @@ use std::alloc::Global;
 ///
 /// A line has 2 to 131072 hexadecimal digits of either case, an even number, and ends at a newline or
 /// at the end of the text. An empty line ends the pieces. Any other line is bad: it counts as a fault
-/// at each call from then on.
+/// at each call from then on. The input isn't asked again once it has answered its end.
 #[derive(Drop)]
 pub struct HexSource<'a, I: Input> {
     input: &'a mut I,
     held: Held,
+    /// Whether the input answered its end.
+    ended: bool,
     /// How many lines were handed out.
     line: u64,
     bad: Option<u64>,
@@ -48,7 +50,9 @@ impl<'a, I: Input> HexSource<'a, I> {
     ghost use Rattle.ei_backend.specs.Outside.{HasCause};
     ghost use Rattle.ei_backend.specs.Memory.{counted};
     ghost use Rattle.ei_backend.specs.declared.outside.LastAnswer.TheVariants as answers;
-    ghost use Rattle.reis_lines.specs.HexSource.{reference_of, text_reading, answer_of, fresh, faults_of, LaterReading, NextPiece, IsAtEnd};
+    ghost use Rattle.reis_lines.specs.Held.{FindsNewline, Moves, line_skip};
+    ghost use Rattle.reis_lines.specs.HexSource.{reference_of, text_reading, answer_of, fresh, unread, faults_of, LaterReading, NextPiece};
+    ghost use Rattle.reis_lines.specs.HexSource.{HoldsEnd, HoldsNoLine};
 
     /// `NoMemory` where there is none for the longest line.
     pub fn new(alloc: Global, input: &'a mut I) -> Result<HexSource<'a, I>, NoMemory>
@@ -70,6 +74,7 @@ impl<'a, I: Input> HexSource<'a, I> {
         HexSource {
             input,
             held,
+            ended: false,
             line: 0,
             bad: None,
             bad_faults: 0,
@@ -92,18 +97,49 @@ impl<'a, I: Input> HexSource<'a, I> {
         self.bad
     }
 
+    /// Where the first line ends, if a newline ends it. The input isn't asked behind its end.
+    fn find_line(&mut self) -> Result<Option<usize>, Fault>
+        ensures text { (text : List ℕ) → unread I.text (text_reading self.old) ≡ Some text →
+            Moves (text_reading self.old).held text (text_reading self.new).held (unread I.text (text_reading self.new)) }
+        ensures told { (text : List ℕ) → unread I.text (text_reading self.old) ≡ Some text → I.text (text_reading self.old).input ≡ Some text →
+            I.text (text_reading self.new).input ≡ unread I.text (text_reading self.new) }
+        ensures place { IfOk result (λ found. FindsNewline found (text_reading self.new).held) }
+        ensures within { IfOk result (λ found. line_skip found (text_reading self.new).held ≤ length (text_reading self.new).held) }
+        ensures ends { result ≡ Ok None → length (text_reading self.new).held ≤ LONGEST_LINE → (text_reading self.new).ended ≡ true }
+        ensures err { OnErr result (HoldsNoLine (text_reading self.new).held (text_reading self.new).ended) }
+        ensures unasked { has_newline (text_reading self.old).held ≡ true → (text_reading self.new).input ≡ (text_reading self.old).input }
+        ensures behind_end { (text_reading self.old).ended ≡ true →
+            ((text_reading self.new).input ≡ (text_reading self.old).input) × ((text_reading self.new).ended ≡ true) }
+        ensures cause { HasCause (I.faults (text_reading self.old).input) (I.faults (text_reading self.new).input) result }
+        ensures later { I.later (text_reading self.old).input (text_reading self.new).input }
+        ensures same_line { self.new.line ≡ self.old.line }
+        ensures same_bad { self.new.bad ≡ self.old.bad }
+        ensures same_faults { self.new.bad_faults ≡ self.old.bad_faults }
+        ensures same_last { self.new.last ≡ self.old.last }
+        ensures same_reference { reference_of self.new ≡ reference_of self.old }
+    {
+        if self.ended {
+            return Ok(self.held.newline());
+        }
+        let found = self.held.find_line(self.input)?;
+        self.ended = found.is_none() && self.held.len() <= LONGEST_LINE;
+        Ok(found)
+    }
+
     /// The next line's bytes. No byte is the end.
     fn next_piece(&mut self, bytes: &mut [u8]) -> Result<usize, Fault>
         requires { MOST_PIECE_BYTES ≤ length bytes.old }
         ensures size { IfOk result (λ n. n ≤ MOST_PIECE_BYTES) }
-        ensures pieces { (text : List ℕ) → I.text (text_reading self.old).input ≡ Some text →
-            NextPiece (text_reading self.old).held text result (text_reading self.new).held (I.text (text_reading self.new).input) bytes.new }
-        ensures end { result ≡ Ok 0 → IsAtEnd (text_reading self.new).held }
-        ensures fault { IsErr result → (has_newline (text_reading self.new).held ≡ false) ⊎ IsSome (text_reading self.new).bad }
+        ensures pieces { (text : List ℕ) → unread I.text (text_reading self.old) ≡ Some text →
+            NextPiece (text_reading self.old).held text result (text_reading self.new).held (unread I.text (text_reading self.new)) bytes.new }
+        ensures end { result ≡ Ok 0 → HoldsEnd (text_reading self.new).held (text_reading self.new).ended }
+        ensures fault { IsErr result → HoldsNoLine (text_reading self.new).held (text_reading self.new).ended ⊎ IsSome (text_reading self.new).bad }
         ensures unasked { has_newline (text_reading self.old).held ≡ true → (text_reading self.new).input ≡ (text_reading self.old).input }
+        ensures behind_end { (text_reading self.old).ended ≡ true → (text_reading self.new).input ≡ (text_reading self.old).input }
         ensures refused { IsSome (text_reading self.old).bad → IsErr result × ((text_reading self.new).input ≡ (text_reading self.old).input) }
         ensures cause { HasCause (faults_of I.faults (text_reading self.old)) (faults_of I.faults (text_reading self.new)) result }
-        ensures input_cause { (text_reading self.new).bad ≡ None → HasCause (I.faults (text_reading self.old).input) (I.faults (text_reading self.new).input) result }
+        ensures input_cause { (text_reading self.new).bad ≡ None →
+            HasCause (I.faults (text_reading self.old).input) (I.faults (text_reading self.new).input) result }
         ensures counted { (n : ℕ) → (text_reading self.new).bad ≡ Some n →
             faults_of I.faults (text_reading self.new) ≡ I.faults (text_reading self.old).input + counted (text_reading self.old).bad_faults }
         ensures same_reference { reference_of self.new ≡ reference_of self.old }
@@ -113,7 +149,7 @@ impl<'a, I: Input> HexSource<'a, I> {
             self.bad_faults = self.bad_faults.saturating_add(1);
             return Err(Fault);
         }
-        let found = self.held.find_line(self.input)?;
+        let found = self.find_line()?;
         let line = self.held.bytes();
         let (count, skip) = line_extent(found, line);
         if count == 0 {
@@ -162,14 +198,16 @@ impl<'a, I: Input> Source for HexSource<'a, I> {
         ensures cause { HasCause (faults_of I.faults (text_reading self.old)) (faults_of I.faults (text_reading self.new)) result }
         ensures last { answer_of self.new ≡ last_of result }
         ensures later { LaterSource I.text I.faults I.later self.old self.new }
-        // the input isn't asked while a whole line is held, nor behind a bad line
+        // the input isn't asked while a whole line is held, nor behind its end, nor behind a bad line
         ensures unasked { has_newline (text_reading self.old).held ≡ true → (text_reading self.new).input ≡ (text_reading self.old).input }
+        ensures behind_end { (text_reading self.old).ended ≡ true → (text_reading self.new).input ≡ (text_reading self.old).input }
         ensures refused { (n : ℕ) → (text_reading self.old).bad ≡ Some n →
             IsErr result × ((text_reading self.new).input ≡ (text_reading self.old).input) }
         // a bad line counts one fault at each call, and where none was met a fault is the input's
         ensures counted { (n : ℕ) → (text_reading self.new).bad ≡ Some n →
             faults_of I.faults (text_reading self.new) ≡ I.faults (text_reading self.old).input + counted (text_reading self.old).bad_faults }
-        ensures input_cause { (text_reading self.new).bad ≡ None → HasCause (I.faults (text_reading self.old).input) (I.faults (text_reading self.new).input) result }
+        ensures input_cause { (text_reading self.new).bad ≡ None →
+            HasCause (I.faults (text_reading self.old).input) (I.faults (text_reading self.new).input) result }
     {
         match self.next_piece(bytes) {
             Ok(0) => {

@@ -1,5 +1,5 @@
 -- The report of a session, and its status.
-use Rattle.std.proofs.Common.{◌≡◌, ◌⊎◌, inl, inr, ℕ, List, [], ◌++◌, ◌-◌, take, Option, Some, None, Result, Ok, Err, refl, ap, ◌∙◌, subst}
+use Rattle.std.proofs.Common.{◌≡◌, ◌⊎◌, inl, inr, ℕ, List, [], ◌++◌, ◌-◌, take, Option, Some, None, Result, Ok, Err, refl, sym, ap, ◌∙◌, subst, arith}
 use Rattle.std.specs.Prelude.{map}
 use Rattle.ei_spec.specs.Message.{Raw}
 use Rattle.ei_spec.specs.Piece.{Piece, stream}
@@ -21,8 +21,8 @@ use Rattle.ei_types.specs.declared.error.Error.{Error}
 use Rattle.ei_types.specs.declared.error.Error.TheVariants as error
 use Rattle.reis_lines.specs.Text.{pieces_of, bad_line_of, number_from}
 use Rattle.reis_run.specs.Tell.{status_of, Tells}
-use Rattle.reis_run.specs.Session.{TextEnd, Answered, BadLine, end_behind, end_of, EndsAs, IsDecidedLine, IsReadFault, HandledGiven, pieces_left}
-use Rattle.reis_run.specs.Session.{AreRequests, reply_bytes, IsOf, IsOfGiven, IsOfFirst, status_of_answer, status_of_end, IsStatus}
+use Rattle.reis_run.specs.Session.{TextEnd, Answered, BadLine, end_behind, end_of, EndsAs, IsDecidedLine, IsReadFault, IsBadLine, HandledGiven, pieces_left}
+use Rattle.reis_run.specs.Session.{AreRequests, reply_bytes, IsOf, IsOfGiven, IsOfFirst, status_of_answer, status_of_end, IsStatus, HasReadCause}
 use Rattle.reis_run.specs.declared.session.LastLine.{LastLine}
 use Rattle.reis_run.specs.declared.session.LastLine.TheVariants as last_line
 
@@ -146,6 +146,35 @@ is_status e l F result ends fault (inl s) = elim (line_kinds l) [
   | inl d ↦ inl (s ∙ line_status e l d (ends d))
   | inr (inl f) ↦ inr (inl (s ∙ ap status_of f, fault f))
   | inr (inr five) ↦ inr (inr (inr (s ∙ five)))
+]
+
+-- status 3 is that of a read fault or a bad line
+three_kinds : (l : LastLine) → status_of l ≡ 3 → IsReadFault l ⊎ ((n : ℕ) × IsBadLine n l)
+three_kinds (last_line.BadLine n) s = inr (n, refl)
+three_kinds (last_line.Answer (Ok e)) s = absurd (omega (arith, s))
+three_kinds (last_line.Answer (Err error.ReadFault)) s = inl refl
+three_kinds (last_line.Answer (Err error.WriteFault)) s = absurd (omega (arith, s))
+three_kinds (last_line.Answer (Err error.NoMemory)) s = absurd (omega (arith, s))
+three_kinds (last_line.Answer (Err error.UnexpectedEof)) s = absurd (omega (arith, s))
+three_kinds (last_line.Answer (Err error.PieceLimit)) s = absurd (omega (arith, s))
+three_kinds (last_line.Answer (Err error.HandleLimit)) s = absurd (omega (arith, s))
+three_kinds (last_line.Answer (Err error.IdsExhausted)) s = absurd (omega (arith, s))
+three_kinds (last_line.Answer (Err error.UnexpectedHandshakeEvent)) s = absurd (omega (arith, s))
+three_kinds (last_line.Answer (Err error.MessageTooLong)) s = absurd (omega (arith, s))
+three_kinds (last_line.Answer (Err (error.Event e))) s = absurd (omega (arith, s))
+three_kinds (last_line.Answer (Err (error.Request e))) s = absurd (omega (arith, s))
+three_kinds (last_line.Answer (Err (error.Parse e))) s = absurd (omega (arith, s))
+three_kinds (last_line.Answer (Err (error.Handshake e))) s = absurd (omega (arith, s))
+three_kinds (last_line.Answer (Err (error.InvalidInterfaceVersion name n))) s = absurd (omega (arith, s))
+
+-- and it has their cause
+pub has_cause : (l : LastLine) (F : Type 0) (M : ℕ → Type 0) (result : ℕ) → (IsReadFault l → F) → ((n : ℕ) → IsBadLine n l → M n) →
+    (result ≡ status_of l) ⊎ ((result ≡ 4) ⊎ (result ≡ 5)) → HasReadCause result F M
+has_cause l F M result fault met (inr (inl four)) = λ three. absurd (omega (arith, three, four))
+has_cause l F M result fault met (inr (inr five)) = λ three. absurd (omega (arith, three, five))
+has_cause l F M result fault met (inl s) = λ three. elim (three_kinds l (sym s ∙ three)) [
+  | inl f ↦ inl (fault f)
+  | inr bad ↦ inr (bad.0, met bad.0 bad.1)
 ]
 
 good_status : (a : Answer) (bad : Option ℕ) → bad ≡ None → IsGood a → status_of_end (end_behind a bad) ≡ 0

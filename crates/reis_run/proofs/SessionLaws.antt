@@ -25,11 +25,13 @@ use Rattle.ei_serve.specs.Serving.{AnswersAs, IsDecided, IsCutShort, IsSourceEnd
 use Rattle.ei_types.specs.declared.error.Error.{Error}
 use Rattle.ei_types.specs.declared.error.Error.TheVariants as error
 use Rattle.ei_backend.specs.declared.outside.LastAnswer.TheVariants as answers
-use Rattle.reis_lines.specs.HexSource.{Reading, text_reading, answer_of, fresh, left_of, faults_of, LaterReading, LaterSource, IsAtEnd, AnswersTruly, EndsTruly}
+use Rattle.reis_lines.specs.HexSource.{Reading, text_reading, answer_of, fresh, unread, left_of, faults_of, LaterReading, MetBadLine, LaterSource, IsAtEnd}
+use Rattle.reis_lines.specs.HexSource.{HoldsNoLine, AnswersTruly, EndsTruly}
 use Rattle.reis_lines.specs.declared.hex_source.HexSource.{HexSource}
-use Rattle.reis_lines.specs.Text.{has_newline, pieces_of, bad_line_of, number_from, AreGiven}
+use Rattle.reis_lines.specs.Text.{pieces_of, bad_line_of, number_from, AreGiven}
+use Rattle.reis_lines.specs.Lent.{LentInput}
 use Rattle.reis_lines.proofs.GivenLaws.{are_given}
-use Rattle.reis_run.specs.Session.{end_behind, end_of, EndsAs, last_line_of, IsDecidedLine, IsAnswered, IsReadFault, IsCutShortLine}
+use Rattle.reis_run.specs.Session.{end_behind, end_of, EndsAs, last_line_of, IsDecidedLine, IsAnswered, IsReadFault, IsCutShortLine, IsBadLine}
 use Rattle.reis_run.specs.Session.{HandledGiven, pieces_left, reply_bytes}
 use Rattle.reis_run.specs.declared.session.LastLine.TheVariants as last_line
 
@@ -60,7 +62,7 @@ went {I} text faults later input after x y answer new unasked l same risen rose 
   reading = subst (λ (v : Reading I). LaterReading text faults later v (text_reading y)) new l.reading;
   same = same;
   truly = l.truly (record { ends = λ e. absurd cc; fails = λ e. absurd cc });
-  ends = λ t told. l.ends t (ap (λ (v : Reading I). text v.input) new ∙ told) (λ e. absurd cc);
+  ends = λ t told. l.ends t (ap (unread text) new ∙ told) (λ e. absurd cc);
   risen = subst (λ (v : Reading I). faults_of faults v < faults_of faults (text_reading y) → IsErrOf answer error.ReadFault) new risen;
   rose = subst (λ (v : Reading I). IsErrOf answer error.ReadFault → Rose (faults_of faults v) (faults_of faults (text_reading y))) new rose;
   last_end = last_end;
@@ -79,10 +81,16 @@ unmet_rose {I} text faults later input after y answer w none e =
     let same : 0 ≡ (text_reading y).bad_faults = (w.reading.unmet none).1 in
     subst (λ (a : I). Rose (faults input) (faults a)) (sym w.same) (omega (arith, w.rose e, same))
 
--- the input's count of faults has not fallen
-pub went_count : {I : Type 0} (text : I → Option (List ℕ)) (faults : I → ℕ) (later : I → I → Type 0) (input after : I) (y : HexSource I) (answer : Result HowEnded Error) →
-    Went text faults later input after y answer → faults input ≤ faults after
-went_count {I} text faults later input after y answer w = subst (λ (a : I). faults input ≤ faults a) (sym w.same) w.reading.count
+-- the input is a later one, and its count of faults has not fallen
+pub went_input : {I : Type 0} (text : I → Option (List ℕ)) (faults : I → ℕ) (later : I → I → Type 0) (input after : I) (y : HexSource I) (answer : Result HowEnded Error) →
+    Went text faults later input after y answer → LentInput faults later input after
+went_input {I} text faults later input after y answer w =
+    subst (LentInput faults later input) (sym w.same) (record { input_faults = w.reading.count; later_input = w.reading.input })
+
+-- what the input tells is what is unread behind the bytes held
+told_after : {I : Type 0} (text : I → Option (List ℕ)) (faults : I → ℕ) (later : I → I → Type 0) (input after : I) (y : HexSource I) (answer : Result HowEnded Error) (t : List ℕ) →
+    Went text faults later input after y answer → text input ≡ Some t → unread text (text_reading y) ≡ text after
+told_after text faults later input after y answer t w told = sym (w.reading.told t told told) ∙ ap text (sym w.same)
 
 none_at_end : (text : List ℕ) → IsAtEnd text → bad_line_of text ≡ None
 unfolding bad_line_of
@@ -263,8 +271,11 @@ line_clock text faults later input after y setup t readings readings_left answer
 pub line_cut : {I : Type 0} (text : I → Option (List ℕ)) (faults : I → ℕ) (later : I → I → Type 0) (input after : I) (y : HexSource I) (setup : Setup) (t : List ℕ) (readings readings_left : Option (List ℕ)) (answer : Result HowEnded Error) (old new : List EisRequest) (took_old took_new : Option Piece) (bad : Option ℕ) →
     Served text faults later input after y setup t readings readings_left answer old new took_old took_new → IsCutShortLine (last_line_of bad answer) →
     (unread : List ℕ) × CutShort setup (pieces_of t) (pieces_left unread (text after)) readings old new took_old took_new
-line_cut {I} text faults later input after y setup t readings readings_left answer old new took_old took_new None s d =
-    (y.held, subst (λ (i : I). CutShort setup (pieces_of t) (pieces_left y.held (text i)) readings old new took_old took_new) (sym s.went.same) (s.says.cut d))
+line_cut {I} text faults later input after y setup t readings readings_left answer old new took_old took_new None s d = (
+  y.held,
+  subst (λ (o : Option (List ℕ)). CutShort setup (pieces_of t) (pieces_left y.held o) readings old new took_old took_new)
+      (told_after text faults later input after y answer t s.went s.told) (s.says.cut d),
+)
 line_cut text faults later input after y setup t readings readings_left answer old new took_old took_new (Some n) s d = absurd d
 
 answer_same : (answer : Result HowEnded Error) → last_line.Answer answer ≡ last_line.Answer (Err error.ReadFault) → answer ≡ Err error.ReadFault
@@ -277,6 +288,23 @@ pub line_fault : {I : Type 0} (text : I → Option (List ℕ)) (faults : I → �
     Went text faults later input after y answer → bad ≡ (text_reading y).bad → IsReadFault (last_line_of bad answer) → Rose (faults input) (faults after)
 line_fault text faults later input after y answer None w is e = unmet_rose text faults later input after y answer w (sym is) (answer_same answer e)
 line_fault text faults later input after y answer (Some n) w is e = absurd (bad_not_answer n (Err error.ReadFault) e)
+
+bad_same : (n m : ℕ) → last_line.BadLine n ≡ last_line.BadLine m → n ≡ m
+bad_same n m e = cc
+
+answer_not_bad : (answer : Result HowEnded Error) (n : ℕ) → last_line.Answer answer ≡ last_line.BadLine n → ⊥
+answer_not_bad answer n e = cc
+
+-- a bad line was met, whatever the input tells
+pub line_met : {I : Type 0} (text : I → Option (List ℕ)) (faults : I → ℕ) (later : I → I → Type 0) (input after : I) (y : HexSource I) (answer : Result HowEnded Error) (bad : Option ℕ) (n : ℕ) →
+    Went text faults later input after y answer → bad ≡ (text_reading y).bad → IsBadLine n (last_line_of bad answer) → MetBadLine text faults later input after n
+line_met text faults later input after y answer None n w is e = absurd (answer_not_bad answer n e)
+line_met text faults later input after y answer (Some m) n w is e = record {
+  reading = text_reading y;
+  went = w.reading;
+  input = sym w.same;
+  bad = sym is ∙ ap (λ k. Some k) (bad_same m n e);
+}
 
 -- ---- what was given
 
@@ -293,17 +321,17 @@ first_taken all first behind k within whole left =
 pieces_same : (a b : List Piece) → Some a ≡ Some b → a ≡ b
 pieces_same a b e = cc
 
-quiet_held : (held : List ℕ) (bad : Option ℕ) → (has_newline held ≡ false) ⊎ IsSome bad → bad ≡ None → has_newline held ≡ false
-quiet_held held bad (inl q) none = q
-quiet_held held None (inr some) none = absurd cc
-quiet_held held (Some n) (inr some) none = absurd cc
+no_line_held : (held : List ℕ) (ended : Bool) (bad : Option ℕ) → HoldsNoLine held ended ⊎ IsSome bad → bad ≡ None → HoldsNoLine held ended
+no_line_held held ended bad (inl q) none = q
+no_line_held held ended None (inr some) none = absurd cc
+no_line_held held ended (Some n) (inr some) none = absurd cc
 
 given_of : {I : Type 0} (text : I → Option (List ℕ)) (faults : I → ℕ) (later : I → I → Type 0) (input after : I) (y : HexSource I) (setup : Setup) (t : List ℕ) (readings readings_left : Option (List ℕ)) (answer : Result HowEnded Error) (old new : List EisRequest) (took_old took_new : Option Piece) →
     Served text faults later input after y setup t readings readings_left answer old new took_old took_new → (text_reading y).bad ≡ None → IsErrOf answer error.ReadFault →
     HandledGiven setup t (text after) readings old new took_old took_new
 given_of {I} text faults later input after y setup t readings readings_left answer old new took_old took_new s none e =
     let w = s.went in
-    let quiet = quiet_held y.held (text_reading y).bad (w.truly.fails (w.last_fault e)) none in
+    let no_line = no_line_held y.held y.ended (text_reading y).bad (w.truly.fails (w.last_fault e)) none in
     let p = w.reading.lines t s.told in
     let h = s.says.handled e in
     let behind = pieces_of (y.held ++ p.rest) in
@@ -312,7 +340,9 @@ given_of {I} text faults later input after y setup t readings readings_left answ
     let f = first_taken (pieces_of t) p.pieces behind h.k h.took.within p.handed left in
     record {
       pieces = p.pieces;
-      given = subst (λ (i : I). AreGiven t (text i) p.pieces) (sym w.same) (are_given t y.held (text (text_reading y).input) 0 y.line p quiet);
+      given =
+          subst (λ (o : Option (List ℕ)). AreGiven t o p.pieces) (told_after text faults later input after y answer t w s.told)
+          (are_given t y.held (unread text (text_reading y)) 0 y.line y.ended p no_line);
       first = (behind, p.handed);
       goes_on = λ j low high. h.goes_on j low (omega (arith, high, f.number));
       requests = subst (λ (v : List Piece). HandsOut setup (accepted setup (stream v)) readings old new) f.same h.requests;

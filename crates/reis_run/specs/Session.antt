@@ -60,6 +60,10 @@ IsAnswered (last_line.BadLine n) = ⊥
 abbrev pub IsReadFault : LastLine → Type 0
 IsReadFault last = last ≡ last_line.Answer (Err error.ReadFault)
 
+-- the last line says the bad line of this number
+abbrev pub IsBadLine : ℕ → LastLine → Type 0
+IsBadLine n last = last ≡ last_line.BadLine n
+
 -- memory ran out
 abbrev pub IsCutShortLine : LastLine → Type 0
 IsCutShortLine (last_line.Answer result) = IsCutShort result
@@ -72,7 +76,8 @@ abbrev pub ForText : Option (List ℕ) → (List ℕ → Type 0) → Type 0
 ForText told P = (text : List ℕ) → told ≡ Some text → P text
 
 -- At a read fault the messages of exactly the pieces of the whole lines given were handled, and the session was over with none of these.
-pub record HandledGiven (setup : Setup) (text : List ℕ) (left readings : Option (List ℕ)) (out_old out_new : List EisRequest) (took_old took_new : Option Piece) : Type 0 where
+pub record HandledGiven
+    (setup : Setup) (text : List ℕ) (left readings : Option (List ℕ)) (out_old out_new : List EisRequest) (took_old took_new : Option Piece) : Type 0 where
   pub pieces : List Piece
   pub given : AreGiven text left pieces
   pub first : (more : List Piece) × (pieces_of text ≡ pieces ++ more)
@@ -123,14 +128,17 @@ pub record IsOfFirst (setup : Setup) (pieces : List Piece) (left readings : Opti
   pub requests_are : AreRequests setup reached readings report.requests
 
 -- The report is that of the session over the text that an input told. Where the input failed it is that of the lines given, and
--- where memory ran out that of the first messages. A read fault is reported only where the input failed, told or not.
-pub record IsReport (setup : Setup) (told left : Option (List ℕ)) (readings readings_left : Option (List ℕ)) (failed : Type 0) (report : Report) : Type 0 where
+-- where memory ran out that of the first messages. A read fault is reported only where the input failed, and a bad line only where
+-- one was met, told or not.
+pub record IsReport
+    (setup : Setup) (told left readings readings_left : Option (List ℕ)) (failed : Type 0) (met : ℕ → Type 0) (report : Report) : Type 0 where
   pub ends : ForText told (λ text. IsDecidedLine report.last → EndsAs (end_of setup text) report.last)
   pub decided : ForText told (λ text. IsDecidedLine report.last → IsOf setup (session setup (pieces_of text)).handled readings report)
   pub clock : ForText told (λ text. IsAnswered report.last → LeftReadings setup (session setup (pieces_of text)).handled readings readings_left)
   pub given : ForText told (λ text. IsReadFault report.last → IsOfGiven setup text left readings report)
   pub cut_short : ForText told (λ text. IsCutShortLine report.last → IsOfFirst setup (pieces_of text) left readings report)
   pub fault : IsReadFault report.last → failed
+  pub bad_line : (n : ℕ) → IsBadLine n report.last → met n
 
 -- ---- the status
 
@@ -148,3 +156,7 @@ status_of_end (BadLine n) = 3
 -- the status, or 3 where the input failed, or 4 or 5
 abbrev pub IsStatus : ℕ → Type 0 → ℕ → Type 0
 IsStatus status failed result = (result ≡ status) ⊎ (((result ≡ 3) × failed) ⊎ ((result ≡ 4) ⊎ (result ≡ 5)))
+
+-- status 3 only where the input failed, or a bad line was met
+abbrev pub HasReadCause : ℕ → Type 0 → (ℕ → Type 0) → Type 0
+HasReadCause result failed met = result ≡ 3 → failed ⊎ ((n : ℕ) × met n)

@@ -10,6 +10,8 @@ use Rattle.reis_report.specs.RequestLine.{request_text}
 use Rattle.reis_trace.specs.Traced.{traced_bytes}
 use Rattle.reis_run.specs.declared.session.LastLine.{LastLine}
 use Rattle.reis_run.specs.declared.session.LastLine.TheVariants as last_line
+use Rattle.reis_run.specs.declared.tell.Form.{Form}
+use Rattle.reis_run.specs.declared.tell.Form.TheVariants as form
 
 -- a line for each request
 abbrev pub request_lines : List EisRequest → List ℕ
@@ -34,6 +36,11 @@ report_text r = reply_line r.reply ++ request_lines r.requests ++ line_of (last_
 -- the same with the trace of the reply bytes behind it, as a fresh client reads them
 abbrev pub traced_text : Report → List ℕ
 traced_text r = report_text r ++ traced_bytes r.reply
+
+-- the text that is told of a session
+abbrev pub told_text : Form → Report → List ℕ
+told_text form.Plain r = report_text r
+told_text form.Traced r = traced_text r
 
 -- the status of an error: a read fault is 3, want of memory 5, a refusal 1; the replies are kept in memory, so a sink that failed wanted some
 abbrev pub status_of_error : Error → ℕ

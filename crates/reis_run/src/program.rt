@@ -2,6 +2,7 @@
 
 ghost use Rattle.std.specs.Prelude.{◌≡◌, ◌≤◌, ◌<◌, ◌⊎◌, ℕ, List, Some, None, IsSome};
 ghost use Rattle.ei_types.specs.Capability.{bits_of, all_bits};
+ghost use Rattle.ei_backend.specs.Lent.{LentSink};
 ghost use Rattle.ei_backend.specs.Outside.{Piece, Rose};
 ghost use Rattle.ei_session.specs.Complete.{AreComplete};
 ghost use Rattle.std.specs.Prelude.{Ok};
@@ -10,15 +11,17 @@ ghost use Rattle.ei_serve.specs.Serving.{LeftReadings};
 ghost use Rattle.ei_serve.specs.declared.session.Ended.TheVariants as ended;
 ghost use Rattle.reis_demo.specs.Generated.{demo_setup};
 ghost use Rattle.reis_demo.specs.Summary.{demo_session, demo_lines};
+ghost use Rattle.reis_lines.specs.HexSource.{MetBadLine};
+ghost use Rattle.reis_lines.specs.Lent.{LentInput};
 ghost use Rattle.reis_lines.specs.Text.{pieces_of, bad_line_of};
 ghost use Rattle.reis_run.specs.Words.{command_of};
-ghost use Rattle.reis_run.specs.Tell.{report_text, traced_text, Tells, Reports};
-ghost use Rattle.reis_run.specs.Session.{ForText, end_of, IsReport, status_of_end, IsStatus};
+ghost use Rattle.reis_run.specs.Tell.{report_text, traced_text, told_text, Tells, Reports};
+ghost use Rattle.reis_run.specs.Session.{ForText, end_of, IsReport, status_of_end, IsStatus, HasReadCause};
 ghost use Rattle.reis_run.specs.Asked.{setup_with, ForServe, ForTrace, ForSession, ForDemo};
 
 use crate::session::serve_lines;
 pub use crate::tell::NO_MEMORY;
-use crate::tell::{DONE, tell, tell_report, tell_trace};
+use crate::tell::{DONE, Form, tell, tell_session};
 use crate::words::{Command, USAGE};
 use ei_backend::{Clock, Input, Sink, Tray};
 use ei_serve::Setup;
@@ -51,9 +54,10 @@ fn setup(initial_serial: u32, capabilities: u32, pieces: u32) -> Setup
     }
 }
 
-/// Serves the lines of the input, and tells the report.
+/// Serves the lines of the input, and tells of the session in this form.
 fn serve_command<I: Input, O: Sink, C: Clock>(
     alloc: Global,
+    form: Form,
     setup: Setup,
     input: &mut I,
     output: &mut O,
@@ -61,54 +65,23 @@ fn serve_command<I: Input, O: Sink, C: Clock>(
 ) -> u8
     requires lawful { bits_of setup.capabilities ≤ all_bits }
     ensures report { Reports (IsReport (setup_of setup) (I.text input.old) (I.text input.new) (C.readings clock.old) (C.readings clock.new)
-        (Rose (I.faults input.old) (I.faults input.new))) report_text result (O.taken output.old) (O.taken output.new) }
+        (Rose (I.faults input.old) (I.faults input.new)) (MetBadLine I.text I.faults I.later input.old input.new))
+        (told_text form) result (O.taken output.old) (O.taken output.new) }
     ensures status { ForText (I.text input.old) (λ text.
         IsStatus (status_of_end (end_of (setup_of setup) text)) (Rose (I.faults input.old) (I.faults input.new)) result) }
+    ensures cause { HasReadCause result (Rose (I.faults input.old) (I.faults input.new)) (MetBadLine I.text I.faults I.later input.old input.new) }
     ensures complete { ForText (I.text input.old) (λ text. bad_line_of text ≡ None → AreComplete (setup_of setup) (pieces_of text) →
         (Rose (I.faults input.old) (I.faults input.new) → ⊥) → (Rose (O.faults output.old) (O.faults output.new) → ⊥) →
         (result ≡ 0) ⊎ (result ≡ 5)) }
     ensures served { result ≡ 2 → ⊥ }
-    ensures count { I.faults input.old ≤ I.faults input.new }
-    ensures later_input { I.later input.old input.new }
+    ensures input { LentInput I.faults I.later input.old input.new }
+    ensures output { LentSink O.faults O.later (result ≡ 4) output.old output.new }
     ensures later_clock { C.later clock.old clock.new }
-    ensures fault { result ≡ 4 → Rose (O.faults output.old) (O.faults output.new) }
-    ensures unfailed { (result ≡ 4 → ⊥) → O.faults output.new ≡ O.faults output.old }
-    ensures later { O.later output.old output.new }
 {
     let mut reply = Tray::new(alloc);
     let mut requests = Vec::new(alloc);
     let last = serve_lines(alloc, setup, input, clock, &mut reply, &mut requests);
-    tell_report(alloc, output, reply.bytes(), &requests, &last)
-}
-
-/// Serves the lines of the input, and tells the report and the trace of the replies.
-fn trace_command<I: Input, O: Sink, C: Clock>(
-    alloc: Global,
-    setup: Setup,
-    input: &mut I,
-    output: &mut O,
-    clock: &mut C,
-) -> u8
-    requires lawful { bits_of setup.capabilities ≤ all_bits }
-    ensures report { Reports (IsReport (setup_of setup) (I.text input.old) (I.text input.new) (C.readings clock.old) (C.readings clock.new)
-        (Rose (I.faults input.old) (I.faults input.new))) traced_text result (O.taken output.old) (O.taken output.new) }
-    ensures status { ForText (I.text input.old) (λ text.
-        IsStatus (status_of_end (end_of (setup_of setup) text)) (Rose (I.faults input.old) (I.faults input.new)) result) }
-    ensures complete { ForText (I.text input.old) (λ text. bad_line_of text ≡ None → AreComplete (setup_of setup) (pieces_of text) →
-        (Rose (I.faults input.old) (I.faults input.new) → ⊥) → (Rose (O.faults output.old) (O.faults output.new) → ⊥) →
-        (result ≡ 0) ⊎ (result ≡ 5)) }
-    ensures served { result ≡ 2 → ⊥ }
-    ensures count { I.faults input.old ≤ I.faults input.new }
-    ensures later_input { I.later input.old input.new }
-    ensures later_clock { C.later clock.old clock.new }
-    ensures fault { result ≡ 4 → Rose (O.faults output.old) (O.faults output.new) }
-    ensures unfailed { (result ≡ 4 → ⊥) → O.faults output.new ≡ O.faults output.old }
-    ensures later { O.later output.old output.new }
-{
-    let mut reply = Tray::new(alloc);
-    let mut requests = Vec::new(alloc);
-    let last = serve_lines(alloc, setup, input, clock, &mut reply, &mut requests);
-    tell_trace(alloc, output, reply.bytes(), &requests, &last)
+    tell_session(alloc, form, output, reply.bytes(), &requests, &last)
 }
 
 /// Serves the generated stream, and tells six lines of it.
@@ -124,10 +97,8 @@ fn demo_command<O: Sink, C: Clock>(
     ensures status { (result ≡ 0) ⊎ ((result ≡ 4) ⊎ (result ≡ 5)) }
     ensures readings { result ≡ 0 →
         LeftReadings demo_setup (demo_session groups start).handled (C.readings clock.old) (C.readings clock.new) }
+    ensures output { LentSink O.faults O.later (result ≡ 4) output.old output.new }
     ensures later_clock { C.later clock.old clock.new }
-    ensures fault { result ≡ 4 → Rose (O.faults output.old) (O.faults output.new) }
-    ensures unfailed { (result ≡ 4 → ⊥) → O.faults output.new ≡ O.faults output.old }
-    ensures later { O.later output.old output.new }
 {
     match demo(alloc, groups, start, clock) {
         // the session over the generated stream ends with the disconnect
@@ -164,10 +135,12 @@ pub fn run<I: Input, O: Sink, C: Clock>(
     ensures served { IsSome (command_of words.now) → result ≡ 2 → ⊥ }
     // the words of `serve`: the report of the session over the lines that the input gives
     ensures report { ForServe words.now (λ setup. Reports (IsReport setup (I.text input.old) (I.text input.new) (C.readings clock.old) (C.readings clock.new)
-        (Rose (I.faults input.old) (I.faults input.new))) report_text result (O.taken output.old) (O.taken output.new)) }
+        (Rose (I.faults input.old) (I.faults input.new)) (MetBadLine I.text I.faults I.later input.old input.new))
+        report_text result (O.taken output.old) (O.taken output.new)) }
     // the words of `trace`: the same, and behind it the trace of the reply bytes
     ensures trace { ForTrace words.now (λ setup. Reports (IsReport setup (I.text input.old) (I.text input.new) (C.readings clock.old) (C.readings clock.new)
-        (Rose (I.faults input.old) (I.faults input.new))) traced_text result (O.taken output.old) (O.taken output.new)) }
+        (Rose (I.faults input.old) (I.faults input.new)) (MetBadLine I.text I.faults I.later input.old input.new))
+        traced_text result (O.taken output.old) (O.taken output.new)) }
     // the words of `demo`: six lines of the session over the generated stream, which ends with the disconnect
     ensures demo { ForDemo words.now (λ groups start. (held : Piece) → O.taken output.old ≡ Some held →
         Tells 0 (demo_lines groups start (Ok ended.Disconnect)) held result (O.taken output.new)) }
@@ -178,27 +151,26 @@ pub fn run<I: Input, O: Sink, C: Clock>(
     // the status of `serve` and `trace`
     ensures status { ForSession words.now (λ setup. ForText (I.text input.old) (λ text.
         IsStatus (status_of_end (end_of setup text)) (Rose (I.faults input.old) (I.faults input.new)) result)) }
+    // over any input, told or not: 3 only where it failed, or a source over it met a bad line
+    ensures cause { ForSession words.now (λ setup.
+        HasReadCause result (Rose (I.faults input.old) (I.faults input.new)) (MetBadLine I.text I.faults I.later input.old input.new)) }
     // over a text of lines whose pieces make a good end sure, where neither the input nor the output fails
     ensures complete { ForSession words.now (λ setup. ForText (I.text input.old) (λ text. bad_line_of text ≡ None → AreComplete setup (pieces_of text) →
         (Rose (I.faults input.old) (I.faults input.new) → ⊥) → (Rose (O.faults output.old) (O.faults output.new) → ⊥) →
         (result ≡ 0) ⊎ (result ≡ 5))) }
-    // the input and the clock
-    ensures count { I.faults input.old ≤ I.faults input.new }
-    ensures later_input { I.later input.old input.new }
+    // the input, the output and the clock: status 4 exactly where the output failed
+    ensures input { LentInput I.faults I.later input.old input.new }
+    ensures output { LentSink O.faults O.later (result ≡ 4) output.old output.new }
     ensures later_clock { C.later clock.old clock.new }
-    // the output: status 4 exactly where it failed
-    ensures fault { result ≡ 4 → Rose (O.faults output.old) (O.faults output.new) }
-    ensures unfailed { (result ≡ 4 → ⊥) → O.faults output.new ≡ O.faults output.old }
-    ensures later { O.later output.old output.new }
 {
     match Command::from_words(words) {
         Some(Command::Serve(serial, capabilities, pieces)) => {
             let asked = setup(serial, capabilities, pieces);
-            serve_command(alloc, asked, input, output, clock)
+            serve_command(alloc, Form::Plain, asked, input, output, clock)
         }
         Some(Command::Trace(serial, capabilities, pieces)) => {
             let asked = setup(serial, capabilities, pieces);
-            trace_command(alloc, asked, input, output, clock)
+            serve_command(alloc, Form::Traced, asked, input, output, clock)
         }
         Some(Command::Demo(groups, start)) => demo_command(alloc, groups, start, output, clock),
         None => tell(output, USAGE.as_bytes(), NO_COMMAND),

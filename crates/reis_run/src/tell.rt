@@ -1,9 +1,10 @@
 //! The text that the program writes, and the status that it ends with.
 
-ghost use Rattle.std.specs.Prelude.{◌≡◌, ◌≤◌, ◌⊎◌, ◌++◌, ℕ, Some, IfOk, OnOk};
+ghost use Rattle.std.specs.Prelude.{◌≡◌, ◌⊎◌, ◌++◌, ℕ, Some, IfOk, OnOk};
 ghost use Rattle.std.specs.String.{string_bytes};
-ghost use Rattle.ei_backend.specs.Outside.{Piece, Rose};
-ghost use Rattle.reis_run.specs.Tell.{last_text, request_lines, report_text, traced_text, status_of, Tells};
+ghost use Rattle.ei_backend.specs.Lent.{LentSink};
+ghost use Rattle.ei_backend.specs.Outside.{Piece};
+ghost use Rattle.reis_run.specs.Tell.{last_text, request_lines, report_text, told_text, status_of, Tells};
 
 use crate::session::LastLine;
 use ei_backend::{PutError, Sink};
@@ -28,6 +29,15 @@ const WRITE_FAULT: u8 = 4;
 
 /// Memory ran out.
 pub const NO_MEMORY: u8 = 5;
+
+/// What is told of a session.
+#[derive(Clone, Copy, Debug, PartialEq, Eq)]
+pub(crate) enum Form {
+    /// Its report.
+    Plain,
+    /// Its report, and behind it the trace of its replies.
+    Traced,
+}
 
 /// The last line of a report.
 fn last_text(alloc: Global, last: &LastLine) -> Result<String, NoMemory>
@@ -56,7 +66,7 @@ fn push_requests(alloc: Global, out: &mut Vec<u8>, requests: &[EisRequest]) -> R
 }
 
 /// The report of a session.
-pub(crate) fn report_text(
+fn report_text(
     alloc: Global,
     reply: &[u8],
     requests: &[EisRequest],
@@ -72,19 +82,25 @@ pub(crate) fn report_text(
     Ok(out)
 }
 
-/// The report of a session, and the trace of its replies behind it.
-fn traced_text(
+/// What is told of a session, in this form.
+fn told_text(
     alloc: Global,
+    form: Form,
     reply: &[u8],
     requests: &[EisRequest],
     last: &LastLine,
 ) -> Result<Vec<u8>, NoMemory>
-    ensures { IfOk result (λ text. text.items ≡ traced_text (record { reply = reply.now; requests = requests.now; last = last.now })) }
+    ensures { IfOk result (λ text. text.items ≡ told_text form (record { reply = reply.now; requests = requests.now; last = last.now })) }
 {
     let mut out = report_text(alloc, reply, requests, last)?;
-    let lines = trace(alloc, reply)?;
-    out.extend_from_slice(&lines)?;
-    Ok(out)
+    match form {
+        Form::Plain => Ok(out),
+        Form::Traced => {
+            let lines = trace(alloc, reply)?;
+            out.extend_from_slice(&lines)?;
+            Ok(out)
+        }
+    }
 }
 
 /// The status of how a session ended.
@@ -102,12 +118,11 @@ fn status_of(last: &LastLine) -> u8
 
 /// Writes the text. It answers the status, or why not all of the text was written.
 pub(crate) fn tell<O: Sink>(output: &mut O, text: &[u8], status: u8) -> u8
+    requires unfailing { status ≡ 4 → ⊥ }
     ensures told { (held : Piece) → O.taken output.old ≡ Some held →
         Tells status text.now held result (O.taken output.new) }
     ensures statuses { (result ≡ status) ⊎ ((result ≡ 4) ⊎ (result ≡ 5)) }
-    ensures fault { result ≡ 4 → (status ≡ 4) ⊎ Rose (O.faults output.old) (O.faults output.new) }
-    ensures unfailed { (result ≡ 4 → ⊥) → O.faults output.new ≡ O.faults output.old }
-    ensures later { O.later output.old output.new }
+    ensures output { LentSink O.faults O.later (result ≡ 4) output.old output.new }
 {
     match write_all(output, text) {
         Ok(()) => status,
@@ -116,43 +131,21 @@ pub(crate) fn tell<O: Sink>(output: &mut O, text: &[u8], status: u8) -> u8
     }
 }
 
-/// Tells the report of a session.
-pub(crate) fn tell_report<O: Sink>(
+/// Tells of a session.
+pub(crate) fn tell_session<O: Sink>(
     alloc: Global,
+    form: Form,
     output: &mut O,
     reply: &[u8],
     requests: &[EisRequest],
     last: &LastLine,
 ) -> u8
     ensures told { (held : Piece) → O.taken output.old ≡ Some held →
-        Tells (status_of last.now) (report_text (record { reply = reply.now; requests = requests.now; last = last.now })) held result (O.taken output.new) }
+        Tells (status_of last.now) (told_text form (record { reply = reply.now; requests = requests.now; last = last.now })) held result (O.taken output.new) }
     ensures statuses { (result ≡ status_of last.now) ⊎ ((result ≡ 4) ⊎ (result ≡ 5)) }
-    ensures fault { result ≡ 4 → Rose (O.faults output.old) (O.faults output.new) }
-    ensures unfailed { (result ≡ 4 → ⊥) → O.faults output.new ≡ O.faults output.old }
-    ensures later { O.later output.old output.new }
+    ensures output { LentSink O.faults O.later (result ≡ 4) output.old output.new }
 {
-    match report_text(alloc, reply, requests, last) {
-        Ok(text) => tell(output, &text, status_of(last)),
-        Err(NoMemory) => NO_MEMORY,
-    }
-}
-
-/// Tells the report of a session, and the trace of its replies.
-pub(crate) fn tell_trace<O: Sink>(
-    alloc: Global,
-    output: &mut O,
-    reply: &[u8],
-    requests: &[EisRequest],
-    last: &LastLine,
-) -> u8
-    ensures told { (held : Piece) → O.taken output.old ≡ Some held →
-        Tells (status_of last.now) (traced_text (record { reply = reply.now; requests = requests.now; last = last.now })) held result (O.taken output.new) }
-    ensures statuses { (result ≡ status_of last.now) ⊎ ((result ≡ 4) ⊎ (result ≡ 5)) }
-    ensures fault { result ≡ 4 → Rose (O.faults output.old) (O.faults output.new) }
-    ensures unfailed { (result ≡ 4 → ⊥) → O.faults output.new ≡ O.faults output.old }
-    ensures later { O.later output.old output.new }
-{
-    match traced_text(alloc, reply, requests, last) {
+    match told_text(alloc, form, reply, requests, last) {
         Ok(text) => tell(output, &text, status_of(last)),
         Err(NoMemory) => NO_MEMORY,
     }

@@ -1,6 +1,7 @@
 use Rattle.std.proofs.Common.{rules}
 use Rattle.ei_backend.specs.Outside.{Rose}
 use Rattle.ei_session.specs.Complete.{AreComplete}
+use Rattle.reis_lines.specs.HexSource.{MetBadLine}
 use Rattle.reis_lines.specs.Text.{pieces_of}
 use Rattle.reis_run.specs.Tell.{report_text, traced_text, Reports}
 use Rattle.reis_run.specs.Session.{ForText, end_of, IsReport, status_of_end, IsStatus}
@@ -12,7 +13,8 @@ returns-in-Some-Serve-clause-report g c = λ setup asks.
     of_same
     (λ s. Reports
     (IsReport s (g.I.Input.text c.args.input.now) (g.I.Input.text c.serve_command.new.input) (g.C.Clock.readings c.args.clock.now) (g.C.Clock.readings c.serve_command.new.clock)
-    (Rose (g.I.Input.faults c.args.input.now) (g.I.Input.faults c.serve_command.new.input)))
+    (Rose (g.I.Input.faults c.args.input.now) (g.I.Input.faults c.serve_command.new.input))
+    (MetBadLine g.I.Input.text g.I.Input.faults g.I.Input.later c.args.input.now c.serve_command.new.input))
     report_text c.serve_command.result (g.O.Sink.taken c.args.output.now) (g.O.Sink.taken c.serve_command.new.output))
     _ setup c.serve_command.ensures.report (search rules)
 
@@ -31,18 +33,19 @@ pub returns-in-Some-Trace-clause-trace : goal.returns-in-Some-Trace-clause-trace
 returns-in-Some-Trace-clause-trace g c = λ setup asks.
     of_same
     (λ s. Reports
-    (IsReport s (g.I.Input.text c.args.input.now) (g.I.Input.text c.trace_command.new.input) (g.C.Clock.readings c.args.clock.now) (g.C.Clock.readings c.trace_command.new.clock)
-    (Rose (g.I.Input.faults c.args.input.now) (g.I.Input.faults c.trace_command.new.input)))
-    traced_text c.trace_command.result (g.O.Sink.taken c.args.output.now) (g.O.Sink.taken c.trace_command.new.output))
-    _ setup c.trace_command.ensures.report (search rules)
+    (IsReport s (g.I.Input.text c.args.input.now) (g.I.Input.text c.serve_command-in-Some-Trace.new.input) (g.C.Clock.readings c.args.clock.now) (g.C.Clock.readings c.serve_command-in-Some-Trace.new.clock)
+    (Rose (g.I.Input.faults c.args.input.now) (g.I.Input.faults c.serve_command-in-Some-Trace.new.input))
+    (MetBadLine g.I.Input.text g.I.Input.faults g.I.Input.later c.args.input.now c.serve_command-in-Some-Trace.new.input))
+    traced_text c.serve_command-in-Some-Trace.result (g.O.Sink.taken c.args.output.now) (g.O.Sink.taken c.serve_command-in-Some-Trace.new.output))
+    _ setup c.serve_command-in-Some-Trace.ensures.report (search rules)
 
 pub returns-in-Some-Trace-clause-status : goal.returns-in-Some-Trace-clause-status
 returns-in-Some-Trace-clause-status g c = λ setup asks.
     of_same
     (λ s. ForText (g.I.Input.text c.args.input.now) (λ text.
-    IsStatus (status_of_end (end_of s text)) (Rose (g.I.Input.faults c.args.input.now) (g.I.Input.faults c.trace_command.new.input)) c.trace_command.result))
-    _ setup c.trace_command.ensures.status (search rules)
+    IsStatus (status_of_end (end_of s text)) (Rose (g.I.Input.faults c.args.input.now) (g.I.Input.faults c.serve_command-in-Some-Trace.new.input)) c.serve_command-in-Some-Trace.result))
+    _ setup c.serve_command-in-Some-Trace.ensures.status (search rules)
 
 pub returns-in-Some-Trace-clause-complete : goal.returns-in-Some-Trace-clause-complete
 returns-in-Some-Trace-clause-complete g c = λ setup asks text told none complete.
-    c.trace_command.ensures.complete text told none (of_same (λ s. AreComplete s (pieces_of text)) setup _ complete (search rules))
+    c.serve_command-in-Some-Trace.ensures.complete text told none (of_same (λ s. AreComplete s (pieces_of text)) setup _ complete (search rules))

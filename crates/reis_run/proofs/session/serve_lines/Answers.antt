@@ -3,7 +3,7 @@ use Rattle.ei_serve.specs.Standing.{setup_of}
 use Rattle.reis_lines.specs.Text.{pieces_of}
 use Rattle.reis_run.specs.Session.{end_of, EndsAs, IsDecidedLine}
 use Rattle.reis_run.specs.declared.session.LastLine.{LastLine}
-use Rattle.reis_run.proofs.SessionLaws.{told_at_first, went, went_count, line_ends, line_handles, line_clock, line_cut, line_fault, line_given, nothing_handled}
+use Rattle.reis_run.proofs.SessionLaws.{told_at_first, went, went_input, line_ends, line_handles, line_clock, line_cut, line_fault, line_met, line_given, nothing_handled}
 use Rattle.reis_run.proofs.session.serve_lines.Goals as goal
 
 pub returns-clause-ends : goal.returns-clause-ends
@@ -167,14 +167,24 @@ returns-clause-fault g c = λ d.
     line_fault g.I.Input.text g.I.Input.faults g.I.Input.later _ _ c.serve-answer.new.source c.serve-answer.result c.bad_line-bad.result w c.bad_line-bad.ensures
     (sym c.last_line.ensures ∙ d)
 
-pub returns-clause-count : goal.returns-clause-count
-returns-clause-count g c =
+pub returns-clause-bad_line : goal.returns-clause-bad_line
+returns-clause-bad_line g c = λ n d.
     let one_input = sym c.over-source.ensures.same_reference ∙ c.serve-answer.ensures.source.later_source.same_reference ∙ sym c.close-input.ensures.same_reference in
     let w =
     went g.I.Input.text g.I.Input.faults g.I.Input.later _ c.input-1.given.0 c.over-source.result c.serve-answer.new.source c.serve-answer.result
     c.over-source.ensures.fresh c.over-source.ensures.unasked c.serve-answer.ensures.source.later_source (c.input-1.given.1 one_input ∙ c.close-input.ensures.same)
     c.serve-answer.ensures.source.read_risen c.serve-answer.ensures.source.read_fault c.serve-answer.ensures.source.last_end c.serve-answer.ensures.source.last_fault in
-    went_count g.I.Input.text g.I.Input.faults g.I.Input.later _ _ c.serve-answer.new.source c.serve-answer.result w
+    line_met g.I.Input.text g.I.Input.faults g.I.Input.later _ _ c.serve-answer.new.source c.serve-answer.result c.bad_line-bad.result n w c.bad_line-bad.ensures
+    (sym c.last_line.ensures ∙ d)
+
+pub returns-clause-input : goal.returns-clause-input
+returns-clause-input g c =
+    let one_input = sym c.over-source.ensures.same_reference ∙ c.serve-answer.ensures.source.later_source.same_reference ∙ sym c.close-input.ensures.same_reference in
+    let w =
+    went g.I.Input.text g.I.Input.faults g.I.Input.later _ c.input-1.given.0 c.over-source.result c.serve-answer.new.source c.serve-answer.result
+    c.over-source.ensures.fresh c.over-source.ensures.unasked c.serve-answer.ensures.source.later_source (c.input-1.given.1 one_input ∙ c.close-input.ensures.same)
+    c.serve-answer.ensures.source.read_risen c.serve-answer.ensures.source.read_fault c.serve-answer.ensures.source.last_end c.serve-answer.ensures.source.last_fault in
+    went_input g.I.Input.text g.I.Input.faults g.I.Input.later _ _ c.serve-answer.new.source c.serve-answer.result w
 
 pub returns-in-Err-clause-cut_short : goal.returns-in-Err-clause-cut_short
 returns-in-Err-clause-cut_short g c = λ text told e. nothing_handled _ text _ _ _ _ told
