@@ -24,8 +24,8 @@ pub(crate) fn shake_hands(context: &mut Context) -> Result<(), SendError> {
     handshake.handshake_version(context, 1)?;
     handshake.context_type(context, ContextType::Sender)?;
     handshake.name(context, "demo")?;
-    for (name, version) in INTERFACES {
-        handshake.interface_version(context, name, version)?;
+    for (name, version) in &INTERFACES {
+        handshake.interface_version(context, name, *version)?;
     }
     handshake.finish(context)
 }
@@ -33,16 +33,21 @@ pub(crate) fn shake_hands(context: &mut Context) -> Result<(), SendError> {
 /// Shows each event that came.
 pub(crate) fn show_events<R: Print>(rt: &R, context: &mut Context) -> Result<(), Stop> {
     for _ in 0..context.unread_len() {
-        match context.pending_event()? {
-            Some(PendingRequestResult::Request(event)) => show_event(rt, &event)?,
-            Some(PendingRequestResult::ParseError(error)) => return Err(Stop::from(Error::from(
-                error,
-            ))),
-            Some(PendingRequestResult::InvalidObject(id)) => println!(rt; "no object {id}")?,
-            None => return Ok(()),
-        }
+        let Some(pending) = context.pending_event()? else {
+            break;
+        };
+        show_pending(rt, pending)?;
     }
     Ok(())
+}
+
+/// Shows an event, or what came in its place.
+fn show_pending<R: Print>(rt: &R, pending: PendingRequestResult<Event>) -> Result<(), Stop> {
+    match pending {
+        PendingRequestResult::Request(event) => show_event(rt, &event),
+        PendingRequestResult::ParseError(error) => Err(Stop::from(Error::from(error))),
+        PendingRequestResult::InvalidObject(id) => Ok(println!(rt; "no object {id}")?),
+    }
 }
 
 /// Shows an event of the handshake, of the connection or of the seat.

@@ -14,19 +14,29 @@ use crate::outside::{Inbox, Outbox};
 use crate::server::serve_by_turns;
 use crate::stop::Stop;
 use ei_client::Context;
+use std::io::Print;
 
 /// The client's last message, `disconnect` to the connection, which has the first of the server's ids.
 const DISCONNECT: [u8; 16] = [0, 0, 0, 0, 0, 0, 0, 0xff, 16, 0, 0, 0, 1, 0, 0, 0];
 
 fn main(rt: HostRuntime) -> Result<(), Stop> {
-    let alloc = rt.alloc();
-    let mut client = Context::new(alloc)?;
-    shake_hands(&mut client)?;
-    let mut sent = Outbox::new(alloc);
-    client.flush(&mut sent)?;
+    let mut client = Context::new(rt.alloc())?;
+    let mut sent = Outbox::new(rt.alloc());
+    let mut replied = Outbox::new(rt.alloc());
+    talk(&rt, &mut client, &mut sent, &mut replied)
+}
+
+/// The client shakes hands and leaves, the server serves it, and the client reads what the server replied.
+fn talk<R: Print + AllocGlobal>(
+    rt: &R,
+    client: &mut Context,
+    sent: &mut Outbox,
+    replied: &mut Outbox,
+) -> Result<(), Stop> {
+    shake_hands(client)?;
+    client.flush(sent)?;
     sent.bytes.extend_from_slice(&DISCONNECT)?;
-    let mut replied = Outbox::new(alloc);
-    serve_by_turns(&rt, &mut Inbox::new(&sent.bytes), &mut replied)?;
+    serve_by_turns(rt, &mut Inbox::new(&sent.bytes), replied)?;
     client.read(&mut Inbox::new(&replied.bytes))?;
-    show_events(&rt, &mut client)
+    show_events(rt, client)
 }

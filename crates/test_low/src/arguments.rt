@@ -162,15 +162,20 @@ fn push_names(text: &mut String, names: Option<(&str, &str)>) -> Result<(), Allo
 fn header_of(alloc: Global, digits: &str) -> Result<String, Stop> {
     let bytes = bytes(alloc, digits)?;
     match bytes.split_first_chunk::<16>() {
-        Some((bytes, _)) => header(alloc, *bytes),
+        Some((bytes, _)) => header(alloc, bytes),
         None => Err(Stop::Line),
     }
 }
 
 /// What the header is read as, and whether it is written as its bytes are.
-fn header(alloc: Global, bytes: [u8; 16]) -> Result<String, Stop> {
-    let header = Header::parse(bytes);
-    let same = header.as_bytes() == bytes;
+fn header(alloc: Global, bytes: &[u8; 16]) -> Result<String, Stop> {
+    let header = Header::parse(*bytes);
+    let same = header.as_bytes().as_slice() == bytes.as_slice();
+    Ok(header_text(alloc, &header, same)?)
+}
+
+/// What a header is read as, and whether it is written as its bytes are.
+fn header_text(alloc: Global, header: &Header, same: bool) -> Result<String, AllocError> {
     let (id, opcode) = (header.object_id, header.opcode);
-    Ok(format!(in alloc; "{id:x} {} {opcode:x} {same}", header.length)?)
+    format!(in alloc; "{id:x} {} {opcode:x} {same}", header.length)
 }

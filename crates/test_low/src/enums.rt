@@ -3,7 +3,8 @@
 use crate::stop::Stop;
 use crate::words::{count, first, number};
 use ei_types::{DeviceCapabilities, DeviceCapability, DisconnectReason, OtherReason};
-use std::alloc::Global;
+use std::alloc::{AllocError, Global};
+use std::fmt::Write;
 
 /// What a call answers:
 /// - `other-reason NUMBER`: the reason without a name, if it is one, and its number;
@@ -43,10 +44,19 @@ fn capability(alloc: Global, place: usize) -> Result<String, Stop> {
     let Some(one) = DeviceCapability::ALL.get(place) else {
         return Err(Stop::Line);
     };
-    let (place, bit, name) = (one.index(), one.bit(), one.interface_name());
-    let named = DeviceCapability::from_interface_name(name);
-    let added = is_added(*one, bit);
-    Ok(format!(in alloc; "{one:?} {place} {bit} {name} {named:?} {added}")?)
+    let mut text = format!(in alloc; "{one:?} {} {} ", one.index(), one.bit())?;
+    push_interface(&mut text, one.interface_name())?;
+    write!(text, " {}", is_added(*one, one.bit()))?;
+    Ok(text)
+}
+
+/// Adds the name of an interface, and the capability of that name.
+fn push_interface(text: &mut String, name: &str) -> Result<(), AllocError> {
+    write!(
+        text,
+        "{name} {:?}",
+        DeviceCapability::from_interface_name(name)
+    )
 }
 
 /// Whether the set has the bit's capability only once its bit is added, and no other bit then.
@@ -72,7 +82,7 @@ fn set(alloc: Global, bits: u64) -> Result<String, Stop> {
 /// The set of all seven, put together one by one.
 fn seven() -> DeviceCapabilities {
     let mut union = DeviceCapabilities::empty();
-    for one in DeviceCapability::ALL {
+    for one in &DeviceCapability::ALL {
         if let Some(single) = DeviceCapabilities::from_bits(one.bit()) {
             union = union.union(single);
         }

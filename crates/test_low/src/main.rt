@@ -32,7 +32,15 @@ use std::io::{Input, Print};
 fn main(rt: HostRuntime) -> Result<(), Stop> {
     laws::laws_at_types();
     let mut world = World::new(rt.alloc())?;
-    let right = count_right(&rt, &mut world)?;
+    show_right(&rt, &mut world)
+}
+
+/// Shows how many lines of the table are as they should be.
+fn show_right<R>(rt: &R, world: &mut World) -> Result<(), Stop>
+where
+    R: Input + Print + AllocGlobal,
+{
+    let right = count_right(rt, world)?;
     println!(rt; "as they should be: {right}")?;
     Ok(())
 }

@@ -73,8 +73,8 @@ fn takes_fail_where_named(alloc: Global) -> Result<bool, NoMemory> {
     let mut room = bytes_room(alloc, 65536)?;
     let mut handle_room = handles_room(alloc, 64)?;
     let mut pieces = failing_pieces(alloc)?;
-    for fails in CALLS {
-        if pieces.take(&mut room, &mut handle_room).is_err() != fails {
+    for fails in &CALLS {
+        if pieces.take(&mut room, &mut handle_room).is_err() != *fails {
             return Ok(false);
         }
     }
@@ -106,19 +106,22 @@ fn failing_tray(alloc: Global) -> Result<Tray, NoMemory> {
 
 /// Whether a tray fails where it is said to, and takes nothing then.
 fn puts_fail_where_named(tray: &mut Tray) -> bool {
-    for fails in CALLS {
-        if tray.put(b"a", &[]).is_err() != fails {
+    for fails in &CALLS {
+        if tray.put(b"a", &[]).is_err() != *fails {
             return false;
         }
     }
     has(tray, b"aaa", &[])
 }
 
+/// How many bytes each call fetches of three, with room for two, and what the room holds then.
+const FETCHES: [(usize, [u8; 2]); 3] = [(2, *b"ab"), (1, *b"cb"), (0, *b"cb")];
+
 /// Whether a text is handed on in parts of two bytes at most.
 fn hands_on_a_text(text: &mut MemoryText) -> bool {
     let mut bytes = [b'-'; 2];
-    for (count, held) in [(2, b"ab"), (1, b"cb"), (0, b"cb")] {
-        if text.fetch(&mut bytes) != Ok(count) || bytes.as_slice() != held.as_slice() {
+    for (count, held) in &FETCHES {
+        if text.fetch(&mut bytes) != Ok(*count) || bytes != *held {
             return false;
         }
     }
@@ -136,8 +139,8 @@ fn failing_text(alloc: Global) -> Result<MemoryText, NoMemory> {
 /// Whether a text fails where it is said to, and hands on nothing then.
 fn fetches_fail_where_named(text: &mut MemoryText) -> bool {
     let mut byte = [b'-'];
-    for fails in CALLS {
-        if text.fetch(&mut byte).is_err() != fails {
+    for fails in &CALLS {
+        if text.fetch(&mut byte).is_err() != *fails {
             return false;
         }
     }
@@ -147,8 +150,8 @@ fn fetches_fail_where_named(text: &mut MemoryText) -> bool {
 /// Whether a clock shows its readings, and then 0.
 fn hands_on_readings(alloc: Global) -> Result<bool, NoMemory> {
     let mut readings = Readings::new(alloc, &[5, 9])?;
-    for reading in [5, 9, 0, 0] {
-        if readings.now() != reading {
+    for reading in &[5, 9, 0, 0] {
+        if readings.now() != *reading {
             return Ok(false);
         }
     }

@@ -46,28 +46,38 @@ fn twelve(alloc: Global, place: usize) -> Result<String, Stop> {
 fn messages(alloc: Global, events: bool, interface: &str) -> Result<String, AllocError> {
     let mut text = String::from_str(alloc, "are")?;
     for opcode in 0..32 {
-        let Some(name) = op_name(events, interface, opcode) else {
+        if !push_name(&mut text, op_name(events, interface, opcode))? {
             break;
-        };
-        push(&mut text, name)?;
+        }
     }
-    if let Some(name) = op_name(events, interface, u32::MAX) {
-        push(&mut text, name)?;
-    }
+    push_name(&mut text, op_name(events, interface, u32::MAX))?;
     Ok(text)
 }
 
-/// Adds a name.
-fn push(text: &mut String, name: &str) -> Result<(), AllocError> {
+/// Adds the name, and says whether there is one.
+fn push_name(text: &mut String, name: Option<&str>) -> Result<bool, AllocError> {
+    let Some(name) = name else {
+        return Ok(false);
+    };
     text.push_str(" ")?;
-    text.push_str(name)
+    text.push_str(name)?;
+    Ok(true)
 }
 
 /// What a name is kept as, and whether another one is kept so too.
 fn kept(alloc: Global, names: &str) -> Result<String, Stop> {
     let (name, other) = first(names);
     let name = InterfaceName::of(alloc, name)?;
-    let same = name == InterfaceName::of(alloc, other)?;
+    let other = InterfaceName::of(alloc, other)?;
+    Ok(kept_text(alloc, &name, &other)?)
+}
+
+/// What a name is kept as, and whether the other one is the same.
+fn kept_text(
+    alloc: Global,
+    name: &InterfaceName,
+    other: &InterfaceName,
+) -> Result<String, AllocError> {
     let known = matches!(name, InterfaceName::Known(_));
-    Ok(format!(in alloc; "known {known} {} same {same}", name.as_str())?)
+    format!(in alloc; "known {known} {} same {}", name.as_str(), name == other)
 }

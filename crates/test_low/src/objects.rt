@@ -104,17 +104,23 @@ fn keep(world: &mut World, id: u64) -> Result<String, Stop> {
     said(world.alloc, same)
 }
 
+/// The object that is kept.
+fn kept(world: &World) -> Result<&Object, Stop> {
+    match &world.kept {
+        Some(kept) => Ok(kept),
+        None => Err(Stop::Line),
+    }
+}
+
 /// Whether the object equals the one that is kept.
 fn equal(world: &World, id: u64) -> Result<String, Stop> {
     let object = world.backend.object_for_id(id).ok_or(Stop::Line)?;
-    let kept = world.kept.as_ref().ok_or(Stop::Line)?;
-    said(world.alloc, object == kept)
+    said(world.alloc, object == kept(world)?)
 }
 
 /// Whether the endpoint has the object that is kept.
 fn alive(world: &World) -> Result<String, Stop> {
-    let kept = world.kept.as_ref().ok_or(Stop::Line)?;
-    said(world.alloc, kept.is_alive(&world.backend))
+    said(world.alloc, kept(world)?.is_alive(&world.backend))
 }
 
 /// Writes a message to the object at any end.

@@ -186,9 +186,9 @@ fn wrong_start(alloc: Global, reader: &mut Reader, len: u32) -> Result<Option<u3
 
 /// The first of these lengths of which a message is wrong at some start.
 fn wrong_length(alloc: Global, reader: &mut Reader) -> Result<Option<u32>, Stop> {
-    for len in [16, 28, 31, 200] {
-        if wrong_start(alloc, reader, len)?.is_some() {
-            return Ok(Some(len));
+    for len in &[16, 28, 31, 200] {
+        if wrong_start(alloc, reader, *len)?.is_some() {
+            return Ok(Some(*len));
         }
     }
     Ok(None)
@@ -219,8 +219,8 @@ const HELD: [usize; 16] = [
 
 /// Lets the bytes come in pieces, and says how many bytes had come where the ring didn't hold what it should.
 fn held_otherwise(reader: &mut Reader, bytes: &[u8]) -> Result<Option<usize>, Stop> {
-    for (piece, held) in bytes.chunks(PIECE).zip(HELD) {
-        if reader.held_after(piece)? != held {
+    for (piece, held) in bytes.chunks(PIECE).zip(&HELD) {
+        if reader.held_after(piece)? != *held {
             return Ok(Some(reader.backend.unread_len()));
         }
     }

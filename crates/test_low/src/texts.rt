@@ -80,7 +80,7 @@ fn with_ends(alloc: Global, spelled: &Case, ending: &[u8]) -> Result<Vec<u8>, St
 
 /// Whether the text is read by the rule at each cut, with each of the endings.
 fn is_read_with_each_ending(alloc: Global, spelled: &Case) -> Result<bool, Stop> {
-    for ending in ENDINGS {
+    for ending in &ENDINGS {
         let (ending, _) = ending.split_at(spelled.padding.min(3) + 1);
         let bytes = with_ends(alloc, spelled, ending)?;
         if !is_read_at_each_cut(alloc, &bytes, spelled) {

@@ -15,10 +15,10 @@ use std::io::Print;
 /// Shows each.
 pub(crate) fn show<R: Print + AllocGlobal>(rt: &R) -> Result<(), Stop> {
     println!(rt; "without a text: {}", without_a_text(rt.alloc())?)?;
-    for count in [1048555, 1048556] {
+    for count in &[1048555, 1048556] {
         println!(rt;
             "a name of {count} bytes: {}",
-            name_carried(rt.alloc(), count)?
+            name_carried(rt.alloc(), *count)?
         )?;
     }
     println!(rt; "other proxies: {}", other_proxies(rt.alloc())?)?;

@@ -23,11 +23,17 @@ mod targets;
 
 use crate::row::Table;
 use crate::stop::Stop;
+use std::io::Print;
 
 fn main(rt: HostRuntime) -> Result<(), Stop> {
     let table = Table::from_input(&rt)?;
-    sides::events(&rt, &table)?;
-    sides::requests(&rt, &table)?;
-    proxies::show(&rt)?;
-    edges::show(&rt)
+    show(&rt, &table)
+}
+
+/// Shows what becomes of the messages of the table, and of what it doesn't hold.
+fn show<R: Print + AllocGlobal>(rt: &R, table: &Table) -> Result<(), Stop> {
+    sides::events(rt, table)?;
+    sides::requests(rt, table)?;
+    proxies::show(rt)?;
+    edges::show(rt)
 }

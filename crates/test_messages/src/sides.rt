@@ -60,8 +60,8 @@ fn show_joined<S: End, E: End, R: Print + AllocGlobal>(rt: &R, rows: &[Row]) -> 
     let sent = send::<S>(rt.alloc(), rows)?;
     show_sent(rt, rows, &sent.tray)?;
     println!(rt; "objects of the sender{}", sent.objects)?;
-    for size in SIZES {
-        let received = carried::<E>(rt.alloc(), &sent.tray, size)?;
+    for size in &SIZES {
+        let received = carried::<E>(rt.alloc(), &sent.tray, *size)?;
         println!(rt; "in pieces of {size}")?;
         show_received(rt, rows, &received)?;
     }

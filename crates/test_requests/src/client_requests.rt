@@ -6,7 +6,7 @@ use crate::words::bytes;
 use crate::world::World;
 use ei_backend::PendingRequestResult;
 use ei_request::{EisRequest, EisRequestConverter};
-use ei_server::Request;
+use ei_server::{Context, Request};
 use ei_wire::NoMemory;
 use std::alloc::AllocError;
 use std::fmt::{Debug, Write};
@@ -46,13 +46,19 @@ pub(crate) fn ask_elsewhere(world: &mut World, digits: &str) -> Result<String, S
     let mut context = reached(world.alloc, &bytes)?;
     world.asked.clear();
     let mut answer = String::new(world.alloc);
-    for _ in 0..bytes.len() {
+    take_all(world, &mut context, &mut answer)?;
+    with_requests(world, answer)
+}
+
+/// Hands each message of the endpoint to the converter.
+fn take_all(world: &mut World, context: &mut Context, answer: &mut String) -> Result<(), Stop> {
+    for _ in 0..context.unread_len() {
         let Some(pending) = context.pending_request()? else {
             break;
         };
-        take(world, &mut answer, pending)?;
+        take(world, answer, pending)?;
     }
-    with_requests(world, answer)
+    Ok(())
 }
 
 /// Hands a message to the converter, and takes the requests that it makes.

@@ -3,11 +3,11 @@
 use crate::stop::Stop;
 use crate::words::{bytes, number};
 use crate::world::World;
-use ei_backend::{HasBackend, Pieces, Tray};
+use ei_backend::{HasBackend, Pieces, Readings, Tray};
 use ei_handshake::{EisHandshakeResp, EisHandshaker, request_result};
-use ei_request::EisRequestConverter;
+use ei_request::{Connection, EisRequestConverter};
 use ei_server::Context;
-use std::alloc::Global;
+use std::alloc::{AllocError, Global};
 
 /// The most bytes of a piece.
 const PIECE: usize = 65536;
@@ -43,21 +43,28 @@ impl Greeting {
 
     /// Makes the connection, with that serial, and answers what the client told.
     pub(crate) fn connect(&mut self, serial: &str) -> Result<String, Stop> {
-        let mut world = connected(self.alloc, number(serial)?, &self.sent)?;
-        let handle = world.handle();
-        let answer = format!(in self.alloc;
-            "{:?} {:?} {}",
-            handle.context_type(),
-            handle.name(),
-            handle.negotiated().len()
-        )?;
-        world
-            .converter
-            .handle_mut()
-            .flush(&mut Tray::new(self.alloc))?;
-        self.world = Some(world);
-        Ok(answer)
+        self.world = Some(connected(self.alloc, number(serial)?, &self.sent)?);
+        match &mut self.world {
+            Some(world) => told(self.alloc, world.converter.handle_mut()),
+            None => Err(Stop::Line),
+        }
     }
+}
+
+/// What the client told of itself. What the handshake sent goes.
+fn told(alloc: Global, handle: &mut Connection) -> Result<String, Stop> {
+    handle.flush(&mut Tray::new(alloc))?;
+    Ok(greeting_text(alloc, handle)?)
+}
+
+/// What the client told of itself, and how many interfaces both ends have.
+fn greeting_text(alloc: Global, handle: &Connection) -> Result<String, AllocError> {
+    format!(in alloc;
+        "{:?} {:?} {}",
+        handle.context_type(),
+        handle.name(),
+        handle.negotiated().len()
+    )
 }
 
 /// The bytes in pieces.
@@ -79,16 +86,22 @@ pub(crate) fn reached(alloc: Global, bytes: &[u8]) -> Result<Context, Stop> {
     Ok(context)
 }
 
-/// The world behind the handshake of a client that sends these bytes.
+/// The world behind the handshake of a client that sends these bytes. Its clock has no reading.
 fn connected(alloc: Global, serial: u32, sent: &[u8]) -> Result<World, Stop> {
+    let clock = Readings::new(alloc, &[])?;
     let mut context = reached(alloc, sent)?;
+    let resp = greeted(alloc, &mut context, serial)?;
+    let converter = EisRequestConverter::new(alloc, context, resp, serial);
+    Ok(World::new(alloc, converter, clock))
+}
+
+/// What a handshake with that serial answers.
+fn greeted(alloc: Global, context: &mut Context, serial: u32) -> Result<EisHandshakeResp, Stop> {
     if context.handshake().is_none() {
         return Err(Stop::Handshake);
     }
-    let mut handshaker = EisHandshaker::new(alloc, &mut context, serial)?;
-    let resp = shaken(&mut handshaker, &mut context)?;
-    let converter = EisRequestConverter::new(alloc, context, resp, serial);
-    Ok(World::new(alloc, converter)?)
+    let mut handshaker = EisHandshaker::new(alloc, context, serial)?;
+    shaken(&mut handshaker, context)
 }
 
 /// What the handshake answers.

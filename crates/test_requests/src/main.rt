@@ -25,7 +25,15 @@ use std::io::{Input, Print};
 
 fn main(rt: HostRuntime) -> Result<(), Stop> {
     let mut greeting = Greeting::new(rt.alloc());
-    let right = count_right(&rt, &mut greeting)?;
+    show_right(&rt, &mut greeting)
+}
+
+/// Shows how many lines of the table are as they should be.
+fn show_right<R>(rt: &R, greeting: &mut Greeting) -> Result<(), Stop>
+where
+    R: Input + Print + AllocGlobal,
+{
+    let right = count_right(rt, greeting)?;
     println!(rt; "as they should be: {right}")?;
     Ok(())
 }

@@ -17,6 +17,11 @@ pub(crate) fn add_seat(world: &mut World, rest: &str) -> Result<String, Stop> {
     let name = text(world.alloc, name)?;
     let handle = world.converter.handle_mut();
     let seat = handle.add_seat(letters(&name), capabilities(mask)?);
+    keep_seat(world, seat)
+}
+
+/// Keeps the seat, if it was made.
+fn keep_seat(world: &mut World, seat: Result<Seat, SendError>) -> Result<String, Stop> {
     let answer = shown(world.alloc, &seat)?;
     if let Ok(seat) = seat {
         world.seats.push(seat)?;
@@ -141,6 +146,11 @@ pub(crate) fn add_device(world: &mut World, rest: &str) -> Result<String, Stop> 
         return Err(Stop::Line);
     };
     let device = add(world.converter.handle_mut(), seat, &described)?;
+    keep_device(world, device)
+}
+
+/// Keeps the device, if it was made.
+fn keep_device(world: &mut World, device: Result<Device, SendError>) -> Result<String, Stop> {
     let answer = shown(world.alloc, &device)?;
     if let Ok(device) = device {
         world.devices.push(device)?;

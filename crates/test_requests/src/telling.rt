@@ -139,8 +139,13 @@ pub(crate) fn requests(world: &World) -> Result<String, Stop> {
 
 /// Whether the copy of the request equals it.
 fn is_copied(alloc: Global, request: &EisRequest) -> Result<bool, NoMemory> {
-    let copy = request.copy(alloc)?;
-    Ok(copy == *request)
+    is_same(request.copy(alloc), request)
+}
+
+/// Whether the copy equals the value.
+fn is_same<T: Drop + PartialEq>(copy: Result<T, NoMemory>, value: &T) -> Result<bool, NoMemory> {
+    let copy = copy?;
+    Ok(copy == *value)
 }
 
 /// Adds what the request tells as an event.

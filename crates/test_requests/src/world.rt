@@ -5,7 +5,6 @@ use crate::words::{first, place};
 use ei_backend::{HasBackend, Readings, Tray};
 use ei_request::{Connection, Device, EisRequest, EisRequestConverter, Seat};
 use ei_spec::Handle;
-use ei_wire::NoMemory;
 use std::alloc::{AllocError, Global};
 use std::fmt::Write;
 
@@ -22,16 +21,16 @@ pub(crate) struct World {
 }
 
 impl World {
-    /// The world around a fresh converter; its clock has no reading.
-    pub(crate) fn new(alloc: Global, converter: EisRequestConverter) -> Result<World, NoMemory> {
-        Ok(World {
+    /// The world around a fresh converter, with its clock.
+    pub(crate) fn new(alloc: Global, converter: EisRequestConverter, clock: Readings) -> World {
+        World {
             alloc,
             converter,
-            clock: Readings::new(alloc, &[])?,
+            clock,
             seats: Vec::new(alloc),
             devices: Vec::new(alloc),
             asked: Vec::new(alloc),
-        })
+        }
     }
 
     /// The connection, to look at.

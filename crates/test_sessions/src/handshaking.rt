@@ -6,8 +6,9 @@ use ei_backend::{HasBackend, Interface, InterfaceName};
 use ei_handshake::EisHandshaker;
 use ei_server::{Context, Pingpong, Request, pingpong};
 use ei_spec::KnownInterface;
+use ei_types::Error;
 use ei_wire::SendError;
-use std::alloc::Global;
+use std::alloc::{AllocError, Global};
 use test_table::Stop;
 
 /// `pong-in-handshake`: what a handshake answers to a request of ei_pingpong, and how many bytes wait then. In a session
@@ -15,15 +16,28 @@ use test_table::Stop;
 pub(crate) fn pong_in_handshake(alloc: Global) -> Result<String, Stop> {
     let mut context = new_context(alloc)?;
     let mut handshaker = started(alloc, &mut context)?;
-    let Ok(request) = pong(&mut context) else {
+    refused(alloc, &mut handshaker, &mut context)
+}
+
+/// Why the request is refused, and how many bytes wait then.
+fn refused(
+    alloc: Global,
+    handshaker: &mut EisHandshaker,
+    context: &mut Context,
+) -> Result<String, Stop> {
+    let Ok(request) = pong(context) else {
         return Err(Stop::Call);
     };
-    let Err(error) = handshaker.handle_request(&mut context, request) else {
-        return Err(Stop::Call);
-    };
-    let said = error_text(alloc, &error)?;
-    let unsent = context.backend().unsent().len();
-    Ok(format!(in alloc; "{said}; {unsent} bytes")?)
+    match handshaker.handle_request(context, request) {
+        Ok(_) => Err(Stop::Call),
+        Err(error) => Ok(refusal_text(alloc, &error, context)?),
+    }
+}
+
+/// The refusal, and how many bytes wait.
+fn refusal_text(alloc: Global, error: &Error, context: &Context) -> Result<String, AllocError> {
+    let said = error_text(alloc, error)?;
+    format!(in alloc; "{said}; {} bytes", context.backend().unsent().len())
 }
 
 /// A handshake with serial 5.

@@ -30,8 +30,16 @@ pub(crate) fn limits(world: &mut World, rest: &str) -> Result<String, Stop> {
     };
     let parts = copied(world.alloc, &world.parts)?;
     let whole = copied_told(world.alloc, &world.told)?;
-    for cut in ["1", "5", "16", "65536"] {
-        if let Some(said) = wrong_limit(world, marks, &whole, cut, parts.as_str())? {
+    wrong_cut(world, marks, &whole, parts.as_str())
+}
+
+/// The sizes of the pieces.
+const SIZES: [&str; 4] = ["1", "5", "16", "65536"];
+
+/// What is told in the first cut in which it isn't what it should be.
+fn wrong_cut(world: &mut World, marks: Marks, whole: &Told, parts: &str) -> Result<String, Stop> {
+    for cut in &SIZES {
+        if let Some(said) = wrong_limit(world, marks, whole, cut, parts)? {
             return Ok(said);
         }
     }
@@ -71,9 +79,9 @@ fn wrong_limit(
     let bytes = bytes_in(world.alloc, parts)?;
     let size = count(cut)?;
     let come = bytes.div_ceil(size.max(1));
-    for most in [0, 1, come.saturating_sub(1), come, come.saturating_add(1)] {
-        let taken = size.saturating_mul(most);
-        let told = told_at(world, most, cut, parts)?;
+    for most in &[0, 1, come.saturating_sub(1), come, come.saturating_add(1)] {
+        let taken = size.saturating_mul(*most);
+        let told = told_at(world, *most, cut, parts)?;
         if !is_wanted(whole, &told, marks, taken, bytes) {
             let said = format!(in world.alloc; "{most} pieces of {cut}: {told:?}")?;
             return Ok(Some(said));

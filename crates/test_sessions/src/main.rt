@@ -19,11 +19,20 @@ mod turns;
 mod world;
 
 use crate::world::World;
+use std::io::{Input, Print};
 use test_table::{Stop, count_right};
 
 fn main(rt: HostRuntime) -> Result<(), Stop> {
     let mut world = World::new(rt.alloc())?;
-    let right = count_right(&rt, &mut world)?;
+    show_right(&rt, &mut world)
+}
+
+/// Shows how many lines of the table are as they should be.
+fn show_right<R>(rt: &R, world: &mut World) -> Result<(), Stop>
+where
+    R: Input + Print + AllocGlobal,
+{
+    let right = count_right(rt, world)?;
     println!(rt; "as they should be: {right}")?;
     Ok(())
 }

@@ -27,12 +27,13 @@ pub(crate) struct World {
 impl World {
     /// No session yet.
     pub(crate) fn new(alloc: Global) -> Result<World, Stop> {
+        let clock = Readings::new(alloc, &[])?;
         Ok(World {
             alloc,
             parts: String::new(alloc),
             source: Pieces::new(alloc),
             sink: Outlet::new(alloc, 0, 0),
-            clock: Readings::new(alloc, &[])?,
+            clock,
             out: Vec::new(alloc),
             told: nothing_told(alloc),
             session: None,
