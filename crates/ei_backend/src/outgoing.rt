@@ -141,6 +141,21 @@ impl Outgoing {
         ensures sink { LentSinkWants K.faults K.wants K.later (IsErrOf result flush_error.WriteFault) (IsErrOf result flush_error.NoMemory)
             sink.old sink.new }
     {
+        if self.bytes.is_empty() {
+            return Ok(());
+        }
+        self.put_waiting(sink)
+    }
+
+    /// The same, where something waits.
+    #[inline(never)]
+    fn put_waiting<K: Sink>(&mut self, sink: &mut K) -> Result<(), FlushError>
+        ensures stops { StopsAfter self.old.waiting result self.new.waiting }
+        ensures took { (held : Piece) → K.taken sink.old ≡ Some held → Flushes held self.old.waiting result self.new.waiting (K.taken sink.new) }
+        ensures kept { self.new.room ≡ self.old.room }
+        ensures sink { LentSinkWants K.faults K.wants K.later (IsErrOf result flush_error.WriteFault) (IsErrOf result flush_error.NoMemory)
+            sink.old sink.new }
+    {
         let (done, put) = put_all(sink, &self.bytes, &self.handles);
         drop_front(&mut self.bytes, done);
         drop_beside(&mut self.handles, done);

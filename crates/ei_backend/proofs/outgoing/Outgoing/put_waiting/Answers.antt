@@ -1,7 +1,7 @@
 use Rattle.std.proofs.Common.{◌≡◌, ◌≤◌, length, OnOk}
 use Rattle.ei_spec.specs.Piece.{Piece}
 use Rattle.ei_backend.proofs.GoingOut.{stops_after, flushes}
-use Rattle.ei_backend.proofs.outgoing.Outgoing.flush.Goals as goal
+use Rattle.ei_backend.proofs.outgoing.Outgoing.put_waiting.Goals as goal
 
 pub returns-clause-stops : goal.returns-clause-stops
 returns-clause-stops g c =
