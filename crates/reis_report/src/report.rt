@@ -1,7 +1,9 @@
 //! The report: the reply bytes, a line for each request, and how the session ended.
 
-ghost use Rattle.std.specs.Prelude.{◌≡◌, ◌++◌, ℕ, Some, OnOk, OnErr};
-ghost use Rattle.ei_backend.specs.Outside.{Piece, HasPutCause};
+ghost use Rattle.std.specs.Prelude.{◌≡◌, ◌++◌, ℕ, Some, OnOk, OnErr, IsErrOf};
+ghost use Rattle.ei_backend.specs.Lent.{LentSink};
+ghost use Rattle.ei_backend.specs.Outside.{Piece};
+ghost use Rattle.ei_backend.specs.declared.outside.PutError.TheVariants as put_error;
 ghost use Rattle.reis_report.specs.Report.{line_of, reply_line, Writes};
 
 use ei_backend::{PutError, Sink};
@@ -36,8 +38,7 @@ pub fn push_reply_line(alloc: Global, out: &mut Vec<u8>, reply: &[u8]) -> Result
 /// Writes all of the text. After an error a front of it is written.
 pub fn write_all<O: Sink>(output: &mut O, text: &[u8]) -> Result<(), PutError>
     ensures written { (held : Piece) → O.taken output.old ≡ Some held → Writes held text.now result (O.taken output.new) }
-    ensures cause { HasPutCause (O.faults output.old) (O.faults output.new) result }
-    ensures later { O.later output.old output.new }
+    ensures sink { LentSink O.faults O.later (IsErrOf result put_error.Fault) output.old output.new }
 {
     let mut done = 0;
     while done < text.len() {

@@ -2,7 +2,7 @@
 
 ghost use Rattle.std.specs.Prelude.{◌≡◌, ◌≤◌, ◌<◌, ◌⊎◌, ℕ, List, Some, None, IsSome};
 ghost use Rattle.ei_types.specs.Capability.{bits_of, all_bits};
-ghost use Rattle.ei_backend.specs.Lent.{LentSink};
+ghost use Rattle.ei_backend.specs.Lent.{LentSink, LentClock};
 ghost use Rattle.ei_backend.specs.Outside.{Piece, Rose};
 ghost use Rattle.ei_session.specs.Complete.{AreComplete};
 ghost use Rattle.std.specs.Prelude.{Ok};
@@ -76,7 +76,7 @@ fn serve_command<I: Input, O: Sink, C: Clock>(
     ensures served { result ≡ 2 → ⊥ }
     ensures input { LentInput I.faults I.later input.old input.new }
     ensures output { LentSink O.faults O.later (result ≡ 4) output.old output.new }
-    ensures later_clock { C.later clock.old clock.new }
+    ensures clock { LentClock C.later clock.old clock.new }
 {
     let mut reply = Tray::new(alloc);
     let mut requests = Vec::new(alloc);
@@ -98,7 +98,7 @@ fn demo_command<O: Sink, C: Clock>(
     ensures readings { result ≡ 0 →
         LeftReadings demo_setup (demo_session groups start).handled (C.readings clock.old) (C.readings clock.new) }
     ensures output { LentSink O.faults O.later (result ≡ 4) output.old output.new }
-    ensures later_clock { C.later clock.old clock.new }
+    ensures clock { LentClock C.later clock.old clock.new }
 {
     match demo(alloc, groups, start, clock) {
         // the session over the generated stream ends with the disconnect
@@ -161,7 +161,7 @@ pub fn run<I: Input, O: Sink, C: Clock>(
     // the input, the output and the clock: status 4 exactly where the output failed
     ensures input { LentInput I.faults I.later input.old input.new }
     ensures output { LentSink O.faults O.later (result ≡ 4) output.old output.new }
-    ensures later_clock { C.later clock.old clock.new }
+    ensures clock { LentClock C.later clock.old clock.new }
 {
     match Command::from_words(words) {
         Some(Command::Serve(serial, capabilities, pieces)) => {

@@ -2,6 +2,7 @@
 
 ghost use Rattle.std.specs.Prelude.{◌≡◌, ◌≤◌, ℕ, List, Some};
 ghost use Rattle.ei_types.specs.Capability.{bits_of, all_bits};
+ghost use Rattle.ei_backend.specs.Lent.{LentClock};
 ghost use Rattle.ei_backend.specs.Outside.{Rose};
 ghost use Rattle.ei_session.specs.Served.{session};
 ghost use Rattle.ei_serve.specs.Standing.{setup_of};
@@ -68,7 +69,7 @@ pub(crate) fn serve_lines<I: Input, C: Clock>(
     ensures fault { IsReadFault result → Rose (I.faults input.old) (I.faults input.new) }
     ensures bad_line { (n : ℕ) → IsBadLine n result → MetBadLine I.text I.faults I.later input.old input.new n }
     ensures input { LentInput I.faults I.later input.old input.new }
-    ensures later_clock { C.later clock.old clock.new }
+    ensures clock { LentClock C.later clock.old clock.new }
 {
     let held = match Held::new(alloc) {
         Ok(held) => held,
