@@ -1,0 +1,5 @@
+mod BlockValues
+mod Copies
+mod OnSession
+mod SlotValues
+mod Working

@@ -1,0 +1,67 @@
+-- What each call does to the session behind the word.
+use Rattle.std.specs.Prelude.{◌≡◌, ◌≢◌, ℕ, ◌++◌, List, [], ◌∷◌, length, take, drop, map, min, Option, Some, None, is_some}
+use Rattle.ei_spec.specs.Piece.{Piece}
+use Rattle.ei_session.specs.Setup.{Setup}
+use Rattle.ei_backend.specs.Outside.{with_more}
+use Rattle.ei_request.specs.declared.event.EisRequest.{EisRequest}
+use Rattle.reis_server.specs.Fed.{Fed, fed_of}
+use Rattle.reis_server.specs.Serving.{IsServing, nothing, IsInputEnd, IsNoInputEnd, feed_answer, end_answer, unsent_after}
+use Rattle.reis_c.specs.Answers.{answer_number}
+use Rattle.reis_c.specs.Flat.{flat}
+use Rattle.reis_c.specs.Handles.{handle_of, number_of}
+use Rattle.reis_c.specs.declared.flat.ReisRequest.{ReisRequest}
+use Rattle.reis_c.specs.declared.held.Held.{Held}
+use Rattle.reis_c.specs.declared.numbers.TheConstants.{OK, NO_SESSION, NOTHING}
+
+-- A call works on the session that is there, and leaves one; where there is none it answers so, and leaves none.
+abbrev pub OnSession : Option Held → ℕ → Option Held → (Held → Held → Type 0) → Type 0
+OnSession None answer None Works = answer ≡ NO_SESSION
+OnSession (Some old) answer (Some new) Works = Works old new
+OnSession old answer new Works = ⊥
+
+-- it was started with the setup: nothing was fed to it, nothing taken from it, and it goes on
+pub record IsStarted (setup : Setup) (held : Held) : Type 0 where
+  pub serves : IsServing setup [] nothing [] held.server
+  pub goes_on : held.server.answer ≡ None
+  pub none_handed : held.last ≡ None
+
+-- It takes a piece, or answers why not and is as it was. What was handed out last stays.
+pub record Feeds (bytes handles : List ℕ) (time answer : ℕ) (old new : Held) : Type 0 where
+  pub answers : answer ≡ answer_number (feed_answer (is_some old.server.answer) (length bytes) (length handles))
+  pub kept : answer ≢ OK → new ≡ old
+  pub serves : answer ≡ OK → (setup : Setup) (fed : List Fed) (sent : Piece) (given : List EisRequest) →
+      IsServing setup fed sent given old.server → IsServing setup (fed_of bytes (map handle_of handles) time ∷ fed) sent given new.server
+  pub no_end : answer ≡ OK → IsNoInputEnd new.server.answer
+  pub last : new.last ≡ old.last
+
+-- It takes the end of the input, or answers that it is over and is as it was.
+pub record TakesEnd (answer : ℕ) (old new : Held) : Type 0 where
+  pub answers : answer ≡ answer_number (end_answer (is_some old.server.answer))
+  pub kept : answer ≢ OK → new ≡ old
+  pub serves : answer ≡ OK → (setup : Setup) (fed : List Fed) (sent : Piece) (given : List EisRequest) →
+      IsServing setup fed sent given old.server → IsServing setup fed sent given new.server
+  pub ends : answer ≡ OK → IsInputEnd new.server.answer
+  pub last : new.last ≡ old.last
+
+-- It writes into the room the first bytes and handles that wait, as many as there is room for. They wait no more, and all else
+-- stays: they were taken.
+pub record HandsReplies (room handle_room : List ℕ) (count handle_count : ℕ) (bytes handles : List ℕ) (old new : Held) : Type 0 where
+  pub counted : count ≡ min (length old.server.unsent.bytes) (length room)
+  pub handles_counted : handle_count ≡ min (length old.server.unsent.handles) (length handle_room)
+  pub bytes_written : bytes ≡ take count old.server.unsent.bytes ++ drop count room
+  pub handles_written : handles ≡ map number_of (take handle_count old.server.unsent.handles) ++ drop handle_count handle_room
+  pub wait : new ≡ record old { server = record old.server { unsent = unsent_after count handle_count old.server.unsent } }
+  pub serves : (setup : Setup) (fed : List Fed) (sent : Piece) (given : List EisRequest) → IsServing setup fed sent given old.server →
+      IsServing setup fed (with_more (take count old.server.unsent.bytes) (take handle_count old.server.unsent.handles) sent) given new.server
+
+-- the first of these requests is written, waits no more and is the last one; or there is none, and all is as it was
+abbrev pub WritesFirst : List EisRequest → ReisRequest → ℕ → ReisRequest → Held → Held → Type 0
+WritesFirst [] room answer request old new = (answer ≡ NOTHING) × (request ≡ room) × (new ≡ old)
+WritesFirst (r ∷ rest) room answer request old new =
+    (answer ≡ OK) × (request ≡ flat r) × (new ≡ record { server = record old.server { requests = rest }; last = Some r })
+
+-- It hands out the next request: that was taken.
+pub record HandsRequest (room : ReisRequest) (answer : ℕ) (request : ReisRequest) (old new : Held) : Type 0 where
+  pub next : WritesFirst old.server.requests room answer request old new
+  pub serves : (setup : Setup) (fed : List Fed) (sent : Piece) (given : List EisRequest) → IsServing setup fed sent given old.server →
+      IsServing setup fed sent (given ++ take 1 old.server.requests) new.server

@@ -1,0 +1,223 @@
+//! What C calls. No call requires anything: what is wrong is answered.
+
+ghost use Rattle.std.specs.Prelude.{◌≡◌, ◌≢◌, ◌<◌, ◌≤◌, ◌⊎◌, ◌↔◌, IsSome, is_some, if◌then◌else◌, None, Some};
+ghost use Rattle.std.specs.Option.{option_and_then};
+ghost use Rattle.ei_types.specs.Capability.{all_bits};
+ghost use Rattle.reis_c.specs.Answers.{Writes};
+ghost use Rattle.reis_c.specs.Calls.{OnSession, IsStarted, Feeds, TakesEnd, HandsReplies, HandsRequest};
+ghost use Rattle.reis_c.specs.Ending.{end_number, end_text};
+ghost use Rattle.reis_c.specs.Flat.{text_in};
+ghost use Rattle.reis_c.specs.declared.held.Held.{Held};
+
+use crate::ending::end_number;
+use crate::flat::{ReisRequest, text_in};
+use crate::held::Held;
+use crate::numbers::{CAPABILITIES, HAS_SESSION, NO_MEMORY, NO_SESSION, NOTHING, OK};
+use crate::slot::ReisSession;
+use crate::writing::write_text;
+use ei_serve::Setup;
+use ei_types::{DeviceCapabilities, Error};
+use std::alloc::Global;
+
+/// Starts a session where there is none.
+///
+/// `HAS_SESSION` where there is one; `CAPABILITIES` where a bit stands for none; `NO_MEMORY`.
+#[unsafe(no_mangle)]
+pub extern "C" fn reis_c_start(
+    alloc: Global,
+    session: &mut ReisSession,
+    serial: u32,
+    capabilities: u64,
+    pieces: u32,
+) -> u32
+    ensures started { result ≡ OK → (held : Held) × (session.new.held ≡ Some held)
+        × IsStarted (record { serial = serial; capabilities = capabilities; pieces = pieces }) held }
+    ensures kept { result ≢ OK → session.new.held ≡ session.old.held }
+    // which answer it is
+    ensures there { (result ≡ HAS_SESSION) ↔ IsSome session.old.held }
+    ensures lawless { (result ≡ CAPABILITIES) ↔ ((session.old.held ≡ None) × (all_bits < capabilities)) }
+    ensures which { (result ≡ OK) ⊎ (result ≡ NO_MEMORY) ⊎ (result ≡ HAS_SESSION) ⊎ (result ≡ CAPABILITIES) }
+{
+    if let Some(held) = session.take(alloc) {
+        session.put(held);
+        return HAS_SESSION;
+    }
+    let Some(capabilities) = DeviceCapabilities::from_bits(capabilities) else {
+        return CAPABILITIES;
+    };
+    let setup = Setup {
+        initial_serial: serial,
+        capabilities,
+        pieces,
+    };
+    match Held::start(alloc, setup) {
+        Some(held) => {
+            session.put(held);
+            OK
+        }
+        None => NO_MEMORY,
+    }
+}
+
+/// Hands in a piece that came from the client, and the time in microseconds.
+///
+/// `NO_SESSION`; what `Server::feed` answers.
+#[unsafe(no_mangle)]
+pub extern "C" fn reis_c_feed(
+    alloc: Global,
+    session: &mut ReisSession,
+    bytes: &[u8],
+    handles: &[u32],
+    time: u64,
+) -> u32
+    ensures { OnSession session.old.held result session.new.held (Feeds bytes.now handles.now time result) }
+{
+    let Some(mut held) = session.take(alloc) else {
+        return NO_SESSION;
+    };
+    let answer = held.feed(bytes, handles, time);
+    session.put(held);
+    answer
+}
+
+/// Says that no more comes from the client.
+///
+/// `NO_SESSION`; what `Server::end_of_input` answers.
+#[unsafe(no_mangle)]
+pub extern "C" fn reis_c_end_of_input(alloc: Global, session: &mut ReisSession) -> u32
+    ensures { OnSession session.old.held result session.new.held (TakesEnd result) }
+{
+    let Some(mut held) = session.take(alloc) else {
+        return NO_SESSION;
+    };
+    let answer = held.end_of_input();
+    session.put(held);
+    answer
+}
+
+/// Hands out the replies that wait, as many as there is room for, and tells how many bytes and handles these are.
+///
+/// `NO_SESSION`.
+#[unsafe(no_mangle)]
+pub extern "C" fn reis_c_replies(
+    alloc: Global,
+    session: &mut ReisSession,
+    bytes: &mut [u8],
+    handles: &mut [u32],
+    count: &mut usize,
+    handle_count: &mut usize,
+) -> u32
+    ensures handed { OnSession session.old.held result session.new.held (λ old new. (result ≡ OK)
+        × HandsReplies bytes.old handles.old count.new handle_count.new bytes.new handles.new old new) }
+    ensures none { result ≢ OK → (count.new ≡ 0) × (handle_count.new ≡ 0) × (bytes.new ≡ bytes.old) × (handles.new ≡ handles.old) }
+{
+    let Some(mut held) = session.take(alloc) else {
+        *count = 0;
+        *handle_count = 0;
+        return NO_SESSION;
+    };
+    let (bytes_taken, handles_taken) = held.replies(bytes, handles);
+    *count = bytes_taken;
+    *handle_count = handles_taken;
+    session.put(held);
+    OK
+}
+
+/// Hands out the next request.
+///
+/// `NO_SESSION`; `NOTHING` where there is none.
+#[unsafe(no_mangle)]
+pub extern "C" fn reis_c_next_request(
+    alloc: Global,
+    session: &mut ReisSession,
+    request: &mut ReisRequest,
+) -> u32
+    ensures handed { OnSession session.old.held result session.new.held (HandsRequest request.old result request.new) }
+    ensures none { result ≢ OK → request.new ≡ request.old }
+{
+    let Some(mut held) = session.take(alloc) else {
+        return NO_SESSION;
+    };
+    let answer = held.next_request(request);
+    session.put(held);
+    answer
+}
+
+/// Writes the text of the request that was handed out last, and its length.
+///
+/// `NO_SESSION`; `NOTHING` where it has none, or none was handed out; `NO_ROOM` where it is longer than the room.
+#[unsafe(no_mangle)]
+pub extern "C" fn reis_c_request_text(
+    alloc: Global,
+    session: &mut ReisSession,
+    text: &mut [u8],
+    length: &mut usize,
+) -> u32
+    ensures written { OnSession session.old.held result session.new.held (λ old new. (new ≡ old)
+        × Writes (option_and_then text_in old.last) text.old result length.new text.new) }
+    ensures none { result ≡ NO_SESSION → (length.new ≡ 0) × (text.new ≡ text.old) }
+{
+    *length = 0;
+    let Some(held) = session.take(alloc) else {
+        return NO_SESSION;
+    };
+    let answer = held.request_text(text, length);
+    session.put(held);
+    answer
+}
+
+/// Tells how the session ended.
+///
+/// `NO_SESSION`.
+#[unsafe(no_mangle)]
+pub extern "C" fn reis_c_end(alloc: Global, session: &mut ReisSession, end: &mut u32) -> u32
+    ensures told { OnSession session.old.held result session.new.held (λ old new. (new ≡ old) × (result ≡ OK)
+        × (end.new ≡ end_number old.server.answer)) }
+    ensures none { result ≢ OK → end.new ≡ end_number None }
+{
+    let Some(held) = session.take(alloc) else {
+        *end = end_number(None);
+        return NO_SESSION;
+    };
+    *end = end_number(held.server.answer());
+    session.put(held);
+    OK
+}
+
+/// Writes the text of the error that ended the session, and its length.
+///
+/// `NO_SESSION`; `NOTHING` where no error ended it; `NO_ROOM` where it is longer than the room; `NO_MEMORY`.
+#[unsafe(no_mangle)]
+pub extern "C" fn reis_c_end_text(
+    alloc: Global,
+    session: &mut ReisSession,
+    text: &mut [u8],
+    length: &mut usize,
+) -> u32
+    ensures written { OnSession session.old.held result session.new.held (λ old new. (new ≡ old)
+        × (result ≡ NO_MEMORY → IsSome (end_text old.server.answer))
+        × (result ≢ NO_MEMORY → Writes (end_text old.server.answer) text.old result length.new text.new)) }
+    ensures none { (result ≡ NO_SESSION) ⊎ (result ≡ NO_MEMORY) → (length.new ≡ 0) × (text.new ≡ text.old) }
+{
+    *length = 0;
+    let Some(held) = session.take(alloc) else {
+        return NO_SESSION;
+    };
+    let answer = held.end_text(alloc, text, length);
+    session.put(held);
+    answer
+}
+
+/// Frees a session: there is none behind it.
+///
+/// `NO_SESSION`.
+#[unsafe(no_mangle)]
+pub extern "C" fn reis_c_free(alloc: Global, session: &mut ReisSession) -> u32
+    ensures answer { result ≡ (if is_some session.old.held then OK else NO_SESSION) }
+    ensures none { session.new.held ≡ None }
+{
+    match session.take(alloc) {
+        Some(_) => OK,
+        None => NO_SESSION,
+    }
+}

@@ -1,0 +1,197 @@
+//! A request as C reads it.
+
+ghost use Rattle.std.specs.Prelude.{◌≡◌, [], ◌∷◌};
+ghost use Rattle.std.specs.Option.{option_copied};
+ghost use Rattle.std.specs.Int.{cast_unsigned, w32};
+ghost use Rattle.ei_types.specs.Enums.{button_state_number, key_state_number};
+ghost use Rattle.reis_c.specs.Flat.{of_device, of_seat, flat, text_in, truth};
+
+use crate::numbers as kind;
+use ei_backend::Interface;
+use ei_request::{Device, EisRequest, Seat};
+use ei_types::DeviceCapabilities;
+use ei_wire::RawFloat;
+
+/// A request, flat. The header says which fields each kind has; the others are 0.
+#[repr(C)]
+#[derive(Clone, Copy)]
+pub struct ReisRequest {
+    /// Which request it is.
+    pub kind: u32,
+    /// The id of the seat, or 0.
+    pub seat: u64,
+    /// The id of the device, or 0.
+    pub device: u64,
+    /// The time in microseconds, or 0.
+    pub time: u64,
+    /// What else it says.
+    pub fields: [u64; 4],
+}
+
+/// A request to a seat.
+fn of_seat(kind: u32, seat: &Seat, capabilities: &DeviceCapabilities) -> ReisRequest
+    ensures { result ≡ of_seat kind seat.now capabilities.now }
+{
+    ReisRequest {
+        kind,
+        seat: seat.eis_seat().as_object().id(),
+        device: 0,
+        time: 0,
+        fields: [capabilities.bits(), 0, 0, 0],
+    }
+}
+
+/// A request to a device. It has no time where that is 0.
+fn of_device(kind: u32, device: &Device, time: u64, fields: [u64; 4]) -> ReisRequest
+    ensures { result ≡ of_device kind device.now time fields }
+{
+    ReisRequest {
+        kind,
+        seat: device.seat().eis_seat().as_object().id(),
+        device: device.device().as_object().id(),
+        time,
+        fields,
+    }
+}
+
+/// An input that is a distance or a position.
+fn point(kind: u32, device: &Device, time: u64, x: RawFloat, y: RawFloat) -> ReisRequest
+    ensures { result ≡ of_device kind device.now time (x.0 ∷ y.0 ∷ 0 ∷ 0 ∷ []) }
+{
+    of_device(kind, device, time, [u64::from(x.0), u64::from(y.0), 0, 0])
+}
+
+/// An input that stops scrolling on some axes.
+fn axes(kind: u32, device: &Device, time: u64, x: bool, y: bool) -> ReisRequest
+    ensures { result ≡ of_device kind device.now time (truth x ∷ truth y ∷ 0 ∷ 0 ∷ []) }
+{
+    of_device(kind, device, time, [truth(x), truth(y), 0, 0])
+}
+
+/// An input that says that a number goes down or up, or that bears one number alone.
+fn change(kind: u32, device: &Device, time: u64, number: u32, state: u32) -> ReisRequest
+    ensures { result ≡ of_device kind device.now time (number ∷ state ∷ 0 ∷ 0 ∷ []) }
+{
+    of_device(
+        kind,
+        device,
+        time,
+        [u64::from(number), u64::from(state), 0, 0],
+    )
+}
+
+/// A touch at a place.
+fn touch(kind: u32, device: &Device, time: u64, id: u32, x: RawFloat, y: RawFloat) -> ReisRequest
+    ensures { result ≡ of_device kind device.now time (id ∷ x.0 ∷ y.0 ∷ 0 ∷ []) }
+{
+    let fields = [u64::from(id), u64::from(x.0), u64::from(y.0), 0];
+    of_device(kind, device, time, fields)
+}
+
+/// 1 where it is so.
+fn truth(is: bool) -> u64
+    ensures { result ≡ truth is }
+{
+    if is { 1 } else { 0 }
+}
+
+/// The request as C reads it.
+pub(crate) fn flat(request: &EisRequest) -> ReisRequest
+    ensures { result ≡ flat request.now }
+{
+    match request {
+        EisRequest::Disconnect => ReisRequest {
+            kind: kind::DISCONNECT,
+            seat: 0,
+            device: 0,
+            time: 0,
+            fields: [0, 0, 0, 0],
+        },
+        EisRequest::Bind(r) => of_seat(kind::BIND, &r.seat, &r.capabilities),
+        EisRequest::DeviceClosed(r) => change(kind::DEVICE_CLOSED, &r.device, 0, 0, 0),
+        EisRequest::RequestDevice(r) => of_seat(kind::REQUEST_DEVICE, &r.seat, &r.capabilities),
+        EisRequest::Frame(r) => change(kind::FRAME, &r.device, r.time, r.last_serial, 0),
+        EisRequest::Ready(r) => change(kind::READY, &r.device, 0, 0, 0),
+        EisRequest::DeviceStartEmulating(r) => change(
+            kind::START_EMULATING,
+            &r.device,
+            0,
+            r.last_serial,
+            r.sequence,
+        ),
+        EisRequest::DeviceStopEmulating(r) => {
+            change(kind::STOP_EMULATING, &r.device, 0, r.last_serial, 0)
+        }
+        EisRequest::PointerMotion(r) => point(kind::POINTER_MOTION, &r.device, r.time, r.dx, r.dy),
+        EisRequest::PointerMotionAbsolute(r) => point(
+            kind::POINTER_MOTION_ABSOLUTE,
+            &r.device,
+            r.time,
+            r.dx_absolute,
+            r.dy_absolute,
+        ),
+        EisRequest::Button(r) => change(
+            kind::BUTTON,
+            &r.device,
+            r.time,
+            r.button,
+            u32::from(r.state),
+        ),
+        EisRequest::ScrollDelta(r) => point(kind::SCROLL_DELTA, &r.device, r.time, r.dx, r.dy),
+        EisRequest::ScrollStop(r) => axes(kind::SCROLL_STOP, &r.device, r.time, r.x, r.y),
+        EisRequest::ScrollCancel(r) => axes(kind::SCROLL_CANCEL, &r.device, r.time, r.x, r.y),
+        EisRequest::ScrollDiscrete(r) => change(
+            kind::SCROLL_DISCRETE,
+            &r.device,
+            r.time,
+            r.discrete_dx.cast_unsigned(),
+            r.discrete_dy.cast_unsigned(),
+        ),
+        EisRequest::KeyboardKey(r) => change(
+            kind::KEY,
+            &r.device,
+            r.time,
+            r.key,
+            u32::from(r.state),
+        ),
+        EisRequest::TouchDown(r) => touch(
+            kind::TOUCH_DOWN,
+            &r.device,
+            r.time,
+            r.touch_id,
+            r.x,
+            r.y,
+        ),
+        EisRequest::TouchMotion(r) => touch(
+            kind::TOUCH_MOTION,
+            &r.device,
+            r.time,
+            r.touch_id,
+            r.x,
+            r.y,
+        ),
+        EisRequest::TouchUp(r) => change(kind::TOUCH_UP, &r.device, r.time, r.touch_id, 0),
+        EisRequest::TouchCancel(r) => change(kind::TOUCH_CANCEL, &r.device, r.time, r.touch_id, 0),
+        EisRequest::TextKeysym(r) => change(
+            kind::TEXT_KEYSYM,
+            &r.device,
+            r.time,
+            r.keysym,
+            u32::from(r.state),
+        ),
+        EisRequest::TextUtf8(r) => {
+            let length = r.text.len() as u64;
+            of_device(kind::TEXT_UTF8, &r.device, r.time, [length, 0, 0, 0])
+        }
+    }
+}
+
+/// The text that a request bears.
+pub(crate) fn text_in(request: &EisRequest) -> Option<&str>
+    ensures { option_copied result ≡ text_in request.now }
+{
+    match request {
+        EisRequest::TextUtf8(r) => Some(r.text.as_str()),
+        _ => None,
+    }
+}

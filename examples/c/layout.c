@@ -1,0 +1,20 @@
+/* Sizes and offsets of what crosses the border, as the library has them. Nothing runs here: it is compiled. */
+#include "reis_c.h"
+
+_Static_assert(sizeof(void *) == 8, "a word has 8 bytes");
+_Static_assert(sizeof(size_t) == 8, "a count has 8 bytes");
+
+_Static_assert(sizeof(reis_session) == 8, "a session is one word");
+_Static_assert(_Alignof(reis_session) == 8, "which stands where a word may");
+_Static_assert(offsetof(reis_session, at) == 0, "at its beginning");
+
+_Static_assert(sizeof(reis_request) == 64, "a request has 64 bytes");
+_Static_assert(_Alignof(reis_request) == 8, "and stands where a word may");
+_Static_assert(offsetof(reis_request, kind) == 0, "the kind, and four bytes that count nothing");
+_Static_assert(offsetof(reis_request, seat) == 8, "the seat");
+_Static_assert(offsetof(reis_request, device) == 16, "the device");
+_Static_assert(offsetof(reis_request, time) == 24, "the time");
+_Static_assert(offsetof(reis_request, fields) == 32, "the fields");
+_Static_assert(sizeof(((reis_request *)0)->fields) == 32, "four of them");
+
+_Static_assert(sizeof(float) == 4, "a distance has 4 bytes");
