@@ -14,6 +14,7 @@ use crate::writing::{copy_bytes, copy_handles, copy_numbers, write_text};
 use ei_request::EisRequest;
 use ei_serve::Setup;
 use ei_spec::Handle;
+use ei_spec::limits::MOST_PIECE_HANDLES;
 use reis_server::Server;
 use std::alloc::Global;
 use std::mem;
@@ -33,7 +34,7 @@ fn keep(last: &mut Option<EisRequest>, next: EisRequest)
 }
 
 /// Room for one handle more than a piece may have.
-const HANDLE_ROOM: usize = 65;
+const HANDLE_ROOM: usize = MOST_PIECE_HANDLES + 1;
 
 impl Held {
     ghost use Rattle.reis_c.specs.Calls.{IsStarted, Feeds, TakesEnd, HandsReplies, HandsRequest};
