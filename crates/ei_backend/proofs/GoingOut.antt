@@ -1,6 +1,6 @@
 -- Bytes and handles that go out, a part after another.
 use Rattle.std.proofs.Common.{◌≡◌, ◌<◌, ◌≤◌, ℕ, ◌+◌, zero, suc, List, [], ◌∷◌, ◌++◌, take, drop, length}
-use Rattle.std.proofs.Common.{Option, Some, Result, Ok, Err, OnOk, refl, ap, sym, ◌∙◌, append_assoc, arith, length-append}
+use Rattle.std.proofs.Common.{Option, Some, Result, Ok, Err, OnOk, OnErr, refl, ap, sym, ◌∙◌, append_assoc, arith, length-append}
 use Rattle.std.proofs.lemmas.List.{append-nil}
 use Rattle.std.proofs.Math.Seq.{take-add}
 use Rattle.ei_spec.specs.declared.handle.Handle.{Handle}
@@ -73,6 +73,12 @@ has_header m = omega (arith, length-append (le8 m.id ++ (le4 (size m) ++ le4 m.o
 
 pub message_waits : (before now : List ℕ) (m : Raw) (handles : List Handle) → now ≡ before ++ bytes_of m → HasBytes now handles
 message_waits before now m handles e = λ none. absurd (omega (arith, has_header m, length-append before (bytes_of m), ap (λ (l : List ℕ). length l) e, none))
+
+-- where a message was written behind the bytes, or nothing was
+pub message_waits_if : {E : Type 0} (result : Result (Unit {0}) E) (before now : List ℕ) (m : Raw) (held handles : List Handle) →
+    OnOk result (now ≡ before ++ bytes_of m) → OnErr result (now ≡ before) → OnErr result (handles ≡ held) → HasBytes before held → HasBytes now handles
+message_waits_if (Ok u) before now m held handles e same kept has = message_waits before now m handles e
+message_waits_if (Err x) before now m held handles e same kept has = λ none. kept ∙ has (ap (λ (l : List ℕ). length l) (sym same) ∙ none)
 
 pub message_length : (m : Raw) → length (bytes_of m) ≡ size m
 unfolding bytes_of header

@@ -2,8 +2,10 @@ pub mod Objects
 pub mod Equal
 pub mod OwnAndPeer
 pub mod GivenOnce
+pub mod GivenParts
 pub mod FirstObject
 pub mod Sending
+pub mod InWords
 pub mod GoingOut
 pub mod ComingIn
 pub mod Shorter

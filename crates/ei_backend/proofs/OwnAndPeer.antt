@@ -1,6 +1,6 @@
 -- The two vectors of a table: where an id is looked up, and what an object that comes or goes changes.
 use Rattle.std.proofs.Common.{◌≡◌, ◌≤◌, ◌<◌, ◌+◌, ◌^◌, inl, inr, eqb, ltb, leb, Ok, arith, ℕ, Bool, true}
-use Rattle.std.proofs.Common.{false, cond, List, [], ◌∷◌, ◌++◌, Option, Some, None, refl, sym, ap, ◌∙◌, append_assoc}
+use Rattle.std.proofs.Common.{false, cond, List, [], ◌∷◌, ◌++◌, Option, Some, None, IfSome, Bor, refl, sym, ap, ◌∙◌, append_assoc}
 use Rattle.std.specs.Option.{option_or}
 use Rattle.std.specs.Ordering.{nat_cmp}
 use Rattle.std.specs.FinMap.{FinMap, get, insert, remove}
@@ -9,9 +9,9 @@ use Rattle.std.proofs.lemmas.Bool.Decides.{nat_tests, eqb_tells}
 use Rattle.std.proofs.lemmas.List.{append-nil}
 use Rattle.ei_spec.specs.Interface.{Interface, ObjectView}
 use Rattle.ei_backend.specs.Table.{TableView, RiseWithin, Rise, by_id, is_own, own_end, peer_end, table_of, StandsInVectors}
-use Rattle.ei_backend.specs.Table.{first_server_id, first_object, own_start, own_limit, accept, own, with_own, without}
+use Rattle.ei_backend.specs.Table.{first_server_id, first_object, own_start, own_limit, accept, found, own, with_own, without}
 use Rattle.ei_backend.proofs.Objects.{at, get_at, range_le, widened, below_range, above_range, same_objects, get_with, get_without}
-use Rattle.ei_backend.proofs.FirstObject.{first_kept, first_left, first_there}
+use Rattle.ei_backend.proofs.FirstObject.{first_kept, first_left, first_there, first_found}
 
 at_both : (xs ys : List ObjectView) (q : ℕ) → at q (xs ++ ys) ≡ option_or (at q xs) (at q ys)
 at_both [] ys q = refl
@@ -47,6 +47,33 @@ module _ (t : TableView) (own peer : List ObjectView) (len places : ℕ) (h : St
 
   pub found_peer : (q : ℕ) → is_own t.client q ≡ false → get (by_id peer) q ≡ get (by_id (own ++ peer)) q
   found_peer q is = get_at peer q ∙ sym (get_at (own ++ peer) q ∙ at_both own peer q ∙ ap (λ (x : Option ObjectView). option_or x (at q peer)) (none_in_own q is))
+
+  -- an object that stands in one of the two vectors is that of its id
+  pub held_own : (q : ℕ) (o : ObjectView) → Some o ≡ get (by_id own) q → Some o ≡ get (by_id (own ++ peer)) q
+  held_own q o is = elim (is_own t.client q) as (λ b. is_own t.client q ≡ b → Some o ≡ get (by_id (own ++ peer)) q) [
+    | true ↦ λ e. is ∙ found_own q e
+    | false ↦ λ e. let none = is ∙ get_at own q ∙ none_in_own q e in cc
+  ] refl
+
+  pub held_peer : (q : ℕ) (o : ObjectView) → Some o ≡ get (by_id peer) q → Some o ≡ get (by_id (own ++ peer)) q
+  held_peer q o is = elim (is_own t.client q) as (λ b. is_own t.client q ≡ b → Some o ≡ get (by_id (own ++ peer)) q) [
+    | true ↦ λ e. let none = is ∙ get_at peer q ∙ none_in_peer q e in cc
+    | false ↦ λ e. is ∙ found_peer q e
+  ] refl
+
+  -- the same of a look-up that may find nothing
+  pub if_own : (q : ℕ) (r : Option (Bor ObjectView)) → IfSome r (λ o. Some o.now ≡ get (by_id own) q) → IfSome r (λ o. Some o.now ≡ get (by_id (own ++ peer)) q)
+  if_own q None is = tt
+  if_own q (Some o) is = held_own q o.now is
+
+  pub if_peer : (q : ℕ) (r : Option (Bor ObjectView)) → IfSome r (λ o. Some o.now ≡ get (by_id peer) q) → IfSome r (λ o. Some o.now ≡ get (by_id (own ++ peer)) q)
+  if_peer q None is = tt
+  if_peer q (Some o) is = held_peer q o.now is
+
+  -- what is found at 0 is the first object
+  pub if_first : (q : ℕ) (r : Option (Bor ObjectView)) → IfSome r (λ o. Some o.now ≡ found t q) → q ≡ 0 → IfSome r (λ o. o.now ≡ first_object t.client)
+  if_first q None is zero = tt
+  if_first q (Some o) is zero = first_found t q (Some o) h.first is zero
 
   pub own_ordered : Rise own
   own_ordered = widened own _ t.next_own 0 (2 ^ 64) h.own_rises (omega arith) (elim t.client as (λ b. t.next_own ≤ cond b first_server_id 18446744073709551615 → t.next_own ≤ 2 ^ 64) [ true ↦ λ e. omega arith | false ↦ λ e. omega arith ] h.own_ends)

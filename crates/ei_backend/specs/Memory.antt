@@ -24,12 +24,14 @@ pub record TrayView : Type 0 where
   pub faults : ℕ
   pub wants : ℕ
 
--- an input: the text left, the calls that fail, the calls and faults so far
+-- an input: the text left, the bytes given, the calls that fail, the calls and faults so far, the last answer
 pub record TextView : Type 0 where
   pub left : List ℕ
+  pub given : List ℕ
   pub fails : List ℕ
   pub calls : ℕ
   pub faults : ℕ
+  pub last : LastAnswer
 
 -- a clock: the readings left
 pub record ReadingsView : Type 0 where

@@ -1,6 +1,6 @@
 -- What the calls of a source, a sink, an input and a clock do.
-use Rattle.std.specs.Prelude.{◌≡◌, ◌<◌, ◌≤◌, ℕ, zero, suc, ◌+◌, ◌-◌, ◌^◌, min, List, [], ◌++◌, length, take, drop, slice_get, slice_index, Option, Some, Result}
-use Rattle.std.specs.Prelude.{Ok, Err, OnOk, OnErr, IsErrOf}
+use Rattle.std.specs.Prelude.{◌≡◌, ◌<◌, ◌≤◌, ℕ, zero, suc, ◌+◌, ◌-◌, ◌^◌, min, Bool, true, false, List, [], ◌++◌, length, take, drop, slice_get, slice_index}
+use Rattle.std.specs.Prelude.{Option, Some, Result, Ok, Err, OnOk, OnErr, IsErrOf}
 pub use Rattle.ei_spec.specs.Piece.{Piece}
 use Rattle.ei_spec.specs.declared.handle.Handle.{Handle}
 use Rattle.ei_backend.specs.declared.outside.Fault.{Fault}
@@ -52,7 +52,7 @@ abbrev pub TakesTold : Option (List Piece) → Option (List Piece) → Result Ta
 TakesTold old new (Ok taken) bytes handles = (pieces : List Piece) → old ≡ Some pieces → HandsOut pieces new taken bytes handles
 TakesTold old new (Err e) bytes handles = (pieces : List Piece) → old ≡ Some pieces → new ≡ Some pieces
 
--- what so many bytes mean to a source
+-- what so many bytes mean to a source or an input
 abbrev pub answer_at : ℕ → LastAnswer
 answer_at zero = answers.End
 answer_at (suc n) = answers.Piece
@@ -87,6 +87,21 @@ pub record ReadsOn (text : List ℕ) (new : Option (List ℕ)) (n : ℕ) (bytes 
 abbrev pub Fetches : Option (List ℕ) → Option (List ℕ) → Result ℕ Fault → List ℕ → Type 0
 Fetches old new (Ok n) bytes = (text : List ℕ) → old ≡ Some text → ReadsOn text new n bytes
 Fetches old new (Err e) bytes = (text : List ℕ) → old ≡ Some text → new ≡ Some text
+
+-- told or not, an input has given what it gave before, and then the first n bytes; a fault gives none
+abbrev pub Gives : List ℕ → List ℕ → Result ℕ Fault → List ℕ → Type 0
+Gives old new (Ok n) bytes = new ≡ old ++ take n bytes
+Gives old new (Err e) bytes = new ≡ old
+
+-- the answer that an input keeps after a fetch
+abbrev pub last_fetched : Result ℕ Fault → LastAnswer
+last_fetched (Err e) = answers.Fault
+last_fetched (Ok n) = answer_at n
+
+-- whether the last answer was the end
+abbrev pub is_end : LastAnswer → Bool
+is_end answers.End = true
+is_end answer = false
 
 -- the first reading, or 0 behind the last
 pub record ReadsClock (readings : List ℕ) (new : Option (List ℕ)) (reading : ℕ) : Type 0 where

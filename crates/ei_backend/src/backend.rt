@@ -11,10 +11,10 @@ ghost use Rattle.ei_wire.specs.declared.error.ReadError.TheVariants as read_erro
 ghost use Rattle.ei_wire.specs.declared.error.FlushError.TheVariants as flush_error;
 ghost use Rattle.ei_backend.specs.declared.outside.LastAnswer.TheVariants as answers;
 ghost use Rattle.ei_backend.specs.Object.{interface_view, HasFixedName};
-ghost use Rattle.ei_backend.specs.Table.{Announced, new_table, first_object, first_server_id, found, accept, own, own_end, own_start, own_limit, with_own};
+ghost use Rattle.ei_backend.specs.Table.{Announced, new_table, first_object, first_server_id, found, accept, own, own_end, own_start, own_limit};
 ghost use Rattle.ei_backend.specs.Outside.{Piece};
 ghost use Rattle.ei_backend.specs.Lent.{LentSource, LentSinkWants};
-ghost use Rattle.ei_backend.specs.Outgoing.{StopsAfter, Flushes, HasRoomFor, with_message};
+ghost use Rattle.ei_backend.specs.Outgoing.{StopsAfter, Flushes, HasRoomFor};
 ghost use Rattle.ei_backend.specs.Backend.{new_backend, ReadsOn, ReadsPiece, next, Answers, Brings, Shortens, sent, sent_new, with_object, with_room};
 ghost use Rattle.ei_backend.specs.Backend.{body_read, Says, removed, closed_of, unsent_of, with_unsent};
 ghost use Rattle.ei_spec.specs.declared.limits.TheConstants.{MOST_MESSAGE_BYTES, MOST_PIECE_BYTES};
@@ -199,6 +199,7 @@ impl Backend {
     /// Writes a message behind what waits to be sent, or nothing. The target need not be in the table.
     ///
     /// `MessageTooLong` exactly where the message would have more than 1048576 bytes, `NoMemory`.
+    #[inline(always)]
     pub fn request(
         &mut self,
         object_id: u64,
@@ -236,15 +237,16 @@ impl Backend {
         ensures room { HasRoomFor object_id opcode (map value_of_arg args.now) (unsent_of self.old) self.old.room
             → self.old.table.next_own < self.old.table.room → HasFixedName (interface_view interface) → IsErrOf result send_error.NoMemory → ⊥ }
     {
-        announce(
-            &mut self.table,
-            &mut self.outgoing,
-            object_id,
-            opcode,
-            args,
-            interface,
-            version,
-        )
+        if self.table.ids_left() == 0 {
+            return Err(SendError::IdsExhausted);
+        }
+        let mark = self.outgoing.mark();
+        self.outgoing.send(object_id, opcode, args)?;
+        let object = self.table.new_object(interface, version);
+        if object.is_err() {
+            self.outgoing.cut_back(mark);
+        }
+        object
     }
 
     /// Makes the next object of this end.
@@ -380,39 +382,4 @@ fn is_limit(answer: &Result<usize, ReadError>) -> bool
     ensures { IsTrue result ↔ IsErrOf answer.now read_error.HandleLimit }
 {
     matches!(answer, Err(ReadError::HandleLimit))
-}
-
-/// Writes a message and makes its object, or neither.
-fn announce(
-    table: &mut Table,
-    outgoing: &mut Outgoing,
-    object_id: u64,
-    opcode: u32,
-    args: &[Arg<'_>],
-    interface: InterfaceName,
-    version: u32,
-) -> Result<Object, SendError>
-    ensures object { IfOk result (λ o. (o ≡ own table.old (interface_view interface) version)
-        × (table.new ≡ with_own table.old (interface_view interface) version)) }
-    ensures ok { OnOk result (outgoing.new ≡ record outgoing.old { waiting = with_message object_id opcode (map value_of_arg args.now) outgoing.old.waiting }) }
-    ensures exhausted { IsErrOf result send_error.IdsExhausted ↔ (own_end table.old ≤ table.old.next_own) }
-    ensures long { IsErrOf result send_error.MessageTooLong ↔ ((table.old.next_own < own_end table.old)
-        × (MOST_MESSAGE_BYTES < size (message object_id opcode (map value_of_arg args.now)))) }
-    ensures err_table { OnErr result (table.new ≡ table.old) }
-    ensures err { OnErr result (outgoing.new ≡ outgoing.old) }
-    ensures room { HasRoomFor object_id opcode (map value_of_arg args.now) outgoing.old.waiting outgoing.old.room → table.old.next_own < table.old.room
-        → HasFixedName (interface_view interface) → IsErrOf result send_error.NoMemory → ⊥ }
-{
-    if table.ids_left() == 0 {
-        return Err(SendError::IdsExhausted);
-    }
-    let mark = outgoing.mark();
-    outgoing.send(object_id, opcode, args)?;
-    match table.new_object(interface, version) {
-        Ok(object) => Ok(object),
-        Err(error) => {
-            outgoing.cut_back(mark);
-            Err(error)
-        }
-    }
 }

@@ -102,6 +102,7 @@ impl Incoming {
     /// read a message that lies across the end of the ring.
     ///
     /// Where memory runs out, what is unread and the table stay.
+    #[inline(always)]
     pub(crate) fn next<T: MessageEnum>(
         &mut self,
         alloc: Global,

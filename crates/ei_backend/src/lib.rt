@@ -3,6 +3,7 @@
 
 mod backend;
 mod front;
+mod given;
 mod has_backend;
 mod incoming;
 mod interface;
@@ -21,9 +22,11 @@ mod ring;
 mod sorted_objects;
 mod table;
 mod tray;
+mod words;
 
 pub use backend::Backend;
 pub use ei_spec::limits::FIRST_SERVER_ID;
+pub use given::Given;
 pub use has_backend::HasBackend;
 pub use interface::InterfaceName;
 pub use kinds::{Kind, shown_name};

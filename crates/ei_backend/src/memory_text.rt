@@ -1,10 +1,10 @@
 //! A text in memory.
 
 ghost use Rattle.std.specs.Prelude.{◌≡◌, ◌<◌, ◌≤◌, ◌↔◌, min, [], ◌∷◌, ◌++◌, Some, drop, length, OnOk, OnErr, IfOk, IsErr, Contains};
-ghost use Rattle.ei_backend.specs.Outside.{Fetches, HasCause};
+ghost use Rattle.ei_backend.specs.Outside.{Fetches, Gives, HasCause, last_fetched};
 ghost use Rattle.ei_backend.specs.Memory.{TextView, counted, faults_after};
 
-use crate::outside::{Fault, Input};
+use crate::outside::{Fault, Input, LastAnswer};
 use ei_wire::NoMemory;
 use std::alloc::Global;
 use std::marker::Model;
@@ -17,19 +17,22 @@ pub struct MemoryText {
     fails: Vec<u64>,
     calls: u64,
     faults: u64,
+    last: LastAnswer,
 }
 
 impl Model for MemoryText {
-    ghost use Rattle.std.specs.Prelude.{◌≤◌, drop, vec_len};
+    ghost use Rattle.std.specs.Prelude.{◌≤◌, take, drop, vec_len};
     ghost use Rattle.ei_backend.specs.Memory.{TextView};
 
     ghost Value = { TextView };
 
     ghost view = { λ s. record {
       left = drop s.next s.text.items;
+      given = take s.next s.text.items;
       fails = s.fails.items;
       calls = s.calls;
       faults = s.faults;
+      last = s.last;
     } };
 
     ghost invariant = { λ s. s.next ≤ vec_len s.text };
@@ -38,7 +41,8 @@ impl Model for MemoryText {
 impl MemoryText {
     /// An input that gives this text, and never fails.
     pub fn new(alloc: Global, text: &[u8]) -> Result<MemoryText, NoMemory>
-        ensures { IfOk result (λ t. t ≡ record { left = text.now; fails = []; calls = 0; faults = 0 }) }
+        ensures { IfOk result (λ t. t ≡
+            record { left = text.now; given = []; fails = []; calls = 0; faults = 0; last = LastAnswer.Nothing }) }
     {
         Ok(MemoryText {
             text: text.to_vec(alloc)?,
@@ -46,6 +50,7 @@ impl MemoryText {
             fails: Vec::new(alloc),
             calls: 0,
             faults: 0,
+            last: LastAnswer::Nothing,
         })
     }
 
@@ -62,6 +67,10 @@ impl MemoryText {
 impl Input for MemoryText {
     ghost text = { λ s. Some s.left };
 
+    ghost given = { λ s. s.given };
+
+    ghost last = { λ s. s.last };
+
     ghost faults = { λ s. s.faults };
 
     ghost later = { λ _ _. Unit {0} };
@@ -74,6 +83,8 @@ impl Input for MemoryText {
         requires { 0 < length bytes.old }
         ensures size { IfOk result (λ n. n ≤ length bytes.new) }
         ensures text { Fetches (Some self.old.left) (Some self.new.left) result bytes.new }
+        ensures given { Gives self.old.given self.new.given result bytes.new }
+        ensures last { self.new.last ≡ last_fetched result }
         ensures cause { HasCause self.old.faults self.new.faults result }
         // beyond the trait's: which calls fail, and all that there is room for
         ensures fails { IsErr result ↔ Contains self.old.fails (counted self.old.calls) }
@@ -89,12 +100,14 @@ impl Input for MemoryText {
         self.calls = self.calls.saturating_add(1);
         if self.fails.contains(&self.calls) {
             self.faults = self.faults.saturating_add(1);
+            self.last = LastAnswer::Fault;
             return Err(Fault);
         }
         let left = &self.text[self.next..];
         let count = left.len().min(bytes.len());
         bytes[..count].copy_from_slice(&left[..count]);
         self.next += count;
+        self.last = LastAnswer::at(count);
         Ok(count)
     }
 }

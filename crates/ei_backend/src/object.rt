@@ -135,6 +135,7 @@ impl Object {
     ///
     /// `MessageTooLong` exactly where the message would have more than 1048576 bytes; `NoMemory`, and never within
     /// the room that was made.
+    #[inline(always)]
     pub fn request<C: HasBackend>(
         &self,
         ctx: &mut C,

@@ -13,9 +13,10 @@ ghost use Rattle.ei_backend.specs.Outgoing.{nothing, no_room, more_room, HasRoom
 ghost use Rattle.ei_backend.specs.Outgoing.{with_message, beside, kept_beside, StopsAfter, Flushes};
 
 use crate::outside::{PutError, Sink};
+use crate::words::{MOST_WORDS, words_of, write_words};
 use ei_spec::Handle;
 use ei_spec::limits::MOST_MESSAGE_BYTES;
-use ei_wire::{Arg, FlushError, NoMemory, SendError};
+use ei_wire::{Arg, FlushError, Header, NoMemory, SendError};
 use std::alloc::Global;
 use std::marker::Model;
 
@@ -104,6 +105,8 @@ impl Outgoing {
     /// Writes a message behind what waits, or nothing.
     ///
     /// `MessageTooLong` exactly where the message would have more than 1048576 bytes, `NoMemory`.
+    #[inline(always)]
+    #[tactic(auto, using(crate::proofs::InWords::body_length))]
     pub(crate) fn send(
         &mut self,
         object_id: u64,
@@ -116,16 +119,11 @@ impl Outgoing {
         ensures err { OnErr result (self.new ≡ self.old) }
         ensures room { HasRoomFor object_id opcode (map value_of_arg args.now) self.old.waiting self.old.room → IsErrOf result send_error.NoMemory → ⊥ }
     {
-        let body = body_size(args)?;
-        write_message(
-            &mut self.bytes,
-            &mut self.handles,
-            object_id,
-            opcode,
-            body as u32,
-            args,
-        )?;
-        Ok(())
+        let mut words = [0; MOST_WORDS];
+        match words_of(args, &mut words) {
+            Some(count) => Ok(write_words(&mut self.bytes, object_id, opcode, &words, count)?),
+            None => write_message(&mut self.bytes, &mut self.handles, object_id, opcode, args),
+        }
     }
 
     /// Puts all that waits into the sink, all handles with the first bytes. After a refusal the rest waits.
@@ -180,7 +178,6 @@ fn body_size(args: &[Arg<'_>]) -> Result<u64, SendError>
 }
 
 /// Appends the header of a message, or nothing.
-#[tactic(auto, unfolding(ei_spec::specs::Message::header, ei_spec::specs::Message::le4, ei_spec::specs::Message::le8))]
 fn push_header(out: &mut Vec<u8>, id: u64, len: u32, opcode: u32) -> Result<(), NoMemory>
     ensures ok { OnOk result (out.new.items ≡ out.old.items ++ header id len opcode) }
     ensures err { OnErr result (out.new.items ≡ out.old.items) }
@@ -188,10 +185,12 @@ fn push_header(out: &mut Vec<u8>, id: u64, len: u32, opcode: u32) -> Result<(), 
     ensures succeeds { vec_len out.old + 16 ≤ vec_capacity out.old → IsOk result }
     ensures capacity { vec_capacity out.old ≤ vec_capacity out.new }
 {
-    out.reserve(16)?;
-    out.extend_from_slice(&id.to_le_bytes())?;
-    out.extend_from_slice(&len.to_le_bytes())?;
-    out.extend_from_slice(&opcode.to_le_bytes())?;
+    let header = Header {
+        object_id: id,
+        length: len,
+        opcode,
+    };
+    out.extend_from_slice(&header.as_bytes())?;
     Ok(())
 }
 
@@ -213,35 +212,36 @@ fn push_args(out: &mut Vec<u8>, handles: &mut Vec<Handle>, args: &[Arg<'_>]) -> 
     Ok(())
 }
 
-/// Appends a message, or nothing.
+/// Appends a message, whatever its arguments are, or nothing.
+#[inline(never)]
 #[tactic(auto, unfolding(ei_spec::specs::Message::bytes_of))]
 fn write_message(
     bytes: &mut Vec<u8>,
     handles: &mut Vec<Handle>,
     object_id: u64,
     opcode: u32,
-    body: u32,
     args: &[Arg<'_>],
-) -> Result<(), NoMemory>
-    requires size { body ≡ length (args_body args.now) }
-    requires fits { body ≤ 1048560 }
+) -> Result<(), SendError>
     ensures bytes { OnOk result (bytes.new.items ≡ bytes.old.items ++ bytes_of (message object_id opcode (map value_of_arg args.now))) }
     ensures handles { OnOk result (handles.new.items ≡ handles.old.items ++ args_handles args.now) }
+    ensures long { (result ≡ Err send_error.MessageTooLong) ↔ (1048560 < length (args_body args.now)) }
+    ensures not_exhausted { IsErrOf result send_error.IdsExhausted → ⊥ }
     ensures err { OnErr result (bytes.new.items ≡ bytes.old.items) }
     ensures err_handles { OnErr result (handles.new.items ≡ handles.old.items) }
-    ensures succeeds { vec_len bytes.old + 16 + body ≤ vec_capacity bytes.old
-        → vec_len handles.old + length (args_handles args.now) ≤ vec_capacity handles.old → IsOk result }
+    ensures room { vec_len bytes.old + (16 + length (args_body args.now)) ≤ vec_capacity bytes.old
+        → vec_len handles.old + length (args_handles args.now) ≤ vec_capacity handles.old → IsErrOf result send_error.NoMemory → ⊥ }
     ensures capacity { vec_capacity bytes.old ≤ vec_capacity bytes.new }
     ensures handle_capacity { vec_capacity handles.old ≤ vec_capacity handles.new }
 {
+    let body = body_size(args)?;
     let before = bytes.len();
     let handles_before = handles.len();
     bytes.reserve(16 + body as usize)?;
-    push_header(bytes, object_id, 16 + body, opcode)?;
+    push_header(bytes, object_id, 16 + body as u32, opcode)?;
     if push_args(bytes, handles, args).is_err() {
         bytes.truncate(before);
         handles.truncate(handles_before);
-        return Err(NoMemory);
+        return Err(SendError::NoMemory);
     }
     Ok(())
 }

@@ -7,7 +7,8 @@
 
 ghost use Rattle.std.specs.Prelude.{◌≡◌, ◌<◌, ◌≤◌, List, ℕ, Option, Some, length, IfOk};
 ghost use Rattle.ei_backend.specs.declared.outside.LastAnswer.{LastAnswer};
-ghost use Rattle.ei_backend.specs.Outside.{Piece, HasCause, HasPutCause, HasPutWant, IsPieceSize, TakesTold, last_of, Puts, IsPutSize, Fetches, ReadsClock};
+ghost use Rattle.ei_backend.specs.Outside.{Piece, HasCause, HasPutCause, HasPutWant, IsPieceSize, TakesTold, last_of, Puts, IsPutSize};
+ghost use Rattle.ei_backend.specs.Outside.{answer_at, Fetches, Gives, last_fetched, ReadsClock};
 ghost use Rattle.ei_spec.specs.declared.limits.TheConstants.{MOST_PIECE_BYTES, MOST_PIECE_HANDLES};
 
 use ei_spec::Handle;
@@ -32,14 +33,28 @@ pub struct Taken {
     pub handles: usize,
 }
 
-/// What a source answered last.
+/// What a source or an input answered last.
 #[derive(Clone, Copy, Debug, PartialEq, Eq)]
 pub enum LastAnswer {
     /// It wasn't asked yet.
     Nothing,
+    /// A piece, or a part of a text.
     Piece,
     End,
     Fault,
+}
+
+impl LastAnswer {
+    /// The answer of so many bytes: none is the end.
+    pub fn at(bytes: usize) -> LastAnswer
+        ensures { result ≡ answer_at bytes }
+    {
+        if bytes == 0 {
+            LastAnswer::End
+        } else {
+            LastAnswer::Piece
+        }
+    }
 }
 
 /// Where pieces of bytes and handles come from.
@@ -109,6 +124,12 @@ pub trait Input {
     /// The text left, where it tells it.
     ghost text: { Self → Option (List ℕ) };
 
+    /// The bytes that it gave so far, one after another.
+    ghost given: { Self → List ℕ };
+
+    /// What it answered last.
+    ghost last: { Self → LastAnswer };
+
     /// How often it failed.
     ghost faults: { Self → ℕ };
 
@@ -123,6 +144,8 @@ pub trait Input {
         requires { 0 < length bytes.old }
         ensures size { IfOk result (λ n. n ≤ length bytes.new) }
         ensures text { Fetches (text self.old) (text self.new) result bytes.new }
+        ensures given { Gives (given self.old) (given self.new) result bytes.new }
+        ensures last { last self.new ≡ last_fetched result }
         ensures cause { HasCause (faults self.old) (faults self.new) result }
         ensures later { later self.old self.new };
 

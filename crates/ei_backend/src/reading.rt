@@ -1,6 +1,6 @@
 //! Reading the message at the front of what is unread, in place.
 
-ghost use Rattle.std.specs.Prelude.{◌≡◌, ◌≤◌, ◌<◌, ℕ, List, length, take, drop, IfOk, OnErr, Ok, Some, None};
+ghost use Rattle.std.specs.Prelude.{◌≡◌, ◌≤◌, ◌<◌, ℕ, List, length, ◌↔◌, take, drop, IfOk, IsOk, IsTrue, OnErr, Ok, Err, Some, None};
 ghost use Rattle.circular_buffer.specs.Buffer.{buffer};
 ghost use Rattle.ei_spec.specs.Message as message;
 ghost use Rattle.ei_backend.specs.declared.front.TheConstants.{HEADER_BYTES};
@@ -18,12 +18,26 @@ use circular_buffer::HeapCircularBuffer;
 use ei_spec::Handle;
 use ei_wire::{ByteStream, NoMemory, ParseError};
 use std::alloc::Global;
+use std::mem;
 
 /// How many bytes and handles a message took.
 #[derive(Clone, Copy)]
 struct Step {
     bytes: usize,
     handles: usize,
+}
+
+impl Step {
+    /// Nothing is taken.
+    #[inline(always)]
+    fn nothing() -> Step
+        ensures { result ≡ no_step }
+    {
+        Step {
+            bytes: 0,
+            handles: 0,
+        }
+    }
 }
 
 /// Reads the message at the front of the rings, and takes it out. Where it lies across the end of its ring, or handles
@@ -53,10 +67,7 @@ where
     ensures capacity { bytes.new.capacity ≡ bytes.old.capacity }
     ensures handle_capacity { handles.new.capacity ≡ handles.old.capacity }
 {
-    let mut step = Step {
-        bytes: 0,
-        handles: 0,
-    };
+    let mut step = Step::nothing();
     step_in(alloc, bytes, handles, scratch, table, &mut step, answer);
     drop_front(bytes, step.bytes);
     if step.handles > 0 {
@@ -110,8 +121,49 @@ where
             return;
         }
     }
+    step_around(alloc, bytes, handles, scratch, table, step, answer);
+}
+
+/// Reads it where it may lie across the end of its ring, or handles are unread. What it takes is said to a place of its
+/// own first, so that `step` needn't have one in memory.
+///
+/// Where memory runs out, the table stays, and nothing is taken.
+#[inline(always)]
+fn step_around<T: MessageEnum>(
+    alloc: Global,
+    bytes: &mut HeapCircularBuffer<u8>,
+    handles: &mut HeapCircularBuffer<Handle>,
+    scratch: &mut [u8],
+    table: &mut Table,
+    step: &mut Step,
+    answer: &mut Result<Option<PendingRequestResult<T>>, NoMemory>,
+)
+where
+    T: Drop,
+    requires scratch { HEADER_BYTES ≤ length scratch.old }
+    requires no_answer { answer.old ≡ Ok None }
+    ensures ok { (b : BackendView) → IfOk answer.new (λ said. Answers T.target T.code T.values said (reading (drop step.new.bytes bytes.old.items)
+        (drop step.new.handles handles.old.items) table.new b) (next T.events (reading bytes.old.items handles.old.items table.old b))) }
+    ensures announced { IfOk answer.new (λ said. Brings T.announced said table.old table.new) }
+    ensures within { step.new.bytes ≤ length bytes.old.items }
+    ensures shorter { IfOk answer.new (λ said. TakesSome said step.new.bytes) }
+    ensures err { OnErr answer.new (table.new ≡ table.old) }
+    ensures err_step { OnErr answer.new (step.new ≡ no_step) }
+    ensures kept { bytes.new ≡ bytes.old }
+    ensures handles_kept { handles.new ≡ handles.old }
+{
+    let mut taken = Step::nothing();
     let unread_handles = handles.make_contiguous();
-    step_across(alloc, bytes, unread_handles, scratch, table, step, answer);
+    step_across(
+        alloc,
+        bytes,
+        unread_handles,
+        scratch,
+        table,
+        &mut taken,
+        answer,
+    );
+    *step = taken;
 }
 
 /// Reads the message at the front of a ring, if it is whole, where it may lie across the end of the ring, or handles
@@ -224,11 +276,13 @@ where
                 step.bytes = len;
             }
             Some(target) => match target.clone() {
-                Err(_) => *answer = Err(NoMemory),
+                Err(_) => run_out(answer),
                 Ok(target) => {
                     let taken = &mut step.handles;
-                    read_body(alloc, target, opcode, body, handles, table, taken, answer);
-                    step.bytes = if answer.is_ok() { len } else { 0 };
+                    let is_read = read_body(
+                        alloc, target, opcode, body, handles, table, taken, answer,
+                    );
+                    step.bytes = if is_read { len } else { 0 };
                 }
             },
         },
@@ -261,7 +315,7 @@ where
     step_of(alloc, front, handles, table, step, answer)
 }
 
-/// Reads the whole body of a message, and says how many handles it took.
+/// Reads the whole body of a message, and says how many handles it took. It answers whether memory sufficed.
 ///
 /// Where memory runs out, the table stays, and no handle is taken.
 #[inline(always)]
@@ -274,7 +328,7 @@ fn read_body<T: MessageEnum>(
     table: &mut Table,
     taken: &mut usize,
     answer: &mut Result<Option<PendingRequestResult<T>>, NoMemory>,
-)
+) -> bool
 where
     T: Drop,
     requires body { length body.now ≤ 1048560 }
@@ -287,30 +341,58 @@ where
     ensures some { (n : ℕ) → 0 < n → IfOk answer.new (λ said. TakesSome said n) }
     ensures err { OnErr answer.new (table.new ≡ table.old) }
     ensures err_taken { OnErr answer.new (taken.new ≡ 0) }
+    ensures read { IsTrue result ↔ IsOk answer.new }
 {
     let mut stream = ByteStream::new(alloc, body, handles);
     let parsed = T::parse(alloc, target, opcode, &mut stream, table);
     match parsed {
         Ok(message) => {
             *taken = stream.handles_taken();
-            *answer = Ok(Some(PendingRequestResult::Request(message)));
+            put(answer, message);
             let rest = stream.rest();
             if rest != 0 {
                 let len = 16 + body.len() as u32;
                 refuse(answer, ParseError::MessageLength(len + rest as u32, len));
             }
+            true
         }
-        Err(ParseError::NoMemory) => *answer = Err(NoMemory),
+        Err(ParseError::NoMemory) => {
+            run_out(answer);
+            false
+        }
         Err(error) => {
             *taken = stream.handles_taken();
             refuse(answer, error);
+            true
         }
     }
 }
 
-/// Answers that a message is refused.
-#[inline(never)]
+/// Answers with a message, where there was no answer: nothing is dropped.
+#[inline(always)]
+fn put<T: Drop>(answer: &mut Result<Option<PendingRequestResult<T>>, NoMemory>, message: T)
+    requires { answer.old ≡ Ok None }
+    ensures { answer.new ≡ Ok (Some (pending.Request message)) }
+{
+    match mem::replace(answer, Ok(Some(PendingRequestResult::Request(message)))) {
+        Ok(None) => {}
+        _ => unreachable!(),
+    }
+}
+
+/// Answers that a message is refused. What is not refused pays nothing for the error's place.
+#[inline(always)]
 fn refuse<T: Drop>(
+    answer: &mut Result<Option<PendingRequestResult<T>>, NoMemory>,
+    error: ParseError,
+)
+    ensures { answer.new ≡ Ok (Some (pending.ParseError error)) }
+{
+    refuse_apart(answer, error);
+}
+
+#[inline(never)]
+fn refuse_apart<T: Drop>(
     answer: &mut Result<Option<PendingRequestResult<T>>, NoMemory>,
     error: ParseError,
 )
@@ -325,4 +407,12 @@ fn find_none<T: Drop>(answer: &mut Result<Option<PendingRequestResult<T>>, NoMem
     ensures { answer.new ≡ Ok (Some (pending.InvalidObject id)) }
 {
     *answer = Ok(Some(PendingRequestResult::InvalidObject(id)));
+}
+
+/// Answers that memory ran out.
+#[inline(never)]
+fn run_out<T: Drop>(answer: &mut Result<Option<PendingRequestResult<T>>, NoMemory>)
+    ensures { answer.new ≡ Err (record {}) }
+{
+    *answer = Err(NoMemory);
 }

@@ -1,6 +1,6 @@
 //! Objects in a vector, by rising ids.
 
-ghost use Rattle.std.specs.Prelude.{◌≡◌, ℕ, ◌<◌, ◌≤◌, IfSome, IfNone, IfOk, IfErr, None, length, vec_len, vec_capacity};
+ghost use Rattle.std.specs.Prelude.{◌≡◌, ℕ, ◌<◌, ◌≤◌, IfSome, IfNone, IfOk, IfErr, None, Some, length, vec_len, vec_capacity};
 ghost use Rattle.std.specs.Option.{option_copied};
 ghost use Rattle.std.specs.FinMap.{get, remove};
 ghost use Rattle.ei_backend.specs.Table.{RiseWithin, Rise, by_id, IsPlace};
@@ -35,14 +35,23 @@ fn place(objects: &[Object], id: u64) -> Option<usize>
     objects.binary_search_by_key(&id, |object| object.id()).ok()
 }
 
-/// The object of an id.
+/// The object of an id, if it stands where it mostly does.
 #[inline(always)]
+pub(crate) fn look_first(objects: &[Object], id: u64) -> Option<&Object>
+    requires { Rise objects.now }
+    ensures { IfSome result (λ o. Some o.now ≡ get (by_id objects.now) id) }
+{
+    let at = likely_place(objects, id)?;
+    Some(&objects[at])
+}
+
+/// The object of an id.
 pub(crate) fn look_up(objects: &[Object], id: u64) -> Option<&Object>
     requires { Rise objects.now }
     ensures { option_copied result ≡ get (by_id objects.now) id }
 {
-    if let Some(at) = likely_place(objects, id) {
-        return Some(&objects[at]);
+    if let Some(object) = look_first(objects, id) {
+        return Some(object);
     }
     match place(objects, id) {
         Some(at) => Some(&objects[at]),

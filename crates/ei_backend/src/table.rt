@@ -10,7 +10,7 @@ ghost use Rattle.ei_backend.specs.Table.{own_limit, with_own, with_places, new_t
 
 use crate::interface::InterfaceName;
 use crate::object::Object;
-use crate::sorted_objects::{look_up, take_out};
+use crate::sorted_objects::{look_first, look_up, take_out};
 use ei_spec::KnownInterface;
 use ei_spec::limits::FIRST_SERVER_ID;
 use ei_wire::{NoMemory, ParseError, SendError};
@@ -124,7 +124,34 @@ impl Table {
     }
 
     /// The object of an id.
+    #[inline(always)]
     pub fn object_for_id(&self, id: u64) -> Option<&Object>
+        ensures object { option_copied result ≡ found self.now id }
+        ensures first { id ≡ 0 → IfSome result (λ o. o.now ≡ first_object self.now.client) }
+    {
+        match self.likely(id) {
+            Some(object) => Some(object),
+            None => self.search(id),
+        }
+    }
+
+    /// The object of an id, if it is one of the server's ids and stands where it mostly does: to such objects go nearly
+    /// all messages.
+    #[inline(always)]
+    fn likely(&self, id: u64) -> Option<&Object>
+        ensures object { IfSome result (λ o. Some o.now ≡ found self.now id) }
+        ensures first { id ≡ 0 → IfSome result (λ o. o.now ≡ first_object self.now.client) }
+    {
+        if self.client {
+            look_first(&self.peer, id)
+        } else {
+            look_first(&self.own, id)
+        }
+    }
+
+    /// The object of an id, in the vector of its range.
+    #[inline(never)]
+    fn search(&self, id: u64) -> Option<&Object>
         ensures object { option_copied result ≡ found self.now id }
         ensures first { id ≡ 0 → IfSome result (λ o. o.now ≡ first_object self.now.client) }
     {

@@ -1,3 +1,4 @@
+pub mod Words
 pub mod Handshake
 pub mod Connection
 pub mod Callback
@@ -12,3 +13,16 @@ pub mod Keyboard
 pub mod Touchscreen
 pub mod Text
 pub mod Event
+-- what the clauses cite of the crates below
+pub use Rattle.ei_spec.specs.Interface
+pub use Rattle.ei_spec.specs.Message
+pub use Rattle.ei_spec.specs.Rows
+pub use Rattle.ei_spec.specs.Value
+pub use Rattle.ei_wire.specs.Gives
+pub use Rattle.ei_backend.specs.Backend
+pub use Rattle.ei_backend.specs.Codes
+pub use Rattle.ei_backend.specs.Lent
+pub use Rattle.ei_backend.specs.Object
+pub use Rattle.ei_backend.specs.Outgoing
+pub use Rattle.ei_backend.specs.Outside
+pub use Rattle.ei_backend.specs.Proxies

@@ -1,14 +1,9 @@
 //! `ei_callback`: a callback of a client, which the server answers.
 
-ghost use Rattle.std.specs.Prelude.{◌≡◌, IfOk, true};
-ghost use Rattle.ei_spec.specs.declared.interface.KnownInterface.TheVariants as known;
-ghost use Rattle.ei_backend.specs.Proxies.{ReadsRow, Shows};
+ghost use Rattle.ei_client.specs.Words.{KnownInterface};
 ghost use Rattle.ei_client.specs.Callback.{opcode_of, values_of};
 
-use crate::proxy::Proxy;
-use ei_backend::{Table, kinds};
-use ei_wire::{Arg, ByteStream, NoMemory, ParseError, read_one};
-use std::alloc::Global;
+use crate::prelude::*;
 
 /// A callback, which a client waits for.
 pub type Callback = Proxy<kinds::Callback>;
@@ -20,18 +15,15 @@ pub enum Event {
     Done { callback_data: u64 },
 }
 
-impl Event {
-    /// Reads the arguments of an event of that opcode.
-    pub(crate) fn parse(
-        opcode: u32,
-        bytes: &mut ByteStream<'_>,
-        objects: &mut Table,
-    ) -> Result<Event, ParseError>
-        ensures read { ReadsRow values_of true known.Callback opcode
-            bytes.old bytes.new objects.old objects.new result }
-        ensures code { IfOk result (λ m. opcode_of m ≡ opcode) }
-        ensures table { objects.new ≡ objects.old }
-    {
+impl Message for Event {
+    ghost code = { opcode_of };
+
+    ghost values = { values_of };
+
+    ghost KNOWN = { KnownInterface.Callback };
+
+    #[inline(always)]
+    fn parse(opcode: u32, bytes: &mut ByteStream<'_>, _: &mut Table) -> Parsed<Event> {
         match opcode {
             0 => Ok(Event::Done {
                 callback_data: read_one(bytes)?,
@@ -40,18 +32,13 @@ impl Event {
         }
     }
 
-    pub(crate) fn opcode(&self) -> u32
-        ensures { result ≡ opcode_of self.now }
-    {
+    fn opcode(&self) -> u32 {
         match self {
             Event::Done { .. } => 0,
         }
     }
 
-    /// The arguments in order.
-    pub(crate) fn args(&self, alloc: Global) -> Result<Vec<Arg<'_>>, NoMemory>
-        ensures { IfOk result (λ args. Shows true known.Callback (opcode_of self.now) (values_of self.now) args.items) }
-    {
+    fn args(&self, alloc: Global) -> Result<Vec<Arg<'_>>, NoMemory> {
         Ok(match self {
             Event::Done { callback_data } => Vec::from_array(alloc, [Arg::Uint64(*callback_data)])?,
         })

@@ -1,17 +1,12 @@
 //! `ei_connection`: the connection, which stands until one end ends it.
 
-ghost use Rattle.std.specs.Prelude.{◌≡◌, IfOk, OnErr, true, codes, [], ◌∷◌};
-ghost use Rattle.ei_backend.specs.Proxies.{Word, Long, Announced, ReadsRow, Shows, Sends, SendsNew};
-ghost use Rattle.ei_spec.specs.declared.interface.KnownInterface.TheVariants as known;
+ghost use Rattle.std.specs.Prelude.{codes, [], ◌∷◌};
+ghost use Rattle.ei_client.specs.Words.{KnownInterface, Word, Long, Sends, SendsNew};
 ghost use Rattle.ei_client.specs.Connection.{opcode_of, values_of, announced_of, request};
 
-use crate::{Callback, Context, Pingpong, Proxy, Seat};
-use ei_backend::{HasBackend, Interface, Table, kinds};
+use crate::prelude::*;
+use crate::{Callback, Pingpong, Seat};
 use ei_types::DisconnectReason;
-use ei_wire::{
-    Arg, ByteStream, EiText, NoMemory, OwnedArg, ParseError, SendError, read_three, read_two,
-};
-use std::alloc::Global;
 
 /// The connection.
 pub type Connection = Proxy<kinds::Connection>;
@@ -32,7 +27,7 @@ impl Connection {
     /// Ends the connection. The connection is gone then.
     ///
     /// `NoMemory`: nothing is sent, and the connection stays.
-    pub fn disconnect(&self, ctx: &mut Context) -> Result<(), SendError>
+    pub fn disconnect(&self, ctx: &mut Context) -> Sent
         ensures sends { Sends (request (codes "disconnect")) self.now [] ctx.old ctx.new result }
     {
         self.send_last(ctx, 1, &[])
@@ -65,19 +60,17 @@ pub enum Event {
     },
 }
 
-impl Event {
-    /// Reads the arguments of an event of that opcode, and announces the seat or the ping that it bears.
-    pub(crate) fn parse(
-        opcode: u32,
-        bytes: &mut ByteStream<'_>,
-        objects: &mut Table,
-    ) -> Result<Event, ParseError>
-        ensures read { ReadsRow values_of true known.Connection opcode
-            bytes.old bytes.new objects.old objects.new result }
-        ensures code { IfOk result (λ m. opcode_of m ≡ opcode) }
-        ensures announced { IfOk result (λ m. Announced (announced_of m) objects.old objects.new) }
-        ensures err { OnErr result (objects.new ≡ objects.old) }
-    {
+impl Message for Event {
+    ghost code = { opcode_of };
+
+    ghost values = { values_of };
+
+    ghost announced = { announced_of };
+
+    ghost KNOWN = { KnownInterface.Connection };
+
+    #[inline(always)]
+    fn parse(opcode: u32, bytes: &mut ByteStream<'_>, objects: &mut Table) -> Parsed<Event> {
         match opcode {
             0 => {
                 let (last_serial, reason, explanation) = read_three(bytes)?;
@@ -108,9 +101,7 @@ impl Event {
         }
     }
 
-    pub(crate) fn opcode(&self) -> u32
-        ensures { result ≡ opcode_of self.now }
-    {
+    fn opcode(&self) -> u32 {
         match self {
             Event::Disconnected { .. } => 0,
             Event::Seat { .. } => 1,
@@ -119,10 +110,7 @@ impl Event {
         }
     }
 
-    /// The arguments in order.
-    pub(crate) fn args(&self, alloc: Global) -> Result<Vec<Arg<'_>>, NoMemory>
-        ensures { IfOk result (λ args. Shows true known.Connection (opcode_of self.now) (values_of self.now) args.items) }
-    {
+    fn args(&self, alloc: Global) -> Result<Vec<Arg<'_>>, NoMemory> {
         Ok(match self {
             Event::Disconnected {
                 last_serial,

@@ -1,48 +1,32 @@
 //! `ei_device`: a device, which has interfaces for input.
 
-ghost use Rattle.std.specs.Prelude.{◌≡◌, Some, IfOk, OnErr, true, codes, [], ◌∷◌};
-ghost use Rattle.ei_backend.specs.Proxies.{Word, Long, Announced, ReadsRow, Shows, Sends};
+ghost use Rattle.std.specs.Prelude.{◌≡◌, Some, IfOk, OnErr, true, refl, codes, [], ◌∷◌};
+ghost use Rattle.ei_backend.specs.Proxies.{Announced, ReadsRow, Shows};
 ghost use Rattle.ei_spec.specs.Interface.{named, bytes_of};
 ghost use Rattle.ei_spec.specs.declared.interface.KnownInterface.TheVariants as known;
 ghost use Rattle.ei_wire.specs.Gives.{Gives};
 ghost use Rattle.ei_backend.specs.Table.{accept};
+ghost use Rattle.ei_client.specs.Words.{Word, Long, Sends};
 ghost use Rattle.ei_client.specs.Device.{opcode_of, values_of, announced_of, request};
 
-use crate::{Context, Proxy};
-use ei_backend::{Interface, InterfaceName, Object, Table, kinds};
+use crate::prelude::*;
+use ei_backend::{InterfaceName, Object};
 use ei_types::DeviceType;
-use ei_wire::{
-    Arg, ByteStream, EiText, NoMemory, ParseError, RawFloat, SendError, read_five, read_one,
-    read_three, read_two,
-};
-use std::alloc::Global;
 
 /// A device.
 pub type Device = Proxy<kinds::Device>;
 
-impl Device {
-    /// Tells the server that the client wants the device no more. The device stays until the server takes it
-    /// away.
-    ///
-    /// `NoMemory`: nothing is sent.
-    pub fn release(&self, ctx: &mut Context) -> Result<(), SendError>
-        ensures sends { Sends (request (codes "release")) self.now [] ctx.old ctx.new result }
-    {
-        self.object.request(ctx, 0, &[])
-    }
+impl Release for kinds::Device {
+    ghost row = { refl };
+}
 
+impl Device {
     /// Tells the server that the client begins to send input, with the last serial that came. The sequence
     /// counts such beginnings.
     ///
     /// `NoMemory`: nothing is sent.
-    pub fn start_emulating(
-        &self,
-        ctx: &mut Context,
-        last_serial: u32,
-        sequence: u32,
-    ) -> Result<(), SendError>
-        ensures sends { Sends (request (codes "start_emulating")) self.now
-            (Word last_serial ∷ Word sequence ∷ []) ctx.old ctx.new result }
+    pub fn start_emulating(&self, ctx: &mut Context, last_serial: u32, sequence: u32) -> Sent
+        ensures sends { Sends (request (codes "start_emulating")) self.now (Word last_serial ∷ Word sequence ∷ []) ctx.old ctx.new result }
     {
         let args = [Arg::Uint32(last_serial), Arg::Uint32(sequence)];
         self.object.request(ctx, 1, &args)
@@ -51,9 +35,8 @@ impl Device {
     /// Tells the server that the client sends no more input, with the last serial that came.
     ///
     /// `NoMemory`: nothing is sent.
-    pub fn stop_emulating(&self, ctx: &mut Context, last_serial: u32) -> Result<(), SendError>
-        ensures sends { Sends (request (codes "stop_emulating")) self.now
-            (Word last_serial ∷ []) ctx.old ctx.new result }
+    pub fn stop_emulating(&self, ctx: &mut Context, last_serial: u32) -> Sent
+        ensures sends { Sends (request (codes "stop_emulating")) self.now (Word last_serial ∷ []) ctx.old ctx.new result }
     {
         self.object.request(ctx, 2, &[Arg::Uint32(last_serial)])
     }
@@ -62,14 +45,8 @@ impl Device {
     /// The timestamp is in microseconds.
     ///
     /// `NoMemory`: nothing is sent.
-    pub fn frame(
-        &self,
-        ctx: &mut Context,
-        last_serial: u32,
-        timestamp: u64,
-    ) -> Result<(), SendError>
-        ensures sends { Sends (request (codes "frame")) self.now
-            (Word last_serial ∷ Long timestamp ∷ []) ctx.old ctx.new result }
+    pub fn frame(&self, ctx: &mut Context, last_serial: u32, timestamp: u64) -> Sent
+        ensures sends { Sends (request (codes "frame")) self.now (Word last_serial ∷ Long timestamp ∷ []) ctx.old ctx.new result }
     {
         let args = [Arg::Uint32(last_serial), Arg::Uint64(timestamp)];
         self.object.request(ctx, 3, &args)
@@ -78,7 +55,7 @@ impl Device {
     /// Tells the server that the client has taken note of the device.
     ///
     /// `NoMemory`: nothing is sent.
-    pub fn ready(&self, ctx: &mut Context) -> Result<(), SendError>
+    pub fn ready(&self, ctx: &mut Context) -> Sent
         ensures sends { Sends (request (codes "ready")) self.now [] ctx.old ctx.new result }
     {
         self.object.request(ctx, 4, &[])
@@ -168,6 +145,7 @@ pub enum Event {
 
 impl Event {
     /// Reads the arguments of an event of that opcode, and announces the object that it bears.
+    #[inline(always)]
     pub(crate) fn parse(
         alloc: Global,
         opcode: u32,
@@ -258,7 +236,10 @@ impl Event {
         ensures { IfOk result (λ args. Shows true known.Device (opcode_of self.now) (values_of self.now) args.items) }
     {
         Ok(match self {
-            Event::Destroyed { serial } => Vec::from_array(alloc, [Arg::Uint32(*serial)])?,
+            Event::Destroyed { serial }
+            | Event::Resumed { serial }
+            | Event::Paused { serial }
+            | Event::StopEmulating { serial } => Vec::from_array(alloc, [Arg::Uint32(*serial)])?,
             Event::Name { name } => Vec::from_array(alloc, [Arg::String(Some(name.as_str()))])?,
             Event::DeviceType { device_type } => {
                 Vec::from_array(alloc, [Arg::Uint32(u32::from(*device_type))])?
@@ -286,12 +267,9 @@ impl Event {
             }
             Event::Interface { object } => Vec::from_array(alloc, [object.as_arg()])?,
             Event::Done => Vec::new(alloc),
-            Event::Resumed { serial } => Vec::from_array(alloc, [Arg::Uint32(*serial)])?,
-            Event::Paused { serial } => Vec::from_array(alloc, [Arg::Uint32(*serial)])?,
             Event::StartEmulating { serial, sequence } => {
                 Vec::from_array(alloc, [Arg::Uint32(*serial), Arg::Uint32(*sequence)])?
             }
-            Event::StopEmulating { serial } => Vec::from_array(alloc, [Arg::Uint32(*serial)])?,
             Event::Frame { serial, timestamp } => {
                 Vec::from_array(alloc, [Arg::Uint32(*serial), Arg::Uint64(*timestamp)])?
             }

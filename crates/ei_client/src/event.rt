@@ -9,6 +9,7 @@ use crate::connection::{self, Connection};
 use crate::device::{self, Device};
 use crate::handshake::{self, Handshake};
 use crate::keyboard::{self, Keyboard};
+use crate::message::Message;
 use crate::pointer::{self, Pointer};
 use crate::pointer_absolute::{self, PointerAbsolute};
 use crate::scroll::{self, Scroll};
@@ -48,6 +49,7 @@ impl MessageEnum for Event {
 
     ghost announced = { announced_of };
 
+    #[inline(always)]
     fn parse(
         alloc: Global,
         object: Object,

@@ -1,19 +1,12 @@
 //! `ei_handshake`: the object that is there from the first.
 
-ghost use Rattle.std.specs.Prelude.{◌≡◌, IfOk, OnErr, true, codes, [], ◌∷◌};
-ghost use Rattle.ei_backend.specs.Proxies.{Word, Letters, Announced, ReadsRow, Shows, Sends, SendsText};
-ghost use Rattle.ei_spec.specs.declared.interface.KnownInterface.TheVariants as known;
-ghost use Rattle.ei_types.specs.Enums.{context_type_number};
+ghost use Rattle.std.specs.Prelude.{codes, [], ◌∷◌};
+ghost use Rattle.ei_client.specs.Words.{KnownInterface, Word, Letters, Sends, SendsText, context_type_number};
 ghost use Rattle.ei_client.specs.Handshake.{opcode_of, values_of, announced_of, request};
 
-use crate::{Connection, Context, Proxy};
-use ei_backend::{Interface, Table, kinds};
+use crate::Connection;
+use crate::prelude::*;
 use ei_types::ContextType;
-use ei_wire::{
-    Arg, ByteStream, EiText, NoMemory, OwnedArg, ParseError, SendError, read_one, read_three,
-    read_two,
-};
-use std::alloc::Global;
 
 /// The handshake.
 pub type Handshake = Proxy<kinds::Handshake>;
@@ -22,9 +15,8 @@ impl Handshake {
     /// Tells the server the version of the handshake that the client has: the first request of a session.
     ///
     /// `NoMemory`: nothing is sent.
-    pub fn handshake_version(&self, ctx: &mut Context, version: u32) -> Result<(), SendError>
-        ensures sends { Sends (request (codes "handshake_version")) self.now
-            (Word version ∷ []) ctx.old ctx.new result }
+    pub fn handshake_version(&self, ctx: &mut Context, version: u32) -> Sent
+        ensures sends { Sends (request (codes "handshake_version")) self.now (Word version ∷ []) ctx.old ctx.new result }
     {
         self.object.request(ctx, 0, &[Arg::Uint32(version)])
     }
@@ -32,7 +24,7 @@ impl Handshake {
     /// Tells the server that the client has said all. The server answers by the connection.
     ///
     /// `NoMemory`: nothing is sent.
-    pub fn finish(&self, ctx: &mut Context) -> Result<(), SendError>
+    pub fn finish(&self, ctx: &mut Context) -> Sent
         ensures sends { Sends (request (codes "finish")) self.now [] ctx.old ctx.new result }
     {
         self.object.request(ctx, 1, &[])
@@ -41,11 +33,7 @@ impl Handshake {
     /// Tells the server what the client is for.
     ///
     /// `NoMemory`: nothing is sent.
-    pub fn context_type(
-        &self,
-        ctx: &mut Context,
-        context_type: ContextType,
-    ) -> Result<(), SendError>
+    pub fn context_type(&self, ctx: &mut Context, context_type: ContextType) -> Sent
         ensures sends { Sends (request (codes "context_type")) self.now
             (Word (context_type_number context_type) ∷ []) ctx.old ctx.new result }
     {
@@ -57,7 +45,7 @@ impl Handshake {
     /// `MessageTooLong` exactly where the message would have more than 1048576 bytes, `NoMemory`: nothing is
     /// sent.
     #[tactic(auto, using(ei_spec::proofs::Utf8::is_text))]
-    pub fn name(&self, ctx: &mut Context, name: &str) -> Result<(), SendError>
+    pub fn name(&self, ctx: &mut Context, name: &str) -> Sent
         ensures sends { SendsText (request (codes "name")) self.now (Letters name.now ∷ []) ctx.old ctx.new result }
     {
         self.object.request(ctx, 3, &[Arg::String(Some(name))])
@@ -68,12 +56,7 @@ impl Handshake {
     /// `MessageTooLong` exactly where the message would have more than 1048576 bytes, `NoMemory`: nothing is
     /// sent.
     #[tactic(auto, using(ei_spec::proofs::Utf8::is_text))]
-    pub fn interface_version(
-        &self,
-        ctx: &mut Context,
-        name: &str,
-        version: u32,
-    ) -> Result<(), SendError>
+    pub fn interface_version(&self, ctx: &mut Context, name: &str, version: u32) -> Sent
         ensures sends { SendsText (request (codes "interface_version")) self.now
             (Letters name.now ∷ Word version ∷ []) ctx.old ctx.new result }
     {
@@ -93,19 +76,17 @@ pub enum Event {
     Connection { serial: u32, connection: Connection },
 }
 
-impl Event {
-    /// Reads the arguments of an event of that opcode, and announces the connection that it bears.
-    pub(crate) fn parse(
-        opcode: u32,
-        bytes: &mut ByteStream<'_>,
-        objects: &mut Table,
-    ) -> Result<Event, ParseError>
-        ensures read { ReadsRow values_of true known.Handshake opcode
-            bytes.old bytes.new objects.old objects.new result }
-        ensures code { IfOk result (λ m. opcode_of m ≡ opcode) }
-        ensures announced { IfOk result (λ m. Announced (announced_of m) objects.old objects.new) }
-        ensures err { OnErr result (objects.new ≡ objects.old) }
-    {
+impl Message for Event {
+    ghost code = { opcode_of };
+
+    ghost values = { values_of };
+
+    ghost announced = { announced_of };
+
+    ghost KNOWN = { KnownInterface.Handshake };
+
+    #[inline(always)]
+    fn parse(opcode: u32, bytes: &mut ByteStream<'_>, objects: &mut Table) -> Parsed<Event> {
         match opcode {
             0 => Ok(Event::HandshakeVersion {
                 version: read_one(bytes)?,
@@ -123,9 +104,7 @@ impl Event {
         }
     }
 
-    pub(crate) fn opcode(&self) -> u32
-        ensures { result ≡ opcode_of self.now }
-    {
+    fn opcode(&self) -> u32 {
         match self {
             Event::HandshakeVersion { .. } => 0,
             Event::InterfaceVersion { .. } => 1,
@@ -133,10 +112,7 @@ impl Event {
         }
     }
 
-    /// The arguments in order.
-    pub(crate) fn args(&self, alloc: Global) -> Result<Vec<Arg<'_>>, NoMemory>
-        ensures { IfOk result (λ args. Shows true known.Handshake (opcode_of self.now) (values_of self.now) args.items) }
-    {
+    fn args(&self, alloc: Global) -> Result<Vec<Arg<'_>>, NoMemory> {
         Ok(match self {
             Event::HandshakeVersion { version } => Vec::from_array(alloc, [Arg::Uint32(*version)])?,
             Event::InterfaceVersion { name, version } => {

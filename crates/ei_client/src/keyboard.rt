@@ -1,40 +1,26 @@
 //! `ei_keyboard`: the keys of a device.
 
-ghost use Rattle.std.specs.Prelude.{◌≡◌, IfOk, true, codes, [], ◌∷◌};
-ghost use Rattle.ei_backend.specs.Proxies.{Word, ReadsRow, Shows, Sends};
-ghost use Rattle.ei_spec.specs.declared.interface.KnownInterface.TheVariants as known;
-ghost use Rattle.ei_types.specs.Enums.{key_state_number};
+ghost use Rattle.std.specs.Prelude.{refl, codes, [], ◌∷◌};
+ghost use Rattle.ei_client.specs.Words.{KnownInterface, Word, Sends, key_state_number};
 ghost use Rattle.ei_client.specs.Keyboard.{opcode_of, values_of, request};
 
-use crate::{Context, Proxy};
-use ei_backend::{Interface, Table, kinds};
+use crate::prelude::*;
 use ei_types::{KeyState, KeymapType};
-use ei_wire::{
-    Arg, ByteStream, Handle, NoMemory, OwnedArg, ParseError, SendError, read_five, read_one,
-    read_three, read_two,
-};
-use std::alloc::Global;
 
 /// The keys of a device.
 pub type Keyboard = Proxy<kinds::Keyboard>;
 
-impl Keyboard {
-    /// Tells the server that the client is done with the object. It stays until the server takes it away.
-    ///
-    /// `NoMemory`: nothing is sent.
-    pub fn release(&self, ctx: &mut Context) -> Result<(), SendError>
-        ensures sends { Sends (request (codes "release")) self.now [] ctx.old ctx.new result }
-    {
-        self.object.request(ctx, 0, &[])
-    }
+impl Release for kinds::Keyboard {
+    ghost row = { refl };
+}
 
+impl Keyboard {
     /// Tells the server that a key goes down or up. The key is a code of the keymap, or without one of
     /// `linux/input-event-codes.h`.
     ///
     /// `NoMemory`: nothing is sent.
-    pub fn key(&self, ctx: &mut Context, key: u32, state: KeyState) -> Result<(), SendError>
-        ensures sends { Sends (request (codes "key")) self.now
-            (Word key ∷ Word (key_state_number state) ∷ []) ctx.old ctx.new result }
+    pub fn key(&self, ctx: &mut Context, key: u32, state: KeyState) -> Sent
+        ensures sends { Sends (request (codes "key")) self.now (Word key ∷ Word (key_state_number state) ∷ []) ctx.old ctx.new result }
     {
         let args = [Arg::Uint32(key), state.as_arg()];
         self.object.request(ctx, 1, &args)
@@ -70,17 +56,15 @@ pub enum Event {
     },
 }
 
-impl Event {
-    pub(crate) fn parse(
-        opcode: u32,
-        bytes: &mut ByteStream<'_>,
-        objects: &mut Table,
-    ) -> Result<Event, ParseError>
-        ensures read { ReadsRow values_of true known.Keyboard opcode
-            bytes.old bytes.new objects.old objects.new result }
-        ensures code { IfOk result (λ m. opcode_of m ≡ opcode) }
-        ensures table { objects.new ≡ objects.old }
-    {
+impl Message for Event {
+    ghost code = { opcode_of };
+
+    ghost values = { values_of };
+
+    ghost KNOWN = { KnownInterface.Keyboard };
+
+    #[inline(always)]
+    fn parse(opcode: u32, bytes: &mut ByteStream<'_>, _: &mut Table) -> Parsed<Event> {
         match opcode {
             0 => Ok(Event::Destroyed {
                 serial: read_one(bytes)?,
@@ -111,9 +95,7 @@ impl Event {
         }
     }
 
-    pub(crate) fn opcode(&self) -> u32
-        ensures { result ≡ opcode_of self.now }
-    {
+    fn opcode(&self) -> u32 {
         match self {
             Event::Destroyed { .. } => 0,
             Event::Keymap { .. } => 1,
@@ -122,9 +104,7 @@ impl Event {
         }
     }
 
-    pub(crate) fn args(&self, alloc: Global) -> Result<Vec<Arg<'_>>, NoMemory>
-        ensures { IfOk result (λ args. Shows true known.Keyboard (opcode_of self.now) (values_of self.now) args.items) }
-    {
+    fn args(&self, alloc: Global) -> Result<Vec<Arg<'_>>, NoMemory> {
         Ok(match self {
             Event::Destroyed { serial } => Vec::from_array(alloc, [Arg::Uint32(*serial)])?,
             Event::Keymap {

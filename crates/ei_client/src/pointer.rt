@@ -1,39 +1,24 @@
 //! `ei_pointer`: the relative motion of a device.
 
-ghost use Rattle.std.specs.Prelude.{◌≡◌, IfOk, true, codes, [], ◌∷◌};
-ghost use Rattle.ei_backend.specs.Proxies.{Word, ReadsRow, Shows, Sends};
-ghost use Rattle.ei_spec.specs.declared.interface.KnownInterface.TheVariants as known;
+ghost use Rattle.std.specs.Prelude.{refl, codes, [], ◌∷◌};
+ghost use Rattle.ei_client.specs.Words.{KnownInterface, Word, Sends};
 ghost use Rattle.ei_client.specs.Pointer.{opcode_of, values_of, request};
 
-use crate::{Context, Proxy};
-use ei_backend::{Table, kinds};
-use ei_wire::{Arg, ByteStream, NoMemory, ParseError, RawFloat, SendError, read_one, read_two};
-use std::alloc::Global;
+use crate::prelude::*;
 
 /// The relative motion of a device.
 pub type Pointer = Proxy<kinds::Pointer>;
 
-impl Pointer {
-    /// Tells the server that the client is done with the object. It stays until the server takes it away.
-    ///
-    /// `NoMemory`: nothing is sent.
-    pub fn release(&self, ctx: &mut Context) -> Result<(), SendError>
-        ensures sends { Sends (request (codes "release")) self.now [] ctx.old ctx.new result }
-    {
-        self.object.request(ctx, 0, &[])
-    }
+impl Release for kinds::Pointer {
+    ghost row = { refl };
+}
 
+impl Pointer {
     /// Tells the server that the pointer moves by x and y, in logical pixels.
     ///
     /// `NoMemory`: nothing is sent.
-    pub fn motion_relative(
-        &self,
-        ctx: &mut Context,
-        x: RawFloat,
-        y: RawFloat,
-    ) -> Result<(), SendError>
-        ensures sends { Sends (request (codes "motion_relative")) self.now
-            (Word x.0 ∷ Word y.0 ∷ []) ctx.old ctx.new result }
+    pub fn motion_relative(&self, ctx: &mut Context, x: RawFloat, y: RawFloat) -> Sent
+        ensures sends { Sends (request (codes "motion_relative")) self.now (Word x.0 ∷ Word y.0 ∷ []) ctx.old ctx.new result }
     {
         let args = [Arg::Float(x.0), Arg::Float(y.0)];
         self.object.request(ctx, 1, &args)
@@ -49,16 +34,15 @@ pub enum Event {
     MotionRelative { x: RawFloat, y: RawFloat },
 }
 
-impl Event {
-    pub(crate) fn parse(
-        opcode: u32,
-        bytes: &mut ByteStream<'_>,
-        objects: &mut Table,
-    ) -> Result<Event, ParseError>
-        ensures read { ReadsRow values_of true known.Pointer opcode bytes.old bytes.new objects.old objects.new result }
-        ensures code { IfOk result (λ m. opcode_of m ≡ opcode) }
-        ensures table { objects.new ≡ objects.old }
-    {
+impl Message for Event {
+    ghost code = { opcode_of };
+
+    ghost values = { values_of };
+
+    ghost KNOWN = { KnownInterface.Pointer };
+
+    #[inline(always)]
+    fn parse(opcode: u32, bytes: &mut ByteStream<'_>, _: &mut Table) -> Parsed<Event> {
         match opcode {
             0 => Ok(Event::Destroyed {
                 serial: read_one(bytes)?,
@@ -71,18 +55,14 @@ impl Event {
         }
     }
 
-    pub(crate) fn opcode(&self) -> u32
-        ensures { result ≡ opcode_of self.now }
-    {
+    fn opcode(&self) -> u32 {
         match self {
             Event::Destroyed { .. } => 0,
             Event::MotionRelative { .. } => 1,
         }
     }
 
-    pub(crate) fn args(&self, alloc: Global) -> Result<Vec<Arg<'_>>, NoMemory>
-        ensures { IfOk result (λ args. Shows true known.Pointer (opcode_of self.now) (values_of self.now) args.items) }
-    {
+    fn args(&self, alloc: Global) -> Result<Vec<Arg<'_>>, NoMemory> {
         Ok(match self {
             Event::Destroyed { serial } => Vec::from_array(alloc, [Arg::Uint32(*serial)])?,
             Event::MotionRelative { x, y } => Vec::from_array(

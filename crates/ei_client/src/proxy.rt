@@ -21,6 +21,9 @@ use std::alloc::AllocError;
 use std::fmt;
 use std::marker::{Model, PhantomData};
 
+/// What a call that sends a message answers.
+pub type Sent = Result<(), SendError>;
+
 /// An object of one interface, by its kind: `Seat` is `Proxy<kinds::Seat>`.
 #[derive(Drop)]
 #[derive_where(PartialEq, Eq, Hash)]
@@ -127,12 +130,7 @@ impl<K: Kind> Proxy<K> {
     }
 
     /// Sends the last message of the object, and takes it out of the table.
-    pub(crate) fn send_last(
-        &self,
-        ctx: &mut Context,
-        opcode: u32,
-        args: &[Arg<'_>],
-    ) -> Result<(), SendError>
+    pub(crate) fn send_last(&self, ctx: &mut Context, opcode: u32, args: &[Arg<'_>]) -> Sent
         ensures ok { OnOk result
             (ctx.new ≡ removed (sent ctx.old self.now.id opcode (map value_of_arg args.now)) self.now.id) }
         ensures long { IsErrOf result send_error.MessageTooLong

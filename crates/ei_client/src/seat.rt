@@ -1,32 +1,24 @@
 //! `ei_seat`: a seat, which offers capabilities.
 
-ghost use Rattle.std.specs.Prelude.{◌≡◌, IfOk, OnErr, true, codes, [], ◌∷◌};
-ghost use Rattle.ei_backend.specs.Proxies.{Long, Announced, ReadsRow, Shows, Sends};
-ghost use Rattle.ei_spec.specs.declared.interface.KnownInterface.TheVariants as known;
+ghost use Rattle.std.specs.Prelude.{refl, codes, [], ◌∷◌};
+ghost use Rattle.ei_client.specs.Words.{KnownInterface, Long, Sends};
 ghost use Rattle.ei_client.specs.Seat.{opcode_of, values_of, announced_of, request};
 
-use crate::{Context, Device, Proxy};
-use ei_backend::{Interface, Table, kinds};
-use ei_wire::{Arg, ByteStream, EiText, NoMemory, ParseError, SendError, read_one, read_two};
-use std::alloc::Global;
+use crate::Device;
+use crate::prelude::*;
 
 /// A seat.
 pub type Seat = Proxy<kinds::Seat>;
 
-impl Seat {
-    /// Tells the server that the client wants the seat no more. The seat stays until the server takes it away.
-    ///
-    /// `NoMemory`: nothing is sent.
-    pub fn release(&self, ctx: &mut Context) -> Result<(), SendError>
-        ensures sends { Sends (request (codes "release")) self.now [] ctx.old ctx.new result }
-    {
-        self.object.request(ctx, 0, &[])
-    }
+impl Release for kinds::Seat {
+    ghost row = { refl };
+}
 
+impl Seat {
     /// Asks for devices of these capabilities: a mask of those that the seat offered.
     ///
     /// `NoMemory`: nothing is sent.
-    pub fn bind(&self, ctx: &mut Context, capabilities: u64) -> Result<(), SendError>
+    pub fn bind(&self, ctx: &mut Context, capabilities: u64) -> Sent
         ensures sends { Sends (request (codes "bind")) self.now (Long capabilities ∷ []) ctx.old ctx.new result }
     {
         self.object.request(ctx, 1, &[Arg::Uint64(capabilities)])
@@ -35,9 +27,8 @@ impl Seat {
     /// Asks for one more device of these capabilities.
     ///
     /// `NoMemory`: nothing is sent.
-    pub fn request_device(&self, ctx: &mut Context, capabilities: u64) -> Result<(), SendError>
-        ensures sends { Sends (request (codes "request_device")) self.now
-            (Long capabilities ∷ []) ctx.old ctx.new result }
+    pub fn request_device(&self, ctx: &mut Context, capabilities: u64) -> Sent
+        ensures sends { Sends (request (codes "request_device")) self.now (Long capabilities ∷ []) ctx.old ctx.new result }
     {
         self.object.request(ctx, 2, &[Arg::Uint64(capabilities)])
     }
@@ -58,18 +49,17 @@ pub enum Event {
     Device { device: Device },
 }
 
-impl Event {
-    /// Reads the arguments of an event of that opcode, and announces the device that it bears.
-    pub(crate) fn parse(
-        opcode: u32,
-        bytes: &mut ByteStream<'_>,
-        objects: &mut Table,
-    ) -> Result<Event, ParseError>
-        ensures read { ReadsRow values_of true known.Seat opcode bytes.old bytes.new objects.old objects.new result }
-        ensures code { IfOk result (λ m. opcode_of m ≡ opcode) }
-        ensures announced { IfOk result (λ m. Announced (announced_of m) objects.old objects.new) }
-        ensures err { OnErr result (objects.new ≡ objects.old) }
-    {
+impl Message for Event {
+    ghost code = { opcode_of };
+
+    ghost values = { values_of };
+
+    ghost announced = { announced_of };
+
+    ghost KNOWN = { KnownInterface.Seat };
+
+    #[inline(always)]
+    fn parse(opcode: u32, bytes: &mut ByteStream<'_>, objects: &mut Table) -> Parsed<Event> {
         match opcode {
             0 => Ok(Event::Destroyed {
                 serial: read_one(bytes)?,
@@ -91,9 +81,7 @@ impl Event {
         }
     }
 
-    pub(crate) fn opcode(&self) -> u32
-        ensures { result ≡ opcode_of self.now }
-    {
+    fn opcode(&self) -> u32 {
         match self {
             Event::Destroyed { .. } => 0,
             Event::Name { .. } => 1,
@@ -103,10 +91,7 @@ impl Event {
         }
     }
 
-    /// The arguments in order.
-    pub(crate) fn args(&self, alloc: Global) -> Result<Vec<Arg<'_>>, NoMemory>
-        ensures { IfOk result (λ args. Shows true known.Seat (opcode_of self.now) (values_of self.now) args.items) }
-    {
+    fn args(&self, alloc: Global) -> Result<Vec<Arg<'_>>, NoMemory> {
         Ok(match self {
             Event::Destroyed { serial } => Vec::from_array(alloc, [Arg::Uint32(*serial)])?,
             Event::Name { name } => Vec::from_array(alloc, [Arg::String(Some(name.as_str()))])?,

@@ -1,36 +1,24 @@
 //! `ei_text`: the keysyms and the text of a device.
 
-ghost use Rattle.std.specs.Prelude.{◌≡◌, IfOk, true, codes, [], ◌∷◌};
-ghost use Rattle.ei_backend.specs.Proxies.{Word, Letters, ReadsRow, Shows, Sends, SendsText};
-ghost use Rattle.ei_spec.specs.declared.interface.KnownInterface.TheVariants as known;
-ghost use Rattle.ei_types.specs.Enums.{key_state_number};
+ghost use Rattle.std.specs.Prelude.{refl, codes, [], ◌∷◌};
+ghost use Rattle.ei_client.specs.Words.{KnownInterface, Word, Letters, Sends, SendsText, key_state_number};
 ghost use Rattle.ei_client.specs.Text.{opcode_of, values_of, request};
 
-use crate::{Context, Proxy};
-use ei_backend::{Interface, Table, kinds};
+use crate::prelude::*;
 use ei_types::KeyState;
-use ei_wire::{
-    Arg, ByteStream, EiText, NoMemory, OwnedArg, ParseError, SendError, read_one, read_two,
-};
-use std::alloc::Global;
 
 /// The keysyms and the text of a device.
 pub type Text = Proxy<kinds::Text>;
 
-impl Text {
-    /// Tells the server that the client is done with the object. It stays until the server takes it away.
-    ///
-    /// `NoMemory`: nothing is sent.
-    pub fn release(&self, ctx: &mut Context) -> Result<(), SendError>
-        ensures sends { Sends (request (codes "release")) self.now [] ctx.old ctx.new result }
-    {
-        self.object.request(ctx, 0, &[])
-    }
+impl Release for kinds::Text {
+    ghost row = { refl };
+}
 
+impl Text {
     /// Tells the server that a keysym, by its number in XKB, goes down or up.
     ///
     /// `NoMemory`: nothing is sent.
-    pub fn keysym(&self, ctx: &mut Context, keysym: u32, state: KeyState) -> Result<(), SendError>
+    pub fn keysym(&self, ctx: &mut Context, keysym: u32, state: KeyState) -> Sent
         ensures sends { Sends (request (codes "keysym")) self.now
             (Word keysym ∷ Word (key_state_number state) ∷ []) ctx.old ctx.new result }
     {
@@ -43,7 +31,7 @@ impl Text {
     /// `MessageTooLong` exactly where the message would have more than 1048576 bytes, `NoMemory`: nothing is
     /// sent.
     #[tactic(auto, using(ei_spec::proofs::Utf8::is_text))]
-    pub fn utf8(&self, ctx: &mut Context, text: &str) -> Result<(), SendError>
+    pub fn utf8(&self, ctx: &mut Context, text: &str) -> Sent
         ensures sends { SendsText (request (codes "utf8")) self.now (Letters text.now ∷ []) ctx.old ctx.new result }
     {
         self.object.request(ctx, 2, &[Arg::String(Some(text))])
@@ -61,16 +49,15 @@ pub enum Event {
     Utf8 { text: EiText },
 }
 
-impl Event {
-    pub(crate) fn parse(
-        opcode: u32,
-        bytes: &mut ByteStream<'_>,
-        objects: &mut Table,
-    ) -> Result<Event, ParseError>
-        ensures read { ReadsRow values_of true known.Text opcode bytes.old bytes.new objects.old objects.new result }
-        ensures code { IfOk result (λ m. opcode_of m ≡ opcode) }
-        ensures table { objects.new ≡ objects.old }
-    {
+impl Message for Event {
+    ghost code = { opcode_of };
+
+    ghost values = { values_of };
+
+    ghost KNOWN = { KnownInterface.Text };
+
+    #[inline(always)]
+    fn parse(opcode: u32, bytes: &mut ByteStream<'_>, _: &mut Table) -> Parsed<Event> {
         match opcode {
             0 => Ok(Event::Destroyed {
                 serial: read_one(bytes)?,
@@ -86,9 +73,7 @@ impl Event {
         }
     }
 
-    pub(crate) fn opcode(&self) -> u32
-        ensures { result ≡ opcode_of self.now }
-    {
+    fn opcode(&self) -> u32 {
         match self {
             Event::Destroyed { .. } => 0,
             Event::Keysym { .. } => 1,
@@ -96,9 +81,7 @@ impl Event {
         }
     }
 
-    pub(crate) fn args(&self, alloc: Global) -> Result<Vec<Arg<'_>>, NoMemory>
-        ensures { IfOk result (λ args. Shows true known.Text (opcode_of self.now) (values_of self.now) args.items) }
-    {
+    fn args(&self, alloc: Global) -> Result<Vec<Arg<'_>>, NoMemory> {
         Ok(match self {
             Event::Destroyed { serial } => Vec::from_array(alloc, [Arg::Uint32(*serial)])?,
             Event::Keysym { keysym, state } => {

@@ -1,41 +1,25 @@
 //! `ei_touchscreen`: the touches on a device.
 
-ghost use Rattle.std.specs.Prelude.{◌≡◌, IfOk, true, codes, [], ◌∷◌};
-ghost use Rattle.ei_backend.specs.Proxies.{Word, ReadsRow, Shows, Sends};
-ghost use Rattle.ei_spec.specs.declared.interface.KnownInterface.TheVariants as known;
+ghost use Rattle.std.specs.Prelude.{refl, codes, [], ◌∷◌};
+ghost use Rattle.ei_client.specs.Words.{KnownInterface, Word, Sends};
 ghost use Rattle.ei_client.specs.Touchscreen.{opcode_of, values_of, request};
 
-use crate::{Context, Proxy};
-use ei_backend::{Table, kinds};
-use ei_wire::{Arg, ByteStream, NoMemory, ParseError, RawFloat, SendError, read_one, read_three};
-use std::alloc::Global;
+use crate::prelude::*;
 
 /// The touches on a device.
 pub type Touchscreen = Proxy<kinds::Touchscreen>;
 
-impl Touchscreen {
-    /// Tells the server that the client is done with the object. It stays until the server takes it away.
-    ///
-    /// `NoMemory`: nothing is sent.
-    pub fn release(&self, ctx: &mut Context) -> Result<(), SendError>
-        ensures sends { Sends (request (codes "release")) self.now [] ctx.old ctx.new result }
-    {
-        self.object.request(ctx, 0, &[])
-    }
+impl Release for kinds::Touchscreen {
+    ghost row = { refl };
+}
 
+impl Touchscreen {
     /// Tells the server that a touch begins at the point at x and y, in logical pixels. The id is its name
     /// until it ends.
     ///
     /// `NoMemory`: nothing is sent.
-    pub fn down(
-        &self,
-        ctx: &mut Context,
-        touchid: u32,
-        x: RawFloat,
-        y: RawFloat,
-    ) -> Result<(), SendError>
-        ensures sends { Sends (request (codes "down")) self.now
-            (Word touchid ∷ Word x.0 ∷ Word y.0 ∷ []) ctx.old ctx.new result }
+    pub fn down(&self, ctx: &mut Context, touchid: u32, x: RawFloat, y: RawFloat) -> Sent
+        ensures sends { Sends (request (codes "down")) self.now (Word touchid ∷ Word x.0 ∷ Word y.0 ∷ []) ctx.old ctx.new result }
     {
         let args = [Arg::Uint32(touchid), Arg::Float(x.0), Arg::Float(y.0)];
         self.object.request(ctx, 1, &args)
@@ -44,15 +28,8 @@ impl Touchscreen {
     /// Tells the server that a touch moves to the point at x and y, in logical pixels.
     ///
     /// `NoMemory`: nothing is sent.
-    pub fn motion(
-        &self,
-        ctx: &mut Context,
-        touchid: u32,
-        x: RawFloat,
-        y: RawFloat,
-    ) -> Result<(), SendError>
-        ensures sends { Sends (request (codes "motion")) self.now
-            (Word touchid ∷ Word x.0 ∷ Word y.0 ∷ []) ctx.old ctx.new result }
+    pub fn motion(&self, ctx: &mut Context, touchid: u32, x: RawFloat, y: RawFloat) -> Sent
+        ensures sends { Sends (request (codes "motion")) self.now (Word touchid ∷ Word x.0 ∷ Word y.0 ∷ []) ctx.old ctx.new result }
     {
         let args = [Arg::Uint32(touchid), Arg::Float(x.0), Arg::Float(y.0)];
         self.object.request(ctx, 2, &args)
@@ -61,7 +38,7 @@ impl Touchscreen {
     /// Tells the server that a touch ends.
     ///
     /// `NoMemory`: nothing is sent.
-    pub fn up(&self, ctx: &mut Context, touchid: u32) -> Result<(), SendError>
+    pub fn up(&self, ctx: &mut Context, touchid: u32) -> Sent
         ensures sends { Sends (request (codes "up")) self.now (Word touchid ∷ []) ctx.old ctx.new result }
     {
         self.object.request(ctx, 3, &[Arg::Uint32(touchid)])
@@ -70,7 +47,7 @@ impl Touchscreen {
     /// Tells the server that a touch ends and is not to count.
     ///
     /// `NoMemory`: nothing is sent.
-    pub fn cancel(&self, ctx: &mut Context, touchid: u32) -> Result<(), SendError>
+    pub fn cancel(&self, ctx: &mut Context, touchid: u32) -> Sent
         ensures sends { Sends (request (codes "cancel")) self.now (Word touchid ∷ []) ctx.old ctx.new result }
     {
         self.object.request(ctx, 4, &[Arg::Uint32(touchid)])
@@ -106,17 +83,15 @@ pub enum Event {
     },
 }
 
-impl Event {
-    pub(crate) fn parse(
-        opcode: u32,
-        bytes: &mut ByteStream<'_>,
-        objects: &mut Table,
-    ) -> Result<Event, ParseError>
-        ensures read { ReadsRow values_of true known.Touchscreen opcode
-            bytes.old bytes.new objects.old objects.new result }
-        ensures code { IfOk result (λ m. opcode_of m ≡ opcode) }
-        ensures table { objects.new ≡ objects.old }
-    {
+impl Message for Event {
+    ghost code = { opcode_of };
+
+    ghost values = { values_of };
+
+    ghost KNOWN = { KnownInterface.Touchscreen };
+
+    #[inline(always)]
+    fn parse(opcode: u32, bytes: &mut ByteStream<'_>, _: &mut Table) -> Parsed<Event> {
         match opcode {
             0 => Ok(Event::Destroyed {
                 serial: read_one(bytes)?,
@@ -139,9 +114,7 @@ impl Event {
         }
     }
 
-    pub(crate) fn opcode(&self) -> u32
-        ensures { result ≡ opcode_of self.now }
-    {
+    fn opcode(&self) -> u32 {
         match self {
             Event::Destroyed { .. } => 0,
             Event::Down { .. } => 1,
@@ -151,26 +124,18 @@ impl Event {
         }
     }
 
-    pub(crate) fn args(&self, alloc: Global) -> Result<Vec<Arg<'_>>, NoMemory>
-        ensures { IfOk result
-            (λ args. Shows true known.Touchscreen (opcode_of self.now) (values_of self.now) args.items) }
-    {
+    fn args(&self, alloc: Global) -> Result<Vec<Arg<'_>>, NoMemory> {
         Ok(match self {
             Event::Destroyed { serial } => Vec::from_array(alloc, [Arg::Uint32(*serial)])?,
-            Event::Down { touchid, x, y } => {
+            Event::Down { touchid, x, y } | Event::Motion { touchid, x, y } => {
                 Vec::from_array(
                     alloc,
                     [Arg::Uint32(*touchid), Arg::Float(x.0), Arg::Float(y.0)],
                 )?
             }
-            Event::Motion { touchid, x, y } => {
-                Vec::from_array(
-                    alloc,
-                    [Arg::Uint32(*touchid), Arg::Float(x.0), Arg::Float(y.0)],
-                )?
+            Event::Up { touchid } | Event::Cancel { touchid } => {
+                Vec::from_array(alloc, [Arg::Uint32(*touchid)])?
             }
-            Event::Up { touchid } => Vec::from_array(alloc, [Arg::Uint32(*touchid)])?,
-            Event::Cancel { touchid } => Vec::from_array(alloc, [Arg::Uint32(*touchid)])?,
         })
     }
 }

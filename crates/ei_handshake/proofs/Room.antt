@@ -1,5 +1,5 @@
 -- The room that the events of a finish take, and what is sent within it.
-use Rattle.std.proofs.Common.{◌≡◌, ◌<◌, ◌≤◌, ℕ, ◌+◌, ◌*◌, true, List, [], ◌∷◌, Option, Some, None, Result, Ok, Err, refl, sym, ap, ◌∙◌, subst, arith, inl, inr}
+use Rattle.std.proofs.Common.{◌≡◌, ◌<◌, ◌≤◌, ℕ, ◌+◌, true, [], ◌∷◌, Option, Some, None, Result, Ok, Err, refl, sym, ap, ◌∙◌, subst, arith, inl, inr}
 use Rattle.std.specs.Prelude.{codes, IsOk, IfErr, IsErrOf}
 use Rattle.std.proofs.lemmas.Bool.{cases_lt}
 use Rattle.std.proofs.lemmas.List.{length-append}
@@ -18,7 +18,7 @@ use Rattle.ei_types.specs.declared.error.Error.TheVariants as error
 use Rattle.ei_backend.specs.Table.{own, own_end, with_own, without}
 use Rattle.ei_backend.specs.Outgoing.{Room, HasSpare}
 use Rattle.ei_backend.specs.Backend.{BackendView, unsent_of, with_room, after_row}
-use Rattle.ei_backend.specs.Endpoint.{Endpoint, endpoint_of}
+use Rattle.ei_backend.specs.Endpoint.{endpoint_of}
 use Rattle.ei_backend.specs.Sends.{SendsText, SendsNew}
 use Rattle.ei_backend.proofs.GoingOut.{message_length}
 use Rattle.ei_server.specs.Handshake.{event}

@@ -1,14 +1,13 @@
 -- What a server's handshake does with a request.
-use Rattle.std.specs.Prelude.{◌≡◌, ℕ, min, ◌+◌, ◌<◌, ◌≤◌, Bool, true, false, List, [], ◌∷◌, ◌++◌, Option, Some, None, Result, Ok, Err, is_some, unwrap_or, refl}
+use Rattle.std.specs.Prelude.{◌≡◌, ℕ, min, ◌<◌, ◌≤◌, Bool, true, false, List, [], ◌∷◌, ◌++◌, Option, Some, None, Result, Ok, Err, is_some, unwrap_or, refl}
 use Rattle.std.specs.List.{list_all}
 use Rattle.std.specs.FinMap as finite
 use Rattle.std.specs.Coded.{Coded, code_by, coded×, coded_ℕ, coded_list, coded_option}
 use Rattle.ei_spec.specs.declared.interface.KnownInterface.{KnownInterface}
 use Rattle.ei_spec.specs.declared.interface.KnownInterface.TheVariants as known
 use Rattle.ei_spec.specs.Interface.{Known, ObjectView, name_of, known_of, server_version}
-use Rattle.ei_spec.specs.Value.{Word, Long}
 use Rattle.ei_spec.specs.Message.{Raw, all_bytes}
-use Rattle.ei_backend.specs.Backend.{BackendView, removed}
+use Rattle.ei_backend.specs.Backend.{BackendView}
 use Rattle.ei_backend.specs.Endpoint.{endpoint_of}
 use Rattle.ei_backend.specs.Table.{own, own_end, with_own, without}
 use Rattle.ei_server.specs.declared.request.Request.{Request}
@@ -186,3 +185,9 @@ abbrev pub Handles : HandshakerView → BackendView → Request → Result (Opti
 Handles h b (request.Handshake proxy m) result new sent = HandlesAsked proxy.id h b m result new sent
 Handles h b other (Ok answer) new sent = ⊥
 Handles h b other (Err e) new sent = RefusesOther e h b new sent
+
+-- what is told is kept or refused, whatever the endpoint; and of a finish nothing is done yet
+abbrev pub KeepsButFinish : HandshakerView → Request → Result (Option ObjectView) Error → HandshakerView → Type 0
+KeepsButFinish h r (Ok None) new = (b : BackendView) → Handles h b r (Ok None) new b
+KeepsButFinish h r (Ok (Some proxy)) new = (r ≡ request.Handshake proxy asked.Finish) × (new ≡ h)
+KeepsButFinish h r (Err e) new = (b : BackendView) → Handles h b r (Err e) new b

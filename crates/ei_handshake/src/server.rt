@@ -1,13 +1,14 @@
 //! The server's handshake.
 
-ghost use Rattle.std.specs.Prelude.{◌≡◌, ◌+◌, ◌*◌, ℕ, Some, None, IsSome, IfOk, OnOk, OnErr, IfErr, is_some, false, [], ◌∷◌};
+ghost use Rattle.std.specs.Prelude.{◌≡◌, ◌+◌, ◌*◌, ℕ, Some, None, IsSome, IfOk, OnOk, OnErr, IfErr, is_some, true, false, [], ◌∷◌};
 ghost use Rattle.std.specs.Option.{ForSome};
 ghost use Rattle.ei_backend.specs.Table.{found};
 ghost use Rattle.ei_backend.specs.Backend.{unsent_of, with_room};
 ghost use Rattle.ei_backend.specs.Outgoing.{HasSpare};
 ghost use Rattle.ei_session.specs.Replies.{greeting_to};
 ghost use Rattle.ei_handshake.specs.Handshaker.{untold, settled_version, with_version, settled_in, has_required, event_if, kept_events, sends};
-ghost use Rattle.ei_handshake.specs.Handshaker.{Handles, HandlesAsked, IsSecond, Completes, RefusesFinish};
+ghost use Rattle.ei_handshake.specs.Handshaker.{Handles, KeepsButFinish, is_repeated, told, Completes, RefusesFinish};
+ghost use Rattle.ei_types.specs.declared.error.HandshakeError.TheVariants as handshake_error;
 
 use crate::versions::Versions;
 use ei_backend::HasBackend;
@@ -79,7 +80,7 @@ impl EisHandshaker {
         Ok(EisHandshaker {
             alloc,
             initial_serial,
-            versions: Versions::new(alloc),
+            versions: Versions::new(),
             name: None,
             context_type: None,
         })
@@ -104,66 +105,74 @@ impl EisHandshaker {
         ensures handles { Handles self.old ctx.old request result self.new ctx.new }
         ensures ring { ctx.new.capacity ≡ ctx.old.capacity }
     {
-        match request {
-            Request::Handshake(handshake, asked) => self.handle(ctx, handshake, asked),
-            _ => Err(Error::Handshake(HandshakeError::NonHandshakeEvent)),
-        }
-    }
-
-    /// Does what a request of the handshake asks.
-    fn handle(
-        &mut self,
-        ctx: &mut Context,
-        handshake: Handshake,
-        asked: handshake::Request,
-    ) -> Result<Option<EisHandshakeResp>, Error>
-        ensures handles { HandlesAsked handshake.id self.old ctx.old asked result self.new ctx.new }
-        ensures ring { ctx.new.capacity ≡ ctx.old.capacity }
-    {
-        match asked {
-            handshake::Request::HandshakeVersion { .. } => Ok(None),
-            handshake::Request::Name { name } => {
-                self.keep_name(name)?;
-                Ok(None)
-            }
-            handshake::Request::ContextType { context_type } => {
-                self.keep_context_type(context_type)?;
-                Ok(None)
-            }
-            handshake::Request::InterfaceVersion { name, version } => {
-                self.announce(name.as_str(), version)?;
-                Ok(None)
-            }
-            handshake::Request::Finish => {
+        match self.keep(request)? {
+            None => Ok(None),
+            Some(handshake) => {
                 let resp = self.finish(ctx, &handshake)?;
                 Ok(Some(resp))
             }
         }
     }
 
+    /// Keeps what a request of the handshake tells. It answers the handshake at a `finish`, of which nothing is done yet: `finish` does it.
+    ///
+    /// `NonHandshakeEvent` and `DuplicateEvent` as of `handle_request`. It takes no memory, and sends nothing.
+    pub fn keep(&mut self, request: Request) -> Result<Option<Handshake>, Error>
+        ensures { KeepsButFinish self.old request result self.new }
+    {
+        match request {
+            Request::Handshake(handshake, handshake::Request::Finish) => Ok(Some(handshake)),
+            Request::Handshake(_, asked) => {
+                self.keep_told(asked)?;
+                Ok(None)
+            }
+            _ => Err(Error::Handshake(HandshakeError::NonHandshakeEvent)),
+        }
+    }
+
+    /// Keeps what a request of the handshake tells; a `finish` tells nothing.
+    fn keep_told(&mut self, asked: handshake::Request) -> Result<(), HandshakeError>
+        ensures first { OnOk result (is_repeated self.old asked ≡ false) }
+        ensures ok { OnOk result (self.new ≡ told self.old asked) }
+        ensures err { OnErr result (self.new ≡ self.old) }
+        ensures only { IfErr result (λ e. (e ≡ handshake_error.DuplicateEvent) × (is_repeated self.old asked ≡ true)) }
+    {
+        match asked {
+            handshake::Request::HandshakeVersion { .. } | handshake::Request::Finish => Ok(()),
+            handshake::Request::Name { name } => self.keep_name(name),
+            handshake::Request::ContextType { context_type } => {
+                self.keep_context_type(context_type)
+            }
+            handshake::Request::InterfaceVersion { name, version } => {
+                self.announce(name.as_str(), version);
+                Ok(())
+            }
+        }
+    }
+
     /// Keeps the client's name. `DuplicateEvent` where one came before.
-    fn keep_name(&mut self, name: EiText) -> Result<(), Error>
+    fn keep_name(&mut self, name: EiText) -> Result<(), HandshakeError>
         ensures first { OnOk result (is_some self.old.name ≡ false) }
         ensures ok { OnOk result (self.new ≡ record self.old { name = Some name }) }
         ensures err { OnErr result (self.new ≡ self.old) }
-        ensures only { IfErr result (IsSecond (is_some self.old.name)) }
+        ensures only { IfErr result (λ e. (e ≡ handshake_error.DuplicateEvent) × (is_some self.old.name ≡ true)) }
     {
         if self.name.is_some() {
-            return Err(Error::Handshake(HandshakeError::DuplicateEvent));
+            return Err(HandshakeError::DuplicateEvent);
         }
         self.name = Some(name);
         Ok(())
     }
 
     /// Keeps what the client is for. `DuplicateEvent` where it was told before.
-    fn keep_context_type(&mut self, context_type: ContextType) -> Result<(), Error>
+    fn keep_context_type(&mut self, context_type: ContextType) -> Result<(), HandshakeError>
         ensures first { OnOk result (is_some self.old.context_type ≡ false) }
         ensures ok { OnOk result (self.new ≡ record self.old { context_type = Some context_type }) }
         ensures err { OnErr result (self.new ≡ self.old) }
-        ensures only { IfErr result (IsSecond (is_some self.old.context_type)) }
+        ensures only { IfErr result (λ e. (e ≡ handshake_error.DuplicateEvent) × (is_some self.old.context_type ≡ true)) }
     {
         if self.context_type.is_some() {
-            return Err(Error::Handshake(HandshakeError::DuplicateEvent));
+            return Err(HandshakeError::DuplicateEvent);
         }
         self.context_type = Some(context_type);
         Ok(())
@@ -173,23 +182,22 @@ impl EisHandshaker {
     pub fn has_required(&self) -> bool
         ensures { result ≡ has_required self.now.versions }
     {
-        self.versions.contains("ei_connection")
-            && self.versions.contains("ei_callback")
-            && self.versions.contains("ei_pingpong")
+        self.versions.version(KnownInterface::Connection).is_some()
+            && self.versions.version(KnownInterface::Callback).is_some()
+            && self.versions.version(KnownInterface::Pingpong).is_some()
     }
 
     /// Keeps the smaller of the client's and the server's version. An unknown name is ignored.
-    fn announce(&mut self, name: &str, version: u32) -> Result<(), NoMemory>
-        ensures ok { OnOk result (self.new ≡ record self.old { versions = with_version self.old.versions name.now version }) }
-        ensures err { OnErr result (self.new ≡ self.old) }
+    fn announce(&mut self, name: &str, version: u32)
+        ensures { self.new ≡ record self.old { versions = with_version self.old.versions name.now version } }
     {
         let Some(interface) = KnownInterface::from_name(name) else {
-            return Ok(());
+            return;
         };
         let Some(own) = server_version(interface) else {
-            return Ok(());
+            return;
         };
-        self.versions.insert(name, own.min(version))
+        self.versions.insert(interface, own.min(version));
     }
 
     /// A copy of the client's name.
@@ -202,9 +210,12 @@ impl EisHandshaker {
         }
     }
 
-    /// Ends the handshake: the versions that both ends have, and the connection. All memory is made ready
-    /// before the first event.
-    fn finish(
+    /// Ends the handshake, as its `finish` asks: it sends the versions that both ends have, and the connection. All memory is
+    /// made ready before the first event.
+    ///
+    /// `MissingInterface` and `IdsExhausted` as of `handle_request`; `NoMemory`: nothing is sent.
+    #[inline(never)]
+    pub fn finish(
         &mut self,
         ctx: &mut Context,
         handshake: &Handshake,
@@ -220,7 +231,7 @@ impl EisHandshaker {
             return Err(Error::Handshake(HandshakeError::MissingInterface));
         }
         let connection = handshake.connection(ctx, self.initial_serial, 1)?;
-        let versions = mem::replace(&mut self.versions, Versions::new(self.alloc));
+        let versions = mem::replace(&mut self.versions, Versions::new());
         Ok(EisHandshakeResp {
             connection,
             name,
@@ -260,10 +271,11 @@ fn send_if_kept(
     requires { HasSpare MOST_EVENT_BYTES 0 (unsent_of ctx.old) ctx.old.room }
     ensures { ctx.new ≡ sends ctx.old (event_if handshake.now.id interface (settled_in versions.now interface)) }
 {
-    let name = interface.name();
-    if let Some(version) = versions.get(name) {
+    if let Some(version) = versions.version(interface) {
         // There is room for it, and it is short.
-        handshake.interface_version(ctx, name, version).unwrap();
+        handshake
+            .interface_version(ctx, interface.name(), version)
+            .unwrap();
     }
 }
 

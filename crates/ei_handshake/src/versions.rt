@@ -1,39 +1,40 @@
 //! The versions that a handshake settles.
 
-ghost use Rattle.std.specs.Prelude.{◌≡◌, IfOk, OnOk, OnErr, is_some};
+ghost use Rattle.std.specs.Prelude.{◌≡◌, ◌<◌, is_some};
 ghost use Rattle.std.specs.FinMap as finite;
+ghost use Rattle.ei_spec.specs.Interface.{name_of};
+ghost use Rattle.ei_handshake.specs.Versions.{place_of};
 
-use ei_wire::NoMemory;
-use std::alloc::Global;
-use std::collections::BTreeMap;
+use ei_spec::KnownInterface;
 use std::marker::Model;
 
 /// Names of interfaces, each with a version. Contracts see a map from the names' bytes.
 #[derive(Drop)]
 pub struct Versions {
-    alloc: Global,
-    versions: BTreeMap<String, u32>,
+    /// A place for each interface.
+    versions: [Option<u32>; 13],
 }
 
 impl Model for Versions {
-    ghost use Rattle.std.specs.FinMap as finite;
-    ghost use Rattle.ei_handshake.specs.Versions.{VersionMap, version_code, version_entries};
+    ghost use Rattle.std.specs.Prelude.{◌≡◌, length};
+    ghost use Rattle.ei_handshake.specs.Versions.{VersionMap, version_code, by_name};
 
     ghost Value = { VersionMap };
 
     ghost coded = { version_code };
 
-    ghost view = { λ v. finite.from_entries (version_entries v.versions.entries) };
+    ghost view = { λ v. by_name v.versions };
+
+    ghost invariant = { λ v. length v.versions ≡ 13 };
 }
 
 impl Versions {
     /// No names.
-    pub(crate) fn new(alloc: Global) -> Versions
+    pub(crate) fn new() -> Versions
         ensures { result ≡ finite.empty }
     {
         Versions {
-            alloc,
-            versions: BTreeMap::new(alloc),
+            versions: [None; 13],
         }
     }
 
@@ -41,7 +42,18 @@ impl Versions {
     pub fn get(&self, name: &str) -> Option<u32>
         ensures { result ≡ finite.get self.now name.now }
     {
-        self.versions.get(name).copied()
+        let versions = &self.versions;
+        match KnownInterface::from_name(name) {
+            Some(interface) => versions[place(interface)],
+            None => None,
+        }
+    }
+
+    /// The version of the interface's name.
+    pub fn version(&self, interface: KnownInterface) -> Option<u32>
+        ensures { result ≡ finite.get self.now (name_of interface) }
+    {
+        self.versions[place(interface)]
     }
 
     /// Whether the name is there.
@@ -55,16 +67,39 @@ impl Versions {
     pub fn len(&self) -> usize
         ensures { result ≡ finite.len self.now }
     {
-        self.versions.len()
+        let versions = &self.versions;
+        KnownInterface::ALL
+            .iter()
+            .filter(|interface| versions[place(**interface)].is_some())
+            .count()
     }
 
-    /// Gives the name this version, in place of the one before.
-    pub(crate) fn insert(&mut self, name: &str, version: u32) -> Result<(), NoMemory>
-        ensures ok { OnOk result (self.new ≡ finite.insert self.old name.now version) }
-        ensures err { OnErr result (self.new ≡ self.old) }
+    /// Gives the interface's name this version, in place of the one before.
+    pub(crate) fn insert(&mut self, interface: KnownInterface, version: u32)
+        ensures { self.new ≡ finite.insert self.old (name_of interface) version }
     {
-        let name = String::from_str(self.alloc, name)?;
-        self.versions.insert(name, version)?;
-        Ok(())
+        self.versions[place(interface)] = Some(version);
+    }
+}
+
+/// Where an interface's version stands.
+fn place(interface: KnownInterface) -> usize
+    ensures place { result ≡ place_of interface }
+    ensures within { result < 13 }
+{
+    match interface {
+        KnownInterface::Handshake => 0,
+        KnownInterface::Connection => 1,
+        KnownInterface::Callback => 2,
+        KnownInterface::Pingpong => 3,
+        KnownInterface::Seat => 4,
+        KnownInterface::Device => 5,
+        KnownInterface::Pointer => 6,
+        KnownInterface::PointerAbsolute => 7,
+        KnownInterface::Scroll => 8,
+        KnownInterface::Button => 9,
+        KnownInterface::Keyboard => 10,
+        KnownInterface::Touchscreen => 11,
+        KnownInterface::Text => 12,
     }
 }

@@ -15,3 +15,20 @@ pub mod Queue
 pub mod Refusing
 pub mod Handling
 pub mod Lending
+-- what the clauses cite of the crates below
+pub use Rattle.ei_spec.specs.Interface
+pub use Rattle.ei_spec.specs.Message
+pub use Rattle.ei_spec.specs.Value
+pub use Rattle.ei_types.specs.Capability
+pub use Rattle.ei_types.specs.Enums
+pub use Rattle.ei_session.specs.Arguments
+pub use Rattle.ei_session.specs.Events
+pub use Rattle.ei_session.specs.Replies
+pub use Rattle.ei_backend.specs.Backend
+pub use Rattle.ei_backend.specs.Codes
+pub use Rattle.ei_backend.specs.Endpoint
+pub use Rattle.ei_backend.specs.Lent
+pub use Rattle.ei_backend.specs.Outgoing
+pub use Rattle.ei_backend.specs.Outside
+pub use Rattle.ei_backend.specs.Table
+pub use Rattle.ei_handshake.specs.Handshaker

@@ -9,3 +9,14 @@ pub mod Taking
 pub mod Turning
 pub mod Serving
 pub mod Policy
+-- what the clauses cite of the crates below
+pub use Rattle.ei_spec.specs.Message
+pub use Rattle.ei_types.specs.Capability
+pub use Rattle.ei_types.specs.Errors
+pub use Rattle.ei_session.specs.Complete
+pub use Rattle.ei_session.specs.Handshake
+pub use Rattle.ei_session.specs.Served
+pub use Rattle.ei_session.specs.Setup
+pub use Rattle.ei_backend.specs.Lent
+pub use Rattle.ei_backend.specs.Outside
+pub use Rattle.ei_request.specs.Held

@@ -93,6 +93,11 @@ capacity_in (phase.Handshake b h) = b.capacity
 capacity_in (phase.Connected c) = c.handle.ctx.capacity
 capacity_in phase.Over = 0
 
+-- whether a phase is that of the handshake
+abbrev pub IsShaking : Phase → Type 0
+IsShaking (phase.Handshake b h) = Unit {0}
+IsShaking p = ⊥
+
 -- whether a phase's endpoint is open; over, it has none
 abbrev pub IsOpenIn : Phase → Type 0
 IsOpenIn (phase.Handshake b h) = b.closed ≡ false

@@ -31,6 +31,7 @@ use Rattle.ei_serve.specs.declared.handshaking.Shaken.{Shaken}
 use Rattle.ei_serve.specs.declared.handshaking.Shaken.TheVariants as shaken
 use Rattle.ei_serve.specs.declared.phase.Phase.{Phase}
 use Rattle.ei_serve.specs.declared.phase.Phase.TheVariants as phase
+use Rattle.ei_serve.specs.declared.phase.Rejected.{Rejected}
 use Rattle.ei_serve.specs.declared.phase.Step.{Step}
 use Rattle.ei_serve.specs.declared.phase.Step.TheVariants as step
 use Rattle.ei_serve.specs.Refusing.{refusal_of}
@@ -184,6 +185,11 @@ RefusesStep setup past times rest error.WriteFault old new = Breaks setup past t
 RefusesStep setup past times rest error.NoMemory old new = Breaks setup past times rest old new
 RefusesStep setup past times rest error.IdsExhausted old new = EndsWith setup past times rest true old new
 RefusesStep setup past times rest e old new = Refuses setup past rest e × Goes setup past past times [] old new
+
+-- what a step answered, where why it was refused stands beside the answer
+abbrev pub told : Result Step Rejected → Error → Result Step Error
+told (Ok s) why = Ok s
+told (Err r) why = Err why
 
 -- what becomes of the message at the front
 abbrev pub Steps : Setup → List Raw → List ℕ → List ℕ → List Handle → Result Step Error → Phase → Around → Around → Type 0

@@ -9,12 +9,14 @@ ghost use Rattle.ei_session.specs.Setup.{Setup as Started};
 ghost use Rattle.ei_session.specs.Handshake.{connected, is_finish};
 ghost use Rattle.ei_serve.specs.Around.{around};
 ghost use Rattle.ei_serve.specs.Standing.{IsConnected, setup_of};
-ghost use Rattle.ei_serve.specs.Steps.{HandsOver, Connects, Steps};
+ghost use Rattle.ei_serve.specs.Steps.{HandsOver, Connects, Steps, told};
 ghost use Rattle.ei_serve.specs.AtFront.{IsAsked};
 ghost use Rattle.ei_serve.specs.Policy.{policy_behind};
 ghost use Rattle.ei_serve.specs.declared.phase.Phase.TheVariants as phases;
 
-use crate::phase::Step;
+use crate::phase::{
+    Rejected, Step, refuse, refuse_flush, refuse_memory, refuse_parse, refuse_send,
+};
 use crate::policy::{Policy, policy_behind};
 use crate::session::Setup;
 use ei_backend::{Clock, PendingRequestResult, Sink};
@@ -22,6 +24,7 @@ use ei_handshake::EisHandshakeResp;
 use ei_request::{EisRequest, EisRequestConverter};
 use ei_server::{Context, Request};
 use ei_types::Error;
+use ei_wire::NoMemory;
 use std::alloc::Global;
 
 /// Goes over to the connection, and announces the seat.
@@ -52,29 +55,33 @@ pub(crate) fn converse<K: Sink, C: Clock>(
     sink: &mut K,
     clock: &mut C,
     out: &mut Vec<EisRequest>,
-) -> Result<Step, Error>
+    why: &mut Error,
+) -> Result<Step, Rejected>
     ensures converses { (setup : Started) (past : List Raw) (times rest : List ℕ) (handles : List Handle) →
         IsConnected setup past times rest handles converter.old →
-        Steps setup past times rest handles result (phases.Connected converter.new)
+        Steps setup past times rest handles (told result why.new) (phases.Connected converter.new)
         (around None out.old.items (K.taken sink.old) (C.readings clock.old)) (around None out.new.items (K.taken sink.new) (C.readings clock.new)) }
-    ensures sink { LentSink K.faults K.later (IsErrOf result error.WriteFault) sink.old sink.new }
-    ensures no_read_fault { IsErrOf result error.ReadFault → ⊥ }
+    ensures sink { LentSink K.faults K.later (IsErrOf (told result why.new) error.WriteFault) sink.old sink.new }
+    ensures no_read_fault { IsErrOf (told result why.new) error.ReadFault → ⊥ }
     ensures clock { LentClock C.later clock.old clock.new }
 {
-    let Some(pending) = converter.handle_mut().context_mut().pending_request()? else {
-        return Ok(Step::Waiting);
-    };
-    match pending {
-        PendingRequestResult::Request(request) => {
-            take_request(converter, sink, clock, out, request)
+    match converter.handle_mut().context_mut().pending_request() {
+        Ok(Some(PendingRequestResult::Request(request))) => {
+            take_request(converter, sink, clock, out, request, why)
         }
-        PendingRequestResult::ParseError(error) => Err(Error::Parse(error)),
-        PendingRequestResult::InvalidObject(id) => {
+        Ok(None) => Ok(Step::Waiting),
+        Ok(Some(PendingRequestResult::ParseError(error))) => { Err(refuse_parse(why, error)) }
+        Ok(Some(PendingRequestResult::InvalidObject(id))) => {
             let handle = converter.handle_mut();
-            handle.invalid_object(id)?;
-            handle.flush(sink)?;
+            if let Err(error) = handle.invalid_object(id) {
+                return Err(refuse_send(why, error));
+            }
+            if let Err(error) = handle.flush(sink) {
+                return Err(refuse_flush(why, error));
+            }
             Ok(Step::Handled)
         }
+        Err(NoMemory) => Err(refuse_memory(why)),
     }
 }
 
@@ -86,20 +93,30 @@ fn take_request<K: Sink, C: Clock>(
     clock: &mut C,
     out: &mut Vec<EisRequest>,
     request: Request,
-) -> Result<Step, Error>
+    why: &mut Error,
+) -> Result<Step, Rejected>
     ensures takes { (setup : Started) (past : List Raw) (times rest : List ℕ) (handles : List Handle) →
         IsAsked setup past times rest handles request converter.old →
-        Steps setup past times rest handles result (phases.Connected converter.new)
+        Steps setup past times rest handles (told result why.new) (phases.Connected converter.new)
         (around None out.old.items (K.taken sink.old) (C.readings clock.old)) (around None out.new.items (K.taken sink.new) (C.readings clock.new)) }
-    ensures sink { LentSink K.faults K.later (IsErrOf result error.WriteFault) sink.old sink.new }
-    ensures no_read_fault { IsErrOf result error.ReadFault → ⊥ }
+    ensures sink { LentSink K.faults K.later (IsErrOf (told result why.new) error.WriteFault) sink.old sink.new }
+    ensures no_read_fault { IsErrOf (told result why.new) error.ReadFault → ⊥ }
     ensures clock { LentClock C.later clock.old clock.new }
 {
-    converter.handle_request(clock, request)?;
-    let policy = hand_out(converter, out)?;
+    if let Err(error) = converter.handle_request(clock, request) {
+        return Err(refuse(why, error));
+    }
+    let policy = match hand_out(converter, out) {
+        Ok(policy) => policy,
+        Err(_) => return Err(refuse_memory(why)),
+    };
     let handle = converter.handle_mut();
-    policy.follow(handle)?;
-    handle.flush(sink)?;
+    if let Err(error) = policy.follow(handle) {
+        return Err(refuse_send(why, error));
+    }
+    if let Err(error) = handle.flush(sink) {
+        return Err(refuse_flush(why, error));
+    }
     Ok(match policy {
         Policy::End => Step::Disconnect,
         _ => Step::Handled,
@@ -108,12 +125,14 @@ fn take_request<K: Sink, C: Clock>(
 
 /// Hands out the requests that are queued, all or none, and answers what is done behind the last of them.
 #[inline(always)]
-fn hand_out(converter: &mut EisRequestConverter, out: &mut Vec<EisRequest>) -> Result<Policy, Error>
+fn hand_out(
+    converter: &mut EisRequestConverter,
+    out: &mut Vec<EisRequest>,
+) -> Result<Policy, NoMemory>
     ensures hands_out { OnOk result (out.new.items ≡ out.old.items ++ converter.old.queue) }
     ensures policy { IfOk result (λ p. p ≡ policy_behind converter.old.queue) }
     ensures queue { OnOk result (converter.new ≡ record converter.old { queue = [] }) }
     ensures kept { OnErr result (out.new.items ≡ out.old.items) }
-    ensures only { IfErr result (λ e. e ≡ error.NoMemory) }
 {
     if converter.queued_len() == 0 {
         return Ok(Policy::Nothing);

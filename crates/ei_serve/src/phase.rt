@@ -1,9 +1,10 @@
 //! The two phases of a session, message by message.
 
-ghost use Rattle.std.specs.Prelude.{◌≡◌, ◌≤◌, ◌<◌, ◌↔◌, List, [], ℕ, true, false, length, None, Some, IsTrue, IsErrOf, OnOk, OnErr, IfOk, IfErr};
+ghost use Rattle.std.specs.Prelude.{◌≡◌, ◌≤◌, ◌<◌, ◌↔◌, List, Option, [], ℕ, true, false, length, None, Some, IsTrue, IsErrOf, OnOk, OnErr, IfOk, IfErr};
 ghost use Rattle.ei_spec.specs.declared.handle.Handle.{Handle};
 ghost use Rattle.ei_spec.specs.Message.{Raw};
 ghost use Rattle.ei_types.specs.Capability.{all_bits};
+ghost use Rattle.ei_types.specs.Errors.{error_of_flush, error_of_send};
 ghost use Rattle.ei_types.specs.declared.error.Error.TheVariants as error;
 ghost use Rattle.ei_wire.specs.declared.error.ReadError.TheVariants as read_error;
 ghost use Rattle.ei_backend.specs.Outside.{Piece};
@@ -13,8 +14,8 @@ ghost use Rattle.ei_session.specs.Handshake.{connected, is_finish};
 ghost use Rattle.ei_serve.specs.declared.phase.Phase.TheVariants as phases;
 ghost use Rattle.ei_serve.specs.Around.{around};
 ghost use Rattle.ei_serve.specs.Causes.{Greeted, GreetedInPart, RefusesToStart};
-ghost use Rattle.ei_serve.specs.Standing.{unsent_in, capacity_in, IsOpenIn, StandsAt, setup_of};
-ghost use Rattle.ei_serve.specs.Steps.{Steps, HandsOverIn, ConnectsPhase};
+ghost use Rattle.ei_serve.specs.Standing.{unsent_in, capacity_in, IsOpenIn, IsShaking, StandsAt, setup_of};
+ghost use Rattle.ei_serve.specs.Steps.{Steps, HandsOverIn, ConnectsPhase, told};
 ghost use Rattle.ei_serve.specs.Taking.{ReadsPhase};
 ghost use Rattle.ei_serve.specs.Turning.{HandlesAll};
 
@@ -26,7 +27,7 @@ use ei_handshake::{EisHandshakeResp, EisHandshaker};
 use ei_request::{EisRequest, EisRequestConverter};
 use ei_server::Context;
 use ei_types::Error;
-use ei_wire::ReadError;
+use ei_wire::{FlushError, ParseError, ReadError, SendError};
 use std::alloc::Global;
 use std::mem;
 
@@ -41,7 +42,8 @@ pub(crate) enum Phase {
     Over,
 }
 
-/// What became of the message at the front.
+/// What became of the message at the front, where it wasn't refused.
+#[derive(Drop)]
 pub(crate) enum Step {
     /// There was no whole message.
     Waiting,
@@ -49,6 +51,52 @@ pub(crate) enum Step {
     Handled,
     /// The client disconnected.
     Disconnect,
+}
+
+/// The message at the front was refused. Why stands where the caller wants it, since an error is large.
+#[derive(Drop)]
+pub(crate) struct Rejected;
+
+/// Says why the message at the front is refused.
+#[inline(never)]
+pub(crate) fn refuse(why: &mut Error, error: Error) -> Rejected
+    ensures { why.new ≡ error }
+{
+    *why = error;
+    Rejected
+}
+
+/// The same: it can't be read.
+// An error that is made where it is told takes its place there, at each message. So each kind of error has a call.
+#[inline(never)]
+pub(crate) fn refuse_parse(why: &mut Error, fault: ParseError) -> Rejected
+    ensures { why.new ≡ error.Parse fault }
+{
+    refuse(why, Error::Parse(fault))
+}
+
+/// The same: what it asks for can't be sent.
+#[inline(never)]
+pub(crate) fn refuse_send(why: &mut Error, error: SendError) -> Rejected
+    ensures { why.new ≡ error_of_send error }
+{
+    refuse(why, Error::from(error))
+}
+
+/// The same: the sink didn't take what answers it.
+#[inline(never)]
+pub(crate) fn refuse_flush(why: &mut Error, error: FlushError) -> Rejected
+    ensures { why.new ≡ error_of_flush error }
+{
+    refuse(why, Error::from(error))
+}
+
+/// The same: memory ran out.
+#[inline(never)]
+pub(crate) fn refuse_memory(why: &mut Error) -> Rejected
+    ensures { why.new ≡ error.NoMemory }
+{
+    refuse(why, Error::NoMemory)
 }
 
 impl Phase {
@@ -136,6 +184,7 @@ impl Phase {
     }
 
     /// Handles the message at the front, if one is whole, and sends what answers it.
+    #[inline(always)]
     pub(crate) fn step<K: Sink, C: Clock>(
         &mut self,
         alloc: Global,
@@ -143,26 +192,71 @@ impl Phase {
         sink: &mut K,
         clock: &mut C,
         out: &mut Vec<EisRequest>,
-    ) -> Result<Step, Error>
+        why: &mut Error,
+    ) -> Result<Step, Rejected>
         ensures steps { (past : List Raw) (times rest : List ℕ) (handles : List Handle) →
             StandsAt (setup_of setup) past times rest handles self.old →
-            Steps (setup_of setup) past times rest handles result self.new
+            Steps (setup_of setup) past times rest handles (told result why.new) self.new
             (around None out.old.items (K.taken sink.old) (C.readings clock.old)) (around None out.new.items (K.taken sink.new) (C.readings clock.new)) }
-        ensures sink { LentSink K.faults K.later (IsErrOf result error.WriteFault) sink.old sink.new }
-        ensures no_read_fault { IsErrOf result error.ReadFault → ⊥ }
+        ensures sink { LentSink K.faults K.later (IsErrOf (told result why.new) error.WriteFault) sink.old sink.new }
+        ensures no_read_fault { IsErrOf (told result why.new) error.ReadFault → ⊥ }
         ensures clock { LentClock C.later clock.old clock.new }
     {
         match self {
-            Phase::Handshake(context, handshaker) => match shake(context, handshaker)? {
-                Shaken::Waiting => Ok(Step::Waiting),
-                Shaken::Handled => Ok(Step::Handled),
-                Shaken::Complete(resp) => {
-                    self.connect(alloc, resp, setup, sink)?;
-                    Ok(Step::Handled)
-                }
-            },
-            Phase::Connected(converter) => converse(converter, sink, clock, out),
+            Phase::Connected(converter) => converse(converter, sink, clock, out, why),
+            Phase::Handshake(_, _) => self.step_in_handshake(alloc, setup, sink, why),
             Phase::Over => Ok(Step::Waiting),
+        }
+    }
+
+    /// Handles the message at the front during the handshake, if one is whole.
+    #[inline(never)]
+    fn step_in_handshake<K: Sink>(
+        &mut self,
+        alloc: Global,
+        setup: Setup,
+        sink: &mut K,
+        why: &mut Error,
+    ) -> Result<Step, Rejected>
+        requires { IsShaking self.old }
+        ensures steps { (past : List Raw) (times rest : List ℕ) (handles : List Handle) (out : List EisRequest) (readings : Option (List ℕ)) →
+            StandsAt (setup_of setup) past times rest handles self.old →
+            Steps (setup_of setup) past times rest handles (told result why.new) self.new
+            (around None out (K.taken sink.old) readings) (around None out (K.taken sink.new) readings) }
+        ensures sink { LentSink K.faults K.later (IsErrOf (told result why.new) error.WriteFault) sink.old sink.new }
+        ensures no_read_fault { IsErrOf (told result why.new) error.ReadFault → ⊥ }
+    {
+        match self.shake_on(alloc, setup, sink) {
+            Ok(step) => Ok(step),
+            Err(error) => Err(refuse(why, error)),
+        }
+    }
+
+    /// The same, with the error in the answer.
+    fn shake_on<K: Sink>(
+        &mut self,
+        alloc: Global,
+        setup: Setup,
+        sink: &mut K,
+    ) -> Result<Step, Error>
+        requires { IsShaking self.old }
+        ensures steps { (past : List Raw) (times rest : List ℕ) (handles : List Handle) (out : List EisRequest) (readings : Option (List ℕ)) →
+            StandsAt (setup_of setup) past times rest handles self.old →
+            Steps (setup_of setup) past times rest handles result self.new
+            (around None out (K.taken sink.old) readings) (around None out (K.taken sink.new) readings) }
+        ensures sink { LentSink K.faults K.later (IsErrOf result error.WriteFault) sink.old sink.new }
+        ensures no_read_fault { IsErrOf result error.ReadFault → ⊥ }
+    {
+        let Phase::Handshake(context, handshaker) = self else {
+            unreachable!();
+        };
+        match shake(context, handshaker)? {
+            Shaken::Waiting => Ok(Step::Waiting),
+            Shaken::Handled => Ok(Step::Handled),
+            Shaken::Complete(resp) => {
+                self.connect(alloc, resp, setup, sink)?;
+                Ok(Step::Handled)
+            }
         }
     }
 
@@ -206,8 +300,13 @@ impl Phase {
         ensures clock { LentClock C.later clock.old clock.new }
     {
         // Each message has bytes, so there are no more messages than bytes.
+        let mut why = Error::NoMemory;
         for _message in 0..self.unread_len() {
-            match self.step(alloc, setup, sink, clock, out)? {
+            let step = match self.step(alloc, setup, sink, clock, out, &mut why) {
+                Ok(step) => step,
+                Err(_) => return Err(why),
+            };
+            match step {
                 Step::Waiting => return Ok(Turn::GoOn),
                 Step::Handled => {}
                 Step::Disconnect => return Ok(Turn::Disconnect),

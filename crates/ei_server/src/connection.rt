@@ -1,24 +1,18 @@
 //! `ei_connection`: the connection, which stands until one end ends it.
 
-ghost use Rattle.std.specs.Prelude.{◌≡◌, IfOk, OnErr, false, codes, [], ◌∷◌};
+ghost use Rattle.std.specs.Prelude.{◌≡◌, codes, [], ◌∷◌};
 ghost use Rattle.std.specs.Option.{option_copied};
-ghost use Rattle.ei_backend.specs.Proxies.{Word, Long, Announced, ReadsRow, Shows, Sends, SendsText, SendsNew};
 ghost use Rattle.ei_spec.specs.Value.{IsOf, Nullable};
 ghost use Rattle.ei_spec.specs.Reading.{or_null};
-ghost use Rattle.ei_spec.specs.declared.interface.KnownInterface.TheVariants as known;
-ghost use Rattle.ei_types.specs.Enums.{disconnect_reason_number};
 ghost use Rattle.ei_wire.specs.Gives.{value_of_arg};
+ghost use Rattle.ei_server.specs.Words.{KnownInterface, Word, Long, Sends, SendsText, SendsNew, disconnect_reason_number};
 ghost use Rattle.ei_server.specs.Connection.{opcode_of, values_of, announced_of, event};
 
 use crate::callback::Callback;
-use crate::context::Context;
 use crate::pingpong::Pingpong;
-use crate::proxy::Proxy;
+use crate::prelude::*;
 use crate::seat::Seat;
-use ei_backend::{HasBackend, Interface, Table, kinds};
 use ei_types::DisconnectReason;
-use ei_wire::{Arg, ByteStream, NoMemory, OwnedArg, ParseError, SendError, read_two};
-use std::alloc::Global;
 
 /// The connection.
 pub type Connection = Proxy<kinds::Connection>;
@@ -35,7 +29,7 @@ impl Connection {
         last_serial: u32,
         reason: DisconnectReason,
         explanation: Option<&str>,
-    ) -> Result<(), SendError>
+    ) -> Sent
         ensures sends { SendsText (event (codes "disconnected")) self.now
             (Word last_serial ∷ Word (disconnect_reason_number reason) ∷ or_null (option_copied explanation.entry) ∷ [])
             ctx.old ctx.new result }
@@ -63,14 +57,8 @@ impl Connection {
     /// client. That may happen where the server took the object away just before.
     ///
     /// `NoMemory`: nothing is sent.
-    pub fn invalid_object(
-        &self,
-        ctx: &mut Context,
-        last_serial: u32,
-        invalid_id: u64,
-    ) -> Result<(), SendError>
-        ensures sends { Sends (event (codes "invalid_object")) self.now
-            (Word last_serial ∷ Long invalid_id ∷ []) ctx.old ctx.new result }
+    pub fn invalid_object(&self, ctx: &mut Context, last_serial: u32, invalid_id: u64) -> Sent
+        ensures sends { Sends (event (codes "invalid_object")) self.now (Word last_serial ∷ Long invalid_id ∷ []) ctx.old ctx.new result }
     {
         let args = [Arg::Uint32(last_serial), Arg::Uint64(invalid_id)];
         self.object.request(ctx, 2, &args)
@@ -109,19 +97,17 @@ pub enum Request {
     Disconnect,
 }
 
-impl Request {
-    /// Reads the arguments of a request of that opcode, and announces the callback of `Sync`.
-    pub(crate) fn parse(
-        opcode: u32,
-        bytes: &mut ByteStream<'_>,
-        objects: &mut Table,
-    ) -> Result<Request, ParseError>
-        ensures read { ReadsRow values_of false known.Connection opcode
-            bytes.old bytes.new objects.old objects.new result }
-        ensures code { IfOk result (λ m. opcode_of m ≡ opcode) }
-        ensures announced { IfOk result (λ m. Announced (announced_of m) objects.old objects.new) }
-        ensures err { OnErr result (objects.new ≡ objects.old) }
-    {
+impl Message for Request {
+    ghost code = { opcode_of };
+
+    ghost values = { values_of };
+
+    ghost announced = { announced_of };
+
+    ghost KNOWN = { KnownInterface.Connection };
+
+    #[inline(always)]
+    fn parse(opcode: u32, bytes: &mut ByteStream<'_>, objects: &mut Table) -> Parsed<Request> {
         match opcode {
             0 => {
                 let (id, version) = read_two(bytes)?;
@@ -133,20 +119,14 @@ impl Request {
         }
     }
 
-    pub(crate) fn opcode(&self) -> u32
-        ensures { result ≡ opcode_of self.now }
-    {
+    fn opcode(&self) -> u32 {
         match self {
             Request::Sync { .. } => 0,
             Request::Disconnect => 1,
         }
     }
 
-    /// The arguments in order.
-    pub(crate) fn args(&self, alloc: Global) -> Result<Vec<Arg<'_>>, NoMemory>
-        ensures { IfOk result
-            (λ args. Shows false known.Connection (opcode_of self.now) (values_of self.now) args.items) }
-    {
+    fn args(&self, alloc: Global) -> Result<Vec<Arg<'_>>, NoMemory> {
         Ok(match self {
             Request::Sync { callback } => Vec::from_array(alloc, [callback.as_arg()])?,
             Request::Disconnect => Vec::new(alloc),

@@ -148,6 +148,7 @@ impl Context {
     ///
     /// A message to no object and one that is refused are taken out too. An unlawful length takes nothing
     /// out. Where memory runs out, nothing changes.
+    #[inline(always)]
     pub fn pending_request(&mut self) -> Result<Option<PendingRequestResult<Request>>, NoMemory>
         ensures ok { IfOk result (λ answer. Answers target_of opcode_of values_of answer self.new (next false self.old)) }
         ensures announced { IfOk result (λ answer. Brings announced_of answer self.old.table self.new.table) }

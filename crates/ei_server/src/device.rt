@@ -1,42 +1,28 @@
 //! `ei_device`: a device, which has interfaces for input.
 
-ghost use Rattle.std.specs.Prelude.{◌≡◌, IfOk, false, codes, [], ◌∷◌};
-ghost use Rattle.ei_backend.specs.Proxies.{Word, Long, Letters, ReadsRow, Shows, Sends, SendsText, SendsNew};
+ghost use Rattle.std.specs.Prelude.{refl, codes, [], ◌∷◌};
 ghost use Rattle.ei_spec.specs.Interface.{name_of};
-ghost use Rattle.ei_spec.specs.declared.interface.KnownInterface.TheVariants as known;
-ghost use Rattle.ei_types.specs.Enums.{device_type_number};
+ghost use Rattle.ei_server.specs.Words.{KnownInterface, Word, Long, Letters, Sends, SendsText, SendsNew, device_type_number};
 ghost use Rattle.ei_server.specs.Device.{opcode_of, values_of, event};
 
-use crate::context::Context;
 use crate::interface as eis;
-use crate::proxy::Proxy;
-use ei_backend::{HasBackend, Interface, Table, kinds};
+use crate::prelude::*;
 use ei_types::DeviceType;
-use ei_wire::{
-    Arg, ByteStream, NoMemory, OwnedArg, ParseError, RawFloat, SendError, read_one, read_two,
-};
-use std::alloc::Global;
 
 /// A device.
 pub type Device = Proxy<kinds::Device>;
 
-impl Device {
-    /// Tells the client that the device is gone, as the event of this serial, and takes it out of the table.
-    /// Its interfaces stay.
-    ///
-    /// `NoMemory`: nothing is sent, and the device stays.
-    pub fn destroyed(&self, ctx: &mut Context, serial: u32) -> Result<(), SendError>
-        ensures sends { Sends (event (codes "destroyed")) self.now (Word serial ∷ []) ctx.old ctx.new result }
-    {
-        self.send_last(ctx, 0, &[Arg::Uint32(serial)])
-    }
+impl Destroyed for kinds::Device {
+    ghost row = { refl };
+}
 
+impl Device {
     /// Names the device.
     ///
     /// `MessageTooLong` exactly where the message would have more than 1048576 bytes, `NoMemory`: nothing is
     /// sent.
     #[tactic(auto, using(ei_spec::proofs::Utf8::is_text))]
-    pub fn name(&self, ctx: &mut Context, name: &str) -> Result<(), SendError>
+    pub fn name(&self, ctx: &mut Context, name: &str) -> Sent
         ensures sends { SendsText (event (codes "name")) self.now (Letters name.now ∷ []) ctx.old ctx.new result }
     {
         self.object.request(ctx, 1, &[Arg::String(Some(name))])
@@ -45,9 +31,8 @@ impl Device {
     /// Says whether the device is virtual or physical. The description of each device has this event.
     ///
     /// `NoMemory`: nothing is sent.
-    pub fn device_type(&self, ctx: &mut Context, device_type: DeviceType) -> Result<(), SendError>
-        ensures sends { Sends (event (codes "device_type")) self.now
-            (Word (device_type_number device_type) ∷ []) ctx.old ctx.new result }
+    pub fn device_type(&self, ctx: &mut Context, device_type: DeviceType) -> Sent
+        ensures sends { Sends (event (codes "device_type")) self.now (Word (device_type_number device_type) ∷ []) ctx.old ctx.new result }
     {
         self.object.request(ctx, 2, &[device_type.as_arg()])
     }
@@ -55,9 +40,8 @@ impl Device {
     /// Tells the size of a physical device, in millimetres.
     ///
     /// `NoMemory`: nothing is sent.
-    pub fn dimensions(&self, ctx: &mut Context, width: u32, height: u32) -> Result<(), SendError>
-        ensures sends { Sends (event (codes "dimensions")) self.now
-            (Word width ∷ Word height ∷ []) ctx.old ctx.new result }
+    pub fn dimensions(&self, ctx: &mut Context, width: u32, height: u32) -> Sent
+        ensures sends { Sends (event (codes "dimensions")) self.now (Word width ∷ Word height ∷ []) ctx.old ctx.new result }
     {
         let args = [Arg::Uint32(width), Arg::Uint32(height)];
         self.object.request(ctx, 3, &args)
@@ -75,7 +59,7 @@ impl Device {
         width: u32,
         hight: u32,
         scale: RawFloat,
-    ) -> Result<(), SendError>
+    ) -> Sent
         ensures sends { Sends (event (codes "region")) self.now
             (Word offset_x ∷ Word offset_y ∷ Word width ∷ Word hight ∷ Word scale.0 ∷ []) ctx.old ctx.new result }
     {
@@ -111,7 +95,7 @@ impl Device {
     /// Ends the description of the device.
     ///
     /// `NoMemory`: nothing is sent.
-    pub fn done(&self, ctx: &mut Context) -> Result<(), SendError>
+    pub fn done(&self, ctx: &mut Context) -> Sent
         ensures sends { Sends (event (codes "done")) self.now [] ctx.old ctx.new result }
     {
         self.object.request(ctx, 6, &[])
@@ -120,7 +104,7 @@ impl Device {
     /// Tells the client, as the event of this serial, that the device takes input.
     ///
     /// `NoMemory`: nothing is sent.
-    pub fn resumed(&self, ctx: &mut Context, serial: u32) -> Result<(), SendError>
+    pub fn resumed(&self, ctx: &mut Context, serial: u32) -> Sent
         ensures sends { Sends (event (codes "resumed")) self.now (Word serial ∷ []) ctx.old ctx.new result }
     {
         self.object.request(ctx, 7, &[Arg::Uint32(serial)])
@@ -129,7 +113,7 @@ impl Device {
     /// Tells the client, as the event of this serial, that the device takes no input.
     ///
     /// `NoMemory`: nothing is sent.
-    pub fn paused(&self, ctx: &mut Context, serial: u32) -> Result<(), SendError>
+    pub fn paused(&self, ctx: &mut Context, serial: u32) -> Sent
         ensures sends { Sends (event (codes "paused")) self.now (Word serial ∷ []) ctx.old ctx.new result }
     {
         self.object.request(ctx, 8, &[Arg::Uint32(serial)])
@@ -139,14 +123,8 @@ impl Device {
     /// such beginnings.
     ///
     /// `NoMemory`: nothing is sent.
-    pub fn start_emulating(
-        &self,
-        ctx: &mut Context,
-        serial: u32,
-        sequence: u32,
-    ) -> Result<(), SendError>
-        ensures sends { Sends (event (codes "start_emulating")) self.now
-            (Word serial ∷ Word sequence ∷ []) ctx.old ctx.new result }
+    pub fn start_emulating(&self, ctx: &mut Context, serial: u32, sequence: u32) -> Sent
+        ensures sends { Sends (event (codes "start_emulating")) self.now (Word serial ∷ Word sequence ∷ []) ctx.old ctx.new result }
     {
         let args = [Arg::Uint32(serial), Arg::Uint32(sequence)];
         self.object.request(ctx, 9, &args)
@@ -155,7 +133,7 @@ impl Device {
     /// Tells a receiver, as the event of this serial, that the server sends no more input.
     ///
     /// `NoMemory`: nothing is sent.
-    pub fn stop_emulating(&self, ctx: &mut Context, serial: u32) -> Result<(), SendError>
+    pub fn stop_emulating(&self, ctx: &mut Context, serial: u32) -> Sent
         ensures sends { Sends (event (codes "stop_emulating")) self.now (Word serial ∷ []) ctx.old ctx.new result }
     {
         self.object.request(ctx, 10, &[Arg::Uint32(serial)])
@@ -165,9 +143,8 @@ impl Device {
     /// timestamp is in microseconds.
     ///
     /// `NoMemory`: nothing is sent.
-    pub fn frame(&self, ctx: &mut Context, serial: u32, timestamp: u64) -> Result<(), SendError>
-        ensures sends { Sends (event (codes "frame")) self.now
-            (Word serial ∷ Long timestamp ∷ []) ctx.old ctx.new result }
+    pub fn frame(&self, ctx: &mut Context, serial: u32, timestamp: u64) -> Sent
+        ensures sends { Sends (event (codes "frame")) self.now (Word serial ∷ Long timestamp ∷ []) ctx.old ctx.new result }
     {
         let args = [Arg::Uint32(serial), Arg::Uint64(timestamp)];
         self.object.request(ctx, 11, &args)
@@ -178,9 +155,8 @@ impl Device {
     /// `MessageTooLong` exactly where the message would have more than 1048576 bytes, `NoMemory`: nothing is
     /// sent.
     #[tactic(auto, using(ei_spec::proofs::Utf8::is_text))]
-    pub fn region_mapping_id(&self, ctx: &mut Context, mapping_id: &str) -> Result<(), SendError>
-        ensures sends { SendsText (event (codes "region_mapping_id")) self.now
-            (Letters mapping_id.now ∷ []) ctx.old ctx.new result }
+    pub fn region_mapping_id(&self, ctx: &mut Context, mapping_id: &str) -> Sent
+        ensures sends { SendsText (event (codes "region_mapping_id")) self.now (Letters mapping_id.now ∷ []) ctx.old ctx.new result }
     {
         self.object
             .request(ctx, 12, &[Arg::String(Some(mapping_id))])
@@ -202,17 +178,15 @@ pub enum Request {
     Ready,
 }
 
-impl Request {
-    /// Reads the arguments of a request of that opcode.
-    pub(crate) fn parse(
-        opcode: u32,
-        bytes: &mut ByteStream<'_>,
-        objects: &mut Table,
-    ) -> Result<Request, ParseError>
-        ensures read { ReadsRow values_of false known.Device opcode bytes.old bytes.new objects.old objects.new result }
-        ensures code { IfOk result (λ m. opcode_of m ≡ opcode) }
-        ensures table { objects.new ≡ objects.old }
-    {
+impl Message for Request {
+    ghost code = { opcode_of };
+
+    ghost values = { values_of };
+
+    ghost KNOWN = { KnownInterface.Device };
+
+    #[inline(always)]
+    fn parse(opcode: u32, bytes: &mut ByteStream<'_>, _: &mut Table) -> Parsed<Request> {
         match opcode {
             0 => Ok(Request::Release),
             1 => {
@@ -237,9 +211,7 @@ impl Request {
         }
     }
 
-    pub(crate) fn opcode(&self) -> u32
-        ensures { result ≡ opcode_of self.now }
-    {
+    fn opcode(&self) -> u32 {
         match self {
             Request::Release => 0,
             Request::StartEmulating { .. } => 1,
@@ -249,10 +221,7 @@ impl Request {
         }
     }
 
-    /// The arguments in order.
-    pub(crate) fn args(&self, alloc: Global) -> Result<Vec<Arg<'_>>, NoMemory>
-        ensures { IfOk result (λ args. Shows false known.Device (opcode_of self.now) (values_of self.now) args.items) }
-    {
+    fn args(&self, alloc: Global) -> Result<Vec<Arg<'_>>, NoMemory> {
         Ok(match self {
             Request::Release | Request::Ready => Vec::new(alloc),
             Request::StartEmulating {

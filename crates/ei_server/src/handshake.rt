@@ -1,16 +1,12 @@
 //! `ei_handshake`: the object that is there from the first.
 
-ghost use Rattle.std.specs.Prelude.{◌≡◌, IfOk, false, codes, [], ◌∷◌};
-ghost use Rattle.ei_backend.specs.Proxies.{Word, Long, Letters, ReadsRow, Shows, Sends, SendsText, SendsNew};
-ghost use Rattle.ei_spec.specs.declared.interface.KnownInterface.TheVariants as known;
+ghost use Rattle.std.specs.Prelude.{codes, [], ◌∷◌};
+ghost use Rattle.ei_server.specs.Words.{KnownInterface, Word, Long, Letters, Sends, SendsText, SendsNew};
 ghost use Rattle.ei_server.specs.Handshake.{opcode_of, values_of, event};
 
 use crate::connection::Connection;
-use crate::{Context, Proxy};
-use ei_backend::{HasBackend, Table, kinds};
+use crate::prelude::*;
 use ei_types::ContextType;
-use ei_wire::{Arg, ByteStream, EiText, NoMemory, ParseError, SendError, read_one, read_two};
-use std::alloc::Global;
 
 /// The handshake.
 pub type Handshake = Proxy<kinds::Handshake>;
@@ -19,7 +15,7 @@ impl Handshake {
     /// Tells the client the version of the handshake: the first event of a session.
     ///
     /// `NoMemory`: nothing is sent.
-    pub fn handshake_version(&self, ctx: &mut Context, version: u32) -> Result<(), SendError>
+    pub fn handshake_version(&self, ctx: &mut Context, version: u32) -> Sent
         ensures sends { Sends (event (codes "handshake_version")) self.now (Word version ∷ []) ctx.old ctx.new result }
     {
         self.object.request(ctx, 0, &[Arg::Uint32(version)])
@@ -30,12 +26,7 @@ impl Handshake {
     /// `MessageTooLong` exactly where the message would have more than 1048576 bytes, `NoMemory`: nothing is
     /// sent.
     #[tactic(auto, using(ei_spec::proofs::Utf8::is_text))]
-    pub fn interface_version(
-        &self,
-        ctx: &mut Context,
-        name: &str,
-        version: u32,
-    ) -> Result<(), SendError>
+    pub fn interface_version(&self, ctx: &mut Context, name: &str, version: u32) -> Sent
         ensures sends { SendsText (event (codes "interface_version")) self.now
             (Letters name.now ∷ Word version ∷ []) ctx.old ctx.new result }
     {
@@ -82,18 +73,15 @@ pub enum Request {
     InterfaceVersion { name: EiText, version: u32 },
 }
 
-impl Request {
-    /// Reads the arguments of a request of that opcode.
-    pub(crate) fn parse(
-        opcode: u32,
-        bytes: &mut ByteStream<'_>,
-        objects: &mut Table,
-    ) -> Result<Request, ParseError>
-        ensures read { ReadsRow values_of false known.Handshake opcode
-            bytes.old bytes.new objects.old objects.new result }
-        ensures code { IfOk result (λ m. opcode_of m ≡ opcode) }
-        ensures table { objects.new ≡ objects.old }
-    {
+impl Message for Request {
+    ghost code = { opcode_of };
+
+    ghost values = { values_of };
+
+    ghost KNOWN = { KnownInterface.Handshake };
+
+    #[inline(always)]
+    fn parse(opcode: u32, bytes: &mut ByteStream<'_>, _: &mut Table) -> Parsed<Request> {
         match opcode {
             0 => Ok(Request::HandshakeVersion {
                 version: read_one(bytes)?,
@@ -113,9 +101,7 @@ impl Request {
         }
     }
 
-    pub(crate) fn opcode(&self) -> u32
-        ensures { result ≡ opcode_of self.now }
-    {
+    fn opcode(&self) -> u32 {
         match self {
             Request::HandshakeVersion { .. } => 0,
             Request::Finish => 1,
@@ -125,10 +111,7 @@ impl Request {
         }
     }
 
-    /// The arguments in order.
-    pub(crate) fn args(&self, alloc: Global) -> Result<Vec<Arg<'_>>, NoMemory>
-        ensures { IfOk result (λ args. Shows false known.Handshake (opcode_of self.now) (values_of self.now) args.items) }
-    {
+    fn args(&self, alloc: Global) -> Result<Vec<Arg<'_>>, NoMemory> {
         Ok(match self {
             Request::HandshakeVersion { version } => Vec::from_array(
                 alloc,

@@ -8,6 +8,7 @@ use crate::connection::{self, Connection};
 use crate::device::{self, Device};
 use crate::handshake::{self, Handshake};
 use crate::keyboard::{self, Keyboard};
+use crate::message::Message;
 use crate::pingpong::{self, Pingpong};
 use crate::pointer::{self, Pointer};
 use crate::pointer_absolute::{self, PointerAbsolute};
@@ -48,6 +49,7 @@ impl MessageEnum for Request {
 
     ghost announced = { announced_of };
 
+    #[inline(always)]
     fn parse(
         alloc: Global,
         object: Object,

@@ -1,32 +1,23 @@
 //! `ei_scroll`: the scrolling of a device.
 
-ghost use Rattle.std.specs.Prelude.{◌≡◌, IfOk, false, codes, [], ◌∷◌};
-ghost use Rattle.ei_backend.specs.Proxies.{Word, Signed, ReadsRow, Shows, Sends};
-ghost use Rattle.ei_spec.specs.declared.interface.KnownInterface.TheVariants as known;
+ghost use Rattle.std.specs.Prelude.{refl, codes, [], ◌∷◌};
+ghost use Rattle.ei_server.specs.Words.{KnownInterface, Word, Signed, Sends};
 ghost use Rattle.ei_server.specs.Scroll.{opcode_of, values_of, event};
 
-use crate::{Context, Proxy};
-use ei_backend::{Table, kinds};
-use ei_wire::{Arg, ByteStream, NoMemory, ParseError, RawFloat, SendError, read_three, read_two};
-use std::alloc::Global;
+use crate::prelude::*;
 
 /// The scrolling of a device.
 pub type Scroll = Proxy<kinds::Scroll>;
 
-impl Scroll {
-    /// Tells the client that the object is gone, as the event of this serial, and takes it out of the table.
-    ///
-    /// `NoMemory`: nothing is sent, and the object stays.
-    pub fn destroyed(&self, ctx: &mut Context, serial: u32) -> Result<(), SendError>
-        ensures sends { Sends (event (codes "destroyed")) self.now (Word serial ∷ []) ctx.old ctx.new result }
-    {
-        self.send_last(ctx, 0, &[Arg::Uint32(serial)])
-    }
+impl Destroyed for kinds::Scroll {
+    ghost row = { refl };
+}
 
+impl Scroll {
     /// Tells a receiver that it scrolls by x and y, in logical pixels.
     ///
     /// `NoMemory`: nothing is sent.
-    pub fn scroll(&self, ctx: &mut Context, x: RawFloat, y: RawFloat) -> Result<(), SendError>
+    pub fn scroll(&self, ctx: &mut Context, x: RawFloat, y: RawFloat) -> Sent
         ensures sends { Sends (event (codes "scroll")) self.now (Word x.0 ∷ Word y.0 ∷ []) ctx.old ctx.new result }
     {
         let args = [Arg::Float(x.0), Arg::Float(y.0)];
@@ -36,9 +27,8 @@ impl Scroll {
     /// Tells a receiver that a wheel turns by x and y. A click of the wheel is 120.
     ///
     /// `NoMemory`: nothing is sent.
-    pub fn scroll_discrete(&self, ctx: &mut Context, x: i32, y: i32) -> Result<(), SendError>
-        ensures sends { Sends (event (codes "scroll_discrete")) self.now
-            (Signed x ∷ Signed y ∷ []) ctx.old ctx.new result }
+    pub fn scroll_discrete(&self, ctx: &mut Context, x: i32, y: i32) -> Sent
+        ensures sends { Sends (event (codes "scroll_discrete")) self.now (Signed x ∷ Signed y ∷ []) ctx.old ctx.new result }
     {
         let args = [Arg::Int32(x), Arg::Int32(y)];
         self.object.request(ctx, 2, &args)
@@ -48,15 +38,8 @@ impl Scroll {
     /// nothing may scroll on by itself.
     ///
     /// `NoMemory`: nothing is sent.
-    pub fn scroll_stop(
-        &self,
-        ctx: &mut Context,
-        x: u32,
-        y: u32,
-        is_cancel: u32,
-    ) -> Result<(), SendError>
-        ensures sends { Sends (event (codes "scroll_stop")) self.now
-            (Word x ∷ Word y ∷ Word is_cancel ∷ []) ctx.old ctx.new result }
+    pub fn scroll_stop(&self, ctx: &mut Context, x: u32, y: u32, is_cancel: u32) -> Sent
+        ensures sends { Sends (event (codes "scroll_stop")) self.now (Word x ∷ Word y ∷ Word is_cancel ∷ []) ctx.old ctx.new result }
     {
         let args = [Arg::Uint32(x), Arg::Uint32(y), Arg::Uint32(is_cancel)];
         self.object.request(ctx, 3, &args)
@@ -76,16 +59,15 @@ pub enum Request {
     ScrollStop { x: u32, y: u32, is_cancel: u32 },
 }
 
-impl Request {
-    pub(crate) fn parse(
-        opcode: u32,
-        bytes: &mut ByteStream<'_>,
-        objects: &mut Table,
-    ) -> Result<Request, ParseError>
-        ensures read { ReadsRow values_of false known.Scroll opcode bytes.old bytes.new objects.old objects.new result }
-        ensures code { IfOk result (λ m. opcode_of m ≡ opcode) }
-        ensures table { objects.new ≡ objects.old }
-    {
+impl Message for Request {
+    ghost code = { opcode_of };
+
+    ghost values = { values_of };
+
+    ghost KNOWN = { KnownInterface.Scroll };
+
+    #[inline(always)]
+    fn parse(opcode: u32, bytes: &mut ByteStream<'_>, _: &mut Table) -> Parsed<Request> {
         match opcode {
             0 => Ok(Request::Release),
             1 => {
@@ -104,9 +86,7 @@ impl Request {
         }
     }
 
-    pub(crate) fn opcode(&self) -> u32
-        ensures { result ≡ opcode_of self.now }
-    {
+    fn opcode(&self) -> u32 {
         match self {
             Request::Release => 0,
             Request::Scroll { .. } => 1,
@@ -115,9 +95,7 @@ impl Request {
         }
     }
 
-    pub(crate) fn args(&self, alloc: Global) -> Result<Vec<Arg<'_>>, NoMemory>
-        ensures { IfOk result (λ args. Shows false known.Scroll (opcode_of self.now) (values_of self.now) args.items) }
-    {
+    fn args(&self, alloc: Global) -> Result<Vec<Arg<'_>>, NoMemory> {
         Ok(match self {
             Request::Release => Vec::new(alloc),
             Request::Scroll { x, y } => {

@@ -1,36 +1,26 @@
 //! `ei_seat`: a seat, which offers capabilities.
 
-ghost use Rattle.std.specs.Prelude.{◌≡◌, IfOk, false, codes, [], ◌∷◌};
-ghost use Rattle.ei_backend.specs.Proxies.{Word, Long, Letters, ReadsRow, Shows, Sends, SendsText, SendsNew};
-ghost use Rattle.ei_spec.specs.declared.interface.KnownInterface.TheVariants as known;
+ghost use Rattle.std.specs.Prelude.{refl, codes, [], ◌∷◌};
+ghost use Rattle.ei_server.specs.Words.{KnownInterface, Word, Long, Letters, Sends, SendsText, SendsNew};
 ghost use Rattle.ei_server.specs.Seat.{opcode_of, values_of, event};
 
-use crate::context::Context;
 use crate::device::Device;
-use crate::proxy::Proxy;
-use ei_backend::{HasBackend, Table, kinds};
-use ei_wire::{Arg, ByteStream, NoMemory, ParseError, SendError, read_one};
-use std::alloc::Global;
+use crate::prelude::*;
 
 /// A seat.
 pub type Seat = Proxy<kinds::Seat>;
 
-impl Seat {
-    /// Tells the client that the seat is gone, as the event of this serial, and takes it out of the table.
-    ///
-    /// `NoMemory`: nothing is sent, and the seat stays.
-    pub fn destroyed(&self, ctx: &mut Context, serial: u32) -> Result<(), SendError>
-        ensures sends { Sends (event (codes "destroyed")) self.now (Word serial ∷ []) ctx.old ctx.new result }
-    {
-        self.send_last(ctx, 0, &[Arg::Uint32(serial)])
-    }
+impl Destroyed for kinds::Seat {
+    ghost row = { refl };
+}
 
+impl Seat {
     /// Names the seat.
     ///
     /// `MessageTooLong` exactly where the message would have more than 1048576 bytes, `NoMemory`: nothing is
     /// sent.
     #[tactic(auto, using(ei_spec::proofs::Utf8::is_text))]
-    pub fn name(&self, ctx: &mut Context, name: &str) -> Result<(), SendError>
+    pub fn name(&self, ctx: &mut Context, name: &str) -> Sent
         ensures sends { SendsText (event (codes "name")) self.now (Letters name.now ∷ []) ctx.old ctx.new result }
     {
         self.object.request(ctx, 1, &[Arg::String(Some(name))])
@@ -41,9 +31,8 @@ impl Seat {
     /// `MessageTooLong` exactly where the message would have more than 1048576 bytes, `NoMemory`: nothing is
     /// sent.
     #[tactic(auto, using(ei_spec::proofs::Utf8::is_text))]
-    pub fn capability(&self, ctx: &mut Context, mask: u64, interface: &str) -> Result<(), SendError>
-        ensures sends { SendsText (event (codes "capability")) self.now
-            (Long mask ∷ Letters interface.now ∷ []) ctx.old ctx.new result }
+    pub fn capability(&self, ctx: &mut Context, mask: u64, interface: &str) -> Sent
+        ensures sends { SendsText (event (codes "capability")) self.now (Long mask ∷ Letters interface.now ∷ []) ctx.old ctx.new result }
     {
         let args = [Arg::Uint64(mask), Arg::String(Some(interface))];
         self.object.request(ctx, 2, &args)
@@ -52,7 +41,7 @@ impl Seat {
     /// Ends the description of the seat.
     ///
     /// `NoMemory`: nothing is sent.
-    pub fn done(&self, ctx: &mut Context) -> Result<(), SendError>
+    pub fn done(&self, ctx: &mut Context) -> Sent
         ensures sends { Sends (event (codes "done")) self.now [] ctx.old ctx.new result }
     {
         self.object.request(ctx, 3, &[])
@@ -81,17 +70,15 @@ pub enum Request {
     RequestDevice { capabilities: u64 },
 }
 
-impl Request {
-    /// Reads the arguments of a request of that opcode.
-    pub(crate) fn parse(
-        opcode: u32,
-        bytes: &mut ByteStream<'_>,
-        objects: &mut Table,
-    ) -> Result<Request, ParseError>
-        ensures read { ReadsRow values_of false known.Seat opcode bytes.old bytes.new objects.old objects.new result }
-        ensures code { IfOk result (λ m. opcode_of m ≡ opcode) }
-        ensures table { objects.new ≡ objects.old }
-    {
+impl Message for Request {
+    ghost code = { opcode_of };
+
+    ghost values = { values_of };
+
+    ghost KNOWN = { KnownInterface.Seat };
+
+    #[inline(always)]
+    fn parse(opcode: u32, bytes: &mut ByteStream<'_>, _: &mut Table) -> Parsed<Request> {
         match opcode {
             0 => Ok(Request::Release),
             1 => Ok(Request::Bind {
@@ -104,9 +91,7 @@ impl Request {
         }
     }
 
-    pub(crate) fn opcode(&self) -> u32
-        ensures { result ≡ opcode_of self.now }
-    {
+    fn opcode(&self) -> u32 {
         match self {
             Request::Release => 0,
             Request::Bind { .. } => 1,
@@ -114,10 +99,7 @@ impl Request {
         }
     }
 
-    /// The arguments in order.
-    pub(crate) fn args(&self, alloc: Global) -> Result<Vec<Arg<'_>>, NoMemory>
-        ensures { IfOk result (λ args. Shows false known.Seat (opcode_of self.now) (values_of self.now) args.items) }
-    {
+    fn args(&self, alloc: Global) -> Result<Vec<Arg<'_>>, NoMemory> {
         Ok(match self {
             Request::Release => Vec::new(alloc),
             Request::Bind { capabilities } | Request::RequestDevice { capabilities } => {

@@ -1,38 +1,25 @@
 //! `ei_text`: the keysyms and the text of a device.
 
-ghost use Rattle.std.specs.Prelude.{◌≡◌, IfOk, false, codes, [], ◌∷◌};
-ghost use Rattle.ei_backend.specs.Proxies.{Word, Letters, ReadsRow, Shows, Sends, SendsText};
-ghost use Rattle.ei_spec.specs.declared.interface.KnownInterface.TheVariants as known;
-ghost use Rattle.ei_types.specs.Enums.{key_state_number};
+ghost use Rattle.std.specs.Prelude.{refl, codes, [], ◌∷◌};
+ghost use Rattle.ei_server.specs.Words.{KnownInterface, Word, Letters, Sends, SendsText, key_state_number};
 ghost use Rattle.ei_server.specs.Text.{opcode_of, values_of, event};
 
-use crate::{Context, Proxy};
-use ei_backend::{Interface, Table, kinds};
+use crate::prelude::*;
 use ei_types::KeyState;
-use ei_wire::{
-    Arg, ByteStream, EiText, NoMemory, OwnedArg, ParseError, SendError, read_one, read_two,
-};
-use std::alloc::Global;
 
 /// The keysyms and the text of a device.
 pub type Text = Proxy<kinds::Text>;
 
-impl Text {
-    /// Tells the client that the object is gone, as the event of this serial, and takes it out of the table.
-    ///
-    /// `NoMemory`: nothing is sent, and the object stays.
-    pub fn destroyed(&self, ctx: &mut Context, serial: u32) -> Result<(), SendError>
-        ensures sends { Sends (event (codes "destroyed")) self.now (Word serial ∷ []) ctx.old ctx.new result }
-    {
-        self.send_last(ctx, 0, &[Arg::Uint32(serial)])
-    }
+impl Destroyed for kinds::Text {
+    ghost row = { refl };
+}
 
+impl Text {
     /// Tells a receiver that a keysym, by its number in XKB, goes down or up.
     ///
     /// `NoMemory`: nothing is sent.
-    pub fn keysym(&self, ctx: &mut Context, keysym: u32, state: KeyState) -> Result<(), SendError>
-        ensures sends { Sends (event (codes "keysym")) self.now
-            (Word keysym ∷ Word (key_state_number state) ∷ []) ctx.old ctx.new result }
+    pub fn keysym(&self, ctx: &mut Context, keysym: u32, state: KeyState) -> Sent
+        ensures sends { Sends (event (codes "keysym")) self.now (Word keysym ∷ Word (key_state_number state) ∷ []) ctx.old ctx.new result }
     {
         let args = [Arg::Uint32(keysym), state.as_arg()];
         self.object.request(ctx, 1, &args)
@@ -43,7 +30,7 @@ impl Text {
     /// `MessageTooLong` exactly where the message would have more than 1048576 bytes, `NoMemory`: nothing is
     /// sent.
     #[tactic(auto, using(ei_spec::proofs::Utf8::is_text))]
-    pub fn utf8(&self, ctx: &mut Context, text: &str) -> Result<(), SendError>
+    pub fn utf8(&self, ctx: &mut Context, text: &str) -> Sent
         ensures sends { SendsText (event (codes "utf8")) self.now (Letters text.now ∷ []) ctx.old ctx.new result }
     {
         self.object.request(ctx, 2, &[Arg::String(Some(text))])
@@ -61,16 +48,15 @@ pub enum Request {
     Utf8 { text: EiText },
 }
 
-impl Request {
-    pub(crate) fn parse(
-        opcode: u32,
-        bytes: &mut ByteStream<'_>,
-        objects: &mut Table,
-    ) -> Result<Request, ParseError>
-        ensures read { ReadsRow values_of false known.Text opcode bytes.old bytes.new objects.old objects.new result }
-        ensures code { IfOk result (λ m. opcode_of m ≡ opcode) }
-        ensures table { objects.new ≡ objects.old }
-    {
+impl Message for Request {
+    ghost code = { opcode_of };
+
+    ghost values = { values_of };
+
+    ghost KNOWN = { KnownInterface.Text };
+
+    #[inline(always)]
+    fn parse(opcode: u32, bytes: &mut ByteStream<'_>, _: &mut Table) -> Parsed<Request> {
         match opcode {
             0 => Ok(Request::Release),
             1 => {
@@ -84,9 +70,7 @@ impl Request {
         }
     }
 
-    pub(crate) fn opcode(&self) -> u32
-        ensures { result ≡ opcode_of self.now }
-    {
+    fn opcode(&self) -> u32 {
         match self {
             Request::Release => 0,
             Request::Keysym { .. } => 1,
@@ -94,9 +78,7 @@ impl Request {
         }
     }
 
-    pub(crate) fn args(&self, alloc: Global) -> Result<Vec<Arg<'_>>, NoMemory>
-        ensures { IfOk result (λ args. Shows false known.Text (opcode_of self.now) (values_of self.now) args.items) }
-    {
+    fn args(&self, alloc: Global) -> Result<Vec<Arg<'_>>, NoMemory> {
         Ok(match self {
             Request::Release => Vec::new(alloc),
             Request::Keysym { keysym, state } => {

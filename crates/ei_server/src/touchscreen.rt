@@ -1,41 +1,25 @@
 //! `ei_touchscreen`: the touches on a device.
 
-ghost use Rattle.std.specs.Prelude.{◌≡◌, IfOk, false, codes, [], ◌∷◌};
-ghost use Rattle.ei_backend.specs.Proxies.{Word, ReadsRow, Shows, Sends};
-ghost use Rattle.ei_spec.specs.declared.interface.KnownInterface.TheVariants as known;
+ghost use Rattle.std.specs.Prelude.{refl, codes, [], ◌∷◌};
+ghost use Rattle.ei_server.specs.Words.{KnownInterface, Word, Sends};
 ghost use Rattle.ei_server.specs.Touchscreen.{opcode_of, values_of, event};
 
-use crate::{Context, Proxy};
-use ei_backend::{Table, kinds};
-use ei_wire::{Arg, ByteStream, NoMemory, ParseError, RawFloat, SendError, read_one, read_three};
-use std::alloc::Global;
+use crate::prelude::*;
 
 /// The touches on a device.
 pub type Touchscreen = Proxy<kinds::Touchscreen>;
 
-impl Touchscreen {
-    /// Tells the client that the object is gone, as the event of this serial, and takes it out of the table.
-    ///
-    /// `NoMemory`: nothing is sent, and the object stays.
-    pub fn destroyed(&self, ctx: &mut Context, serial: u32) -> Result<(), SendError>
-        ensures sends { Sends (event (codes "destroyed")) self.now (Word serial ∷ []) ctx.old ctx.new result }
-    {
-        self.send_last(ctx, 0, &[Arg::Uint32(serial)])
-    }
+impl Destroyed for kinds::Touchscreen {
+    ghost row = { refl };
+}
 
+impl Touchscreen {
     /// Tells a receiver that a touch begins at the point at x and y, in logical pixels. The id is its name until
     /// it ends.
     ///
     /// `NoMemory`: nothing is sent.
-    pub fn down(
-        &self,
-        ctx: &mut Context,
-        touchid: u32,
-        x: RawFloat,
-        y: RawFloat,
-    ) -> Result<(), SendError>
-        ensures sends { Sends (event (codes "down")) self.now
-            (Word touchid ∷ Word x.0 ∷ Word y.0 ∷ []) ctx.old ctx.new result }
+    pub fn down(&self, ctx: &mut Context, touchid: u32, x: RawFloat, y: RawFloat) -> Sent
+        ensures sends { Sends (event (codes "down")) self.now (Word touchid ∷ Word x.0 ∷ Word y.0 ∷ []) ctx.old ctx.new result }
     {
         let args = [Arg::Uint32(touchid), Arg::Float(x.0), Arg::Float(y.0)];
         self.object.request(ctx, 1, &args)
@@ -44,15 +28,8 @@ impl Touchscreen {
     /// Tells a receiver that a touch moves to the point at x and y, in logical pixels.
     ///
     /// `NoMemory`: nothing is sent.
-    pub fn motion(
-        &self,
-        ctx: &mut Context,
-        touchid: u32,
-        x: RawFloat,
-        y: RawFloat,
-    ) -> Result<(), SendError>
-        ensures sends { Sends (event (codes "motion")) self.now
-            (Word touchid ∷ Word x.0 ∷ Word y.0 ∷ []) ctx.old ctx.new result }
+    pub fn motion(&self, ctx: &mut Context, touchid: u32, x: RawFloat, y: RawFloat) -> Sent
+        ensures sends { Sends (event (codes "motion")) self.now (Word touchid ∷ Word x.0 ∷ Word y.0 ∷ []) ctx.old ctx.new result }
     {
         let args = [Arg::Uint32(touchid), Arg::Float(x.0), Arg::Float(y.0)];
         self.object.request(ctx, 2, &args)
@@ -61,7 +38,7 @@ impl Touchscreen {
     /// Tells a receiver that a touch ends.
     ///
     /// `NoMemory`: nothing is sent.
-    pub fn up(&self, ctx: &mut Context, touchid: u32) -> Result<(), SendError>
+    pub fn up(&self, ctx: &mut Context, touchid: u32) -> Sent
         ensures sends { Sends (event (codes "up")) self.now (Word touchid ∷ []) ctx.old ctx.new result }
     {
         self.object.request(ctx, 3, &[Arg::Uint32(touchid)])
@@ -70,7 +47,7 @@ impl Touchscreen {
     /// Tells a receiver that a touch ends and is not to count.
     ///
     /// `NoMemory`: nothing is sent.
-    pub fn cancel(&self, ctx: &mut Context, touchid: u32) -> Result<(), SendError>
+    pub fn cancel(&self, ctx: &mut Context, touchid: u32) -> Sent
         ensures sends { Sends (event (codes "cancel")) self.now (Word touchid ∷ []) ctx.old ctx.new result }
     {
         self.object.request(ctx, 4, &[Arg::Uint32(touchid)])
@@ -104,17 +81,15 @@ pub enum Request {
     },
 }
 
-impl Request {
-    pub(crate) fn parse(
-        opcode: u32,
-        bytes: &mut ByteStream<'_>,
-        objects: &mut Table,
-    ) -> Result<Request, ParseError>
-        ensures read { ReadsRow values_of false known.Touchscreen opcode
-            bytes.old bytes.new objects.old objects.new result }
-        ensures code { IfOk result (λ m. opcode_of m ≡ opcode) }
-        ensures table { objects.new ≡ objects.old }
-    {
+impl Message for Request {
+    ghost code = { opcode_of };
+
+    ghost values = { values_of };
+
+    ghost KNOWN = { KnownInterface.Touchscreen };
+
+    #[inline(always)]
+    fn parse(opcode: u32, bytes: &mut ByteStream<'_>, _: &mut Table) -> Parsed<Request> {
         match opcode {
             0 => Ok(Request::Release),
             1 => {
@@ -135,9 +110,7 @@ impl Request {
         }
     }
 
-    pub(crate) fn opcode(&self) -> u32
-        ensures { result ≡ opcode_of self.now }
-    {
+    fn opcode(&self) -> u32 {
         match self {
             Request::Release => 0,
             Request::Down { .. } => 1,
@@ -147,26 +120,18 @@ impl Request {
         }
     }
 
-    pub(crate) fn args(&self, alloc: Global) -> Result<Vec<Arg<'_>>, NoMemory>
-        ensures { IfOk result
-            (λ args. Shows false known.Touchscreen (opcode_of self.now) (values_of self.now) args.items) }
-    {
+    fn args(&self, alloc: Global) -> Result<Vec<Arg<'_>>, NoMemory> {
         Ok(match self {
             Request::Release => Vec::new(alloc),
-            Request::Down { touchid, x, y } => {
+            Request::Down { touchid, x, y } | Request::Motion { touchid, x, y } => {
                 Vec::from_array(
                     alloc,
                     [Arg::Uint32(*touchid), Arg::Float(x.0), Arg::Float(y.0)],
                 )?
             }
-            Request::Motion { touchid, x, y } => {
-                Vec::from_array(
-                    alloc,
-                    [Arg::Uint32(*touchid), Arg::Float(x.0), Arg::Float(y.0)],
-                )?
+            Request::Up { touchid } | Request::Cancel { touchid } => {
+                Vec::from_array(alloc, [Arg::Uint32(*touchid)])?
             }
-            Request::Up { touchid } => { Vec::from_array(alloc, [Arg::Uint32(*touchid)])? }
-            Request::Cancel { touchid } => { Vec::from_array(alloc, [Arg::Uint32(*touchid)])? }
         })
     }
 }

@@ -23,3 +23,14 @@ pub mod SettledMap
 pub mod Worked
 pub mod WorkedWhole
 pub mod WorkedTold
+-- what the clauses cite of the crates below
+pub use Rattle.ei_spec.specs.Groups
+pub use Rattle.ei_spec.specs.History
+pub use Rattle.ei_spec.specs.Interface
+pub use Rattle.ei_spec.specs.Message
+pub use Rattle.ei_spec.specs.Piece
+pub use Rattle.ei_spec.specs.Reading
+pub use Rattle.ei_spec.specs.Rows
+pub use Rattle.ei_spec.specs.Stream
+pub use Rattle.ei_spec.specs.Table
+pub use Rattle.ei_spec.specs.Value

@@ -18,3 +18,4 @@ pub mod WrittenRows
 pub mod Cuts
 pub mod RowHandles
 pub mod RowNames
+pub mod NamesByLength

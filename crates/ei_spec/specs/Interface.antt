@@ -1,5 +1,5 @@
 -- The interfaces: their names, their versions, and objects of them.
-use Rattle.std.specs.Prelude.{ℕ, Bool, List, [], ◌∷◌, Option, Some, None, codes}
+use Rattle.std.specs.Prelude.{ℕ, Bool, List, [], ◌∷◌, Option, Some, None, codes, length, ◌==◌}
 use Rattle.std.specs.Str.{bytes_eq}
 use Rattle.std.specs.List.{find}
 use Rattle.ei_spec.specs.declared.interface.KnownInterface.{KnownInterface}
@@ -71,6 +71,10 @@ server_version interface = (about interface).version
 -- whether an interface has that name
 abbrev pub is_called : List ℕ → KnownInterface → Bool
 is_called name interface = bytes_eq name (name_of interface)
+
+-- whether an interface's name has so many bytes
+abbrev pub is_long : ℕ → KnownInterface → Bool
+is_long len interface = length (name_of interface) == len
 
 -- the interface of a name
 unfoldable pub known_of : List ℕ → Option KnownInterface

@@ -1,9 +1,9 @@
 //! The interfaces of the protocol.
 
-ghost use Rattle.std.specs.Prelude.{◌≡◌};
+ghost use Rattle.std.specs.Prelude.{◌≡◌, filter};
 ghost use Rattle.std.specs.Option.{option_copied};
 ghost use Rattle.std.specs.List.{find};
-ghost use Rattle.ei_spec.specs.Interface.{name_of, known_of, is_called};
+ghost use Rattle.ei_spec.specs.Interface.{name_of, known_of, is_called, is_long, the_thirteen};
 
 /// An interface of the protocol.
 #[derive(Clone, Copy, Debug, PartialEq, Eq, Hash)]
@@ -63,11 +63,35 @@ impl KnownInterface {
     }
 
     /// The interface of that name; `None` for every other text.
-    #[tactic(auto, unfolding(crate::specs::Interface::known_of))]
     pub fn from_name(name: &str) -> Option<KnownInterface>
         ensures { result ≡ known_of name.now }
     {
-        first_named(&KnownInterface::ALL, name).copied()
+        first_named(of_length(name.len()), name).copied()
+    }
+}
+
+/// The interfaces whose names have so many bytes.
+fn of_length(len: usize) -> &'static [KnownInterface]
+    ensures { result.now ≡ filter (is_long len) the_thirteen }
+{
+    match len {
+        7 => &[KnownInterface::Seat, KnownInterface::Text],
+        9 => &[
+            KnownInterface::Device,
+            KnownInterface::Scroll,
+            KnownInterface::Button,
+        ],
+        10 => &[KnownInterface::Pointer],
+        11 => &[
+            KnownInterface::Callback,
+            KnownInterface::Pingpong,
+            KnownInterface::Keyboard,
+        ],
+        12 => &[KnownInterface::Handshake],
+        13 => &[KnownInterface::Connection],
+        14 => &[KnownInterface::Touchscreen],
+        19 => &[KnownInterface::PointerAbsolute],
+        _ => &[],
     }
 }
 

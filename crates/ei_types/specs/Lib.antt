@@ -5,3 +5,8 @@ pub mod Operations
 pub mod Errors
 pub mod Texts
 pub mod Inputs
+-- what the clauses cite of the crates below
+pub use Rattle.ei_spec.specs.Reading
+pub use Rattle.ei_spec.specs.Spelling
+pub use Rattle.ei_spec.specs.Table
+pub use Rattle.ei_spec.specs.Value

@@ -37,6 +37,7 @@ impl OwnedArg for ContextType {
 
     ghost names = { λ kind. Some (context_type_names kind) };
 
+    #[inline(always)]
     fn parse(stream: &mut ByteStream<'_>) -> Result<ContextType, ParseError> {
         let number = stream.choice("ContextType", &[1, 2])?;
         Ok(if number == 1 {
@@ -161,6 +162,7 @@ impl OwnedArg for DisconnectReason {
 
     ghost names = { λ reason. Some (disconnect_reason_names reason) };
 
+    #[inline(always)]
     fn parse(stream: &mut ByteStream<'_>) -> Result<DisconnectReason, ParseError> {
         Ok(DisconnectReason::of_number(u32::parse(stream)?))
     }
@@ -210,6 +212,7 @@ impl OwnedArg for DeviceType {
 
     ghost names = { λ kind. Some (device_type_names kind) };
 
+    #[inline(always)]
     fn parse(stream: &mut ByteStream<'_>) -> Result<DeviceType, ParseError> {
         let number = stream.choice("DeviceType", &[1, 2])?;
         Ok(if number == 1 {
@@ -259,6 +262,7 @@ impl OwnedArg for ButtonState {
 
     ghost names = { λ state. Some (button_state_names state) };
 
+    #[inline(always)]
     fn parse(stream: &mut ByteStream<'_>) -> Result<ButtonState, ParseError> {
         let number = stream.choice("ButtonState", &[0, 1])?;
         Ok(if number == 0 {
@@ -308,6 +312,7 @@ impl OwnedArg for KeyState {
 
     ghost names = { λ state. Some (key_state_names state) };
 
+    #[inline(always)]
     fn parse(stream: &mut ByteStream<'_>) -> Result<KeyState, ParseError> {
         let number = stream.choice("KeyState", &[0, 1])?;
         Ok(if number == 0 {
@@ -354,6 +359,7 @@ impl OwnedArg for KeymapType {
 
     ghost names = { λ kind. Some (keymap_type_names kind) };
 
+    #[inline(always)]
     fn parse(stream: &mut ByteStream<'_>) -> Result<KeymapType, ParseError> {
         let _number = stream.choice("KeymapType", &[1])?;
         Ok(KeymapType::Xkb)

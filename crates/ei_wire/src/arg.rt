@@ -153,6 +153,7 @@ impl OwnedArg for u32 {
 
     ghost names = { λ _. None };
 
+    #[inline(always)]
     fn parse(stream: &mut ByteStream<'_>) -> Result<u32, ParseError> {
         stream.word()
     }
@@ -173,6 +174,7 @@ impl OwnedArg for i32 {
 
     ghost names = { λ _. None };
 
+    #[inline(always)]
     fn parse(stream: &mut ByteStream<'_>) -> Result<i32, ParseError> {
         Ok(stream.word()?.cast_signed())
     }
@@ -193,6 +195,7 @@ impl OwnedArg for u64 {
 
     ghost names = { λ _. None };
 
+    #[inline(always)]
     fn parse(stream: &mut ByteStream<'_>) -> Result<u64, ParseError> {
         stream.long()
     }
@@ -213,6 +216,7 @@ impl OwnedArg for i64 {
 
     ghost names = { λ _. None };
 
+    #[inline(always)]
     fn parse(stream: &mut ByteStream<'_>) -> Result<i64, ParseError> {
         Ok(stream.long()?.cast_signed())
     }
@@ -233,6 +237,7 @@ impl OwnedArg for RawFloat {
 
     ghost names = { λ _. None };
 
+    #[inline(always)]
     fn parse(stream: &mut ByteStream<'_>) -> Result<RawFloat, ParseError> {
         Ok(RawFloat(stream.word()?))
     }
@@ -253,6 +258,7 @@ impl OwnedArg for Handle {
 
     ghost names = { λ _. None };
 
+    #[inline(always)]
     fn parse(stream: &mut ByteStream<'_>) -> Result<Handle, ParseError> {
         stream.handle()
     }
@@ -273,6 +279,7 @@ impl OwnedArg for Option<EiText> {
 
     ghost names = { λ _. None };
 
+    #[inline(always)]
     fn parse(stream: &mut ByteStream<'_>) -> Result<Option<EiText>, ParseError> {
         stream.text()
     }
@@ -297,6 +304,7 @@ impl OwnedArg for EiText {
 
     ghost names = { λ _. None };
 
+    #[inline(always)]
     fn parse(stream: &mut ByteStream<'_>) -> Result<EiText, ParseError> {
         stream.whole_text()
     }

@@ -44,12 +44,14 @@ impl<'a> ByteStream<'a> {
         }
     }
 
+    #[inline(always)]
     pub fn rest(&self) -> usize
         ensures { result ≡ length self.now.bytes }
     {
         self.bytes.len()
     }
 
+    #[inline(always)]
     pub fn handles_taken(&self) -> usize
         ensures { result ≡ self.now.taken }
     {
@@ -57,6 +59,7 @@ impl<'a> ByteStream<'a> {
     }
 
     /// The four bytes at the front as a number.
+    #[inline(always)]
     pub(crate) fn word(&mut self) -> Result<u32, ParseError>
         ensures read { Gives (λ n. (Word n, self.new)) result (read U32 self.old) }
         ensures err { OnErr result (self.new ≡ self.old) }
@@ -68,6 +71,7 @@ impl<'a> ByteStream<'a> {
     }
 
     /// The eight bytes at the front as a number.
+    #[inline(always)]
     pub(crate) fn long(&mut self) -> Result<u64, ParseError>
         ensures read { Gives (λ n. (Long n, self.new)) result (read U64 self.old) }
         ensures err { OnErr result (self.new ≡ self.old) }
@@ -79,6 +83,7 @@ impl<'a> ByteStream<'a> {
     }
 
     /// The next handle.
+    #[inline(always)]
     pub(crate) fn handle(&mut self) -> Result<Handle, ParseError>
         ensures read { Gives (λ h. (Fd h, self.new)) result (read HandleKind self.old) }
         ensures err { OnErr result (self.new ≡ self.old) }
@@ -94,6 +99,7 @@ impl<'a> ByteStream<'a> {
     }
 
     /// The text or the null at the front.
+    #[inline(always)]
     pub(crate) fn text(&mut self) -> Result<Option<EiText>, ParseError>
         ensures read { Gives (λ t. (or_null t, self.new)) result (read Nullable self.old) }
         ensures err { OnErr result (self.new ≡ self.old) }
@@ -104,6 +110,7 @@ impl<'a> ByteStream<'a> {
     }
 
     /// The text at the front.
+    #[inline(always)]
     pub(crate) fn whole_text(&mut self) -> Result<EiText, ParseError>
         ensures read { Gives (λ t. (Letters t, self.new)) result (read TextKind self.old) }
         ensures err { OnErr result (self.new ≡ self.old) }
@@ -121,6 +128,7 @@ impl<'a> ByteStream<'a> {
     /// Takes the number of a variant at the front: one of `values`, the numbers of the enum `name`.
     ///
     /// A number that isn't among them is `InvalidVariant`, and fewer than four bytes are `EndOfMessage`.
+    #[inline(always)]
     pub fn choice(&mut self, name: &'static str, values: &[u32]) -> Result<u32, ParseError>
         ensures read { Gives (λ n. (Word n, self.new)) result (read (Choice name.now values.now) self.old) }
         ensures listed { IfOk result (λ n. list_any (nat_eq n) values.now ≡ true) }
@@ -128,7 +136,7 @@ impl<'a> ByteStream<'a> {
         ensures memory { IfErr result IsFault }
     {
         let (number, rest) = word_of(self.bytes)?;
-        if !values.contains(&number) {
+        if !is_listed(values, number) {
             return Err(ParseError::InvalidVariant(name, number));
         }
         self.bytes = rest;
@@ -136,6 +144,7 @@ impl<'a> ByteStream<'a> {
     }
 
     /// Takes the argument at the front.
+    #[inline(always)]
     pub fn read_arg<T: OwnedArg>(&mut self) -> Result<T, ParseError>
         ensures read { Gives (λ x. (T.value x, self.new)) result (read T.kind self.old) }
         ensures err { OnErr result (self.new ≡ self.old) }
@@ -145,6 +154,15 @@ impl<'a> ByteStream<'a> {
     }
 }
 
+/// Whether a number is one of these.
+#[inline(always)]
+fn is_listed(values: &[u32], number: u32) -> bool
+    ensures { result ≡ list_any (nat_eq number) values.now }
+{
+    values.iter().any(|value| number == *value)
+}
+
+#[inline(always)]
 fn word_of(bytes: &[u8]) -> Result<(u32, &[u8]), ParseError>
     ensures read { Gives (λ x. (x.0, x.1.now)) result (number_at w32 bytes.now) }
     ensures memory { IfErr result IsFault }
@@ -157,6 +175,7 @@ fn word_of(bytes: &[u8]) -> Result<(u32, &[u8]), ParseError>
     Ok((number, rest))
 }
 
+#[inline(always)]
 fn long_of(bytes: &[u8]) -> Result<(u64, &[u8]), ParseError>
     ensures read { Gives (λ x. (x.0, x.1.now)) result (number_at w64 bytes.now) }
     ensures memory { IfErr result IsFault }
@@ -200,6 +219,7 @@ fn letters_of(alloc: Global, len: u32, bytes: &[u8]) -> Result<(EiText, &[u8]), 
     Ok((EiText::new(alloc, text)?, &bytes[whole..]))
 }
 
+#[inline(never)]
 #[tactic(auto, unfolding(ei_spec::specs::Reading::text_at))]
 fn text_of(alloc: Global, bytes: &[u8]) -> Result<(Option<EiText>, &[u8]), ParseError>
     ensures { Gives (λ x. (x.0, x.1.now)) result (text_at bytes.now) }

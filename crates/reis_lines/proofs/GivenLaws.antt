@@ -1,19 +1,19 @@
 -- The pieces of what an input gave of its text.
-use Rattle.std.proofs.Common.{◌≡◌, ◌⊎◌, inl, inr, ℕ, ◌-◌, List, [], ◌∷◌, ◌++◌, length, take, map, refl, ap, sym, ◌∙◌, append_assoc, length-append, arith, subst}
-use Rattle.std.proofs.lemmas.List.{append-nil, take_at}
+use Rattle.std.proofs.Common.{◌≡◌, inl, inr, ℕ, ◌-◌, List, [], ◌∷◌, ◌++◌, length, take, map, refl, ap, sym, ◌∙◌, append_assoc, length-append, arith, subst}
+use Rattle.std.proofs.lemmas.List.{take_at}
 use Rattle.std.specs.Prelude.{Bool, true, false, Option}
 use Rattle.reis_lines.specs.Text.{has_newline, before_newline, split, Spell, whole_lines, AreGiven}
-use Rattle.reis_lines.specs.HexSource.{joined_lines, AreLines, LaterText}
-use Rattle.reis_lines.specs.LaterReadings.{none_behind}
-use Rattle.reis_lines.proofs.TextLaws.{before_quiet, split_ended, split_all}
+use Rattle.reis_lines.specs.HexSource.{joined_lines, AreLines}
+use Rattle.reis_lines.proofs.TextLaws.{split_ended, split_all}
+use Rattle.reis_lines.proofs.ToldLaws.{LaterText}
 
 -- each line ends with its newline
-abbrev AreEnded : List (List ℕ) → Type 0
+abbrev pub AreEnded : List (List ℕ) → Type 0
 AreEnded [] = Unit {0}
 AreEnded (l ∷ ls) = (l ≡ before_newline l ++ 10 ∷ []) × AreEnded ls
 
 -- the lines of a text that begins with these
-split_lines : (ls : List (List ℕ)) (t : List ℕ) → AreEnded ls → split (joined_lines ls ++ t) ≡ map before_newline ls ++ split t
+pub split_lines : (ls : List (List ℕ)) (t : List ℕ) → AreEnded ls → split (joined_lines ls ++ t) ≡ map before_newline ls ++ split t
 split_lines [] t e = refl
 split_lines (l ∷ ls) t e =
     ap split (append_assoc l (joined_lines ls) t) ∙ split_ended l (joined_lines ls ++ t) e.0 ∙ ap (λ v. before_newline l ∷ v) (split_lines ls t e.1)

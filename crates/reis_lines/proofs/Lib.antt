@@ -2,3 +2,8 @@ pub mod HeldLaws
 pub mod SourceLaws
 pub mod TextLaws
 pub mod GivenLaws
+pub mod DigitLaws
+pub mod NewlineLaws
+pub mod GaveLaws
+pub mod ToldLaws
+pub mod MetLaws

@@ -1,19 +1,20 @@
 -- What becomes of the unread text where a line is handed out, or is bad, or none comes.
-use Rattle.std.proofs.Common.{◌≡◌, ◌<◌, ◌≤◌, ◌⊎◌, inl, inr, ℕ, ◌+◌, ◌-◌, ◌^◌, zero, suc, List, [], ◌∷◌, ◌++◌, length, take, drop, refl, ap, sym, ◌∙◌, subst, append_assoc}
-use Rattle.std.proofs.Common.{arith, Some}
+use Rattle.std.proofs.Common.{◌≡◌, ◌<◌, ◌≤◌, ◌⊎◌, inl, inr, ℕ, ◌+◌, ◌-◌, ◌^◌, zero, suc, List, [], ◌∷◌, ◌++◌, length, take, drop}
+use Rattle.std.proofs.Common.{arith, Some, refl, ap, sym, ◌∙◌, subst, append_assoc}
 use Rattle.std.proofs.lemmas.List.{append-nil, take-append-drop, take_all, drop_all}
+use Rattle.std.proofs.Math.Seq.{drop-append_seam}
 use Rattle.std.specs.Prelude.{min, Option, None, is_some}
 use Rattle.std.specs.Prelude.{Bool, true, false, slice_get}
 use Rattle.std.specs.Option.{option_map}
 use Rattle.ei_spec.specs.declared.handle.Handle.{Handle}
 use Rattle.ei_spec.specs.Piece.{Piece}
 use Rattle.ei_backend.specs.Outside.{HandsOut}
-use Rattle.reis_lines.specs.Text.{has_newline, before_newline, line_bytes, piece_before, pieces_of, bad_line_before, bad_line_of, number_from}
+use Rattle.ei_backend.specs.declared.outside.LastAnswer.{LastAnswer}
+use Rattle.reis_lines.specs.Text.{has_newline, before_newline, line_bytes, piece_before, pieces_of}
 use Rattle.reis_lines.specs.Held.{FindsNewline, Moves, line_len, line_skip}
-use Rattle.reis_lines.specs.HexSource.{Reading, text_reading, fresh, unless_ended, AreLines, LaterText, HoldsBadLine, LaterReading, LaterSource, HandsLine}
+use Rattle.reis_lines.specs.HexSource.{Reading, unless_ended, AreLines, LaterLines, KnowsEnd, LeftBehind, HoldsBadLine, LaterReading, HandsLine}
 use Rattle.reis_lines.specs.HexSource.{unread, IsAtEnd, HoldsEnd}
-use Rattle.reis_lines.specs.declared.hex_source.HexSource.{HexSource}
-use Rattle.reis_lines.proofs.TextLaws.{has_newline-append, pieces_of-first, bad_line_of-first, full_or, too_long, spelled_none, before_all, before_of_quiet, ended_at}
+use Rattle.reis_lines.proofs.TextLaws.{has_newline-append, pieces_of-first, full_or, too_long, spelled_none, before_all, before_of_quiet, ended_at}
 
 pub some_not_none : (o : Option ℕ) → is_some o ≡ true → o ≡ None → ⊥
 some_not_none None e n = cc
@@ -27,7 +28,7 @@ pub not_both : (o : Option ℕ) (n : ℕ) → o ≡ None → o ≡ Some n → �
 not_both o n none some = cc
 
 -- behind the input's end no text is left
-rest_none : (told : Option (List ℕ)) (ended : Bool) (rest : List ℕ) → unless_ended ended told ≡ Some rest → ended ≡ true → rest ≡ []
+pub rest_none : (told : Option (List ℕ)) (ended : Bool) (rest : List ℕ) → unless_ended ended told ≡ Some rest → ended ≡ true → rest ≡ []
 rest_none None true rest is e = cc
 rest_none (Some t) true rest is e = cc
 rest_none told false rest is e = cc
@@ -68,75 +69,45 @@ first_pieces held text mid rest slice found ended f is =
     ap pieces_of f.same ∙ pieces_of-first found mid rest f.place (λ a b. (f.ends a b).0)
     ∙ ap (λ t. piece_before (line_bytes t) (pieces_of (drop (line_skip found mid) mid ++ rest))) (sym is)
 
-first_bad : (held text mid rest slice : List ℕ) (found : Option ℕ) (ended : Bool) → FindsFirst held text mid rest found ended → slice ≡ take (line_len found mid) mid →
-    bad_line_of (held ++ text) ≡ bad_line_before slice (bad_line_of (drop (line_skip found mid) mid ++ rest))
-first_bad held text mid rest slice found ended f is =
-    ap bad_line_of f.same ∙ bad_line_of-first found mid rest f.place (λ a b. (f.ends a b).0)
-    ∙ ap (λ t. bad_line_before t (bad_line_of (drop (line_skip found mid) mid ++ rest))) (sym is)
-
-spelled_before : (l bytes : List ℕ) (others : Option ℕ) → line_bytes l ≡ Some bytes → bad_line_before l others ≡ option_map (λ n. n + 1) others
-spelled_before [] bytes others is = cc
-spelled_before (b ∷ bs) bytes others is = rw is refl
-
-bad_before : (l : List ℕ) (others : Option ℕ) → line_bytes l ≡ None → 0 < length l → bad_line_before l others ≡ Some 1
-bad_before [] others is some = absurd (omega arith)
-bad_before (b ∷ bs) others is some = rw is refl
-
-number_next : (line now : ℕ) (o : Option ℕ) → now ≡ min (line + 1) (2 ^ 64 - 1) → number_from line (option_map (λ n. n + 1) o) ≡ number_from now o
-number_next line now None is = refl
-number_next line now (Some n) is =
-    let e : min (line + (n + 1)) (2 ^ 64 - 1) ≡ min (now + n) (2 ^ 64 - 1) = omega arith in
-    ap (λ k. Some k) e
-
-first_none : (mid rest bytes : List ℕ) (ended : Bool) → has_newline mid ≡ false → (length mid < 131073 → (rest ≡ []) × (ended ≡ true)) →
-    line_bytes mid ≡ Some bytes → (rest ≡ []) × (ended ≡ true)
-first_none mid rest bytes ended quiet ends spells = elim (full_or (length mid)) [ inl full ↦ absurd (spelled_none mid bytes (too_long mid (omega arith)) spells) | inr less ↦ ends less ]
+first_none : (mid bytes : List ℕ) (ended : Bool) → has_newline mid ≡ false → (length mid < 131073 → ended ≡ true) → line_bytes mid ≡ Some bytes → ended ≡ true
+first_none mid bytes ended quiet ends spells = elim (full_or (length mid)) [ inl full ↦ absurd (spelled_none mid bytes (too_long mid (omega arith)) spells) | inr less ↦ ends less ]
 
 spelled_some : (mid bytes : List ℕ) → line_bytes mid ≡ Some bytes → 0 < length mid
 spelled_some [] bytes spells = cc
 spelled_some (b ∷ bs) bytes spells = omega arith
 
--- the first line as it stands in the text: with its newline, or without, where nothing follows
-pub first_line : (found : Option ℕ) (mid rest bytes : List ℕ) (ended : Bool) → FindsNewline found mid →
-    (found ≡ None → length mid < 131073 → (rest ≡ []) × (ended ≡ true)) → line_bytes (take (line_len found mid) mid) ≡ Some bytes →
-    AreLines (take (line_skip found mid) mid ∷ []) (drop (line_skip found mid) mid ++ rest) ended
+-- the first line as it stands among the bytes held: with its newline, or without, where nothing follows
+pub first_line : (found : Option ℕ) (mid bytes : List ℕ) (ended : Bool) → FindsNewline found mid →
+    (found ≡ None → length mid ≤ 131072 → ended ≡ true) → line_bytes (take (line_len found mid) mid) ≡ Some bytes →
+    AreLines (take (line_skip found mid) mid ∷ []) (drop (line_skip found mid) mid) ended
     × (before_newline (take (line_skip found mid) mid) ≡ take (line_len found mid) mid)
-first_line (Some n) mid rest bytes ended f ends spells =
+first_line (Some n) mid bytes ended f ends spells =
     let newline = ended_at n mid f.here in
     let same = ap before_newline newline ∙ before_of_quiet (take n mid) [] f.before in
     (inl (newline ∙ ap (λ t. t ++ 10 ∷ []) (sym same), tt), same)
-first_line None mid rest bytes ended f ends spells =
+first_line None mid bytes ended f ends spells =
     let all : take (length mid) mid ≡ mid = take_all (length mid) mid (omega arith) in
     let gone : drop (length mid) mid ≡ [] = drop_all (length mid) mid (omega arith) in
     let spells_all : line_bytes mid ≡ Some bytes = ap line_bytes (sym all) ∙ spells in
-    let none = first_none mid rest bytes ended f (ends refl) spells_all in
+    let end = first_none mid bytes ended f (λ less. ends refl (omega (arith, less))) spells_all in
     let same = before_all mid f in
-    rw (all, gone) (inr (spelled_some mid bytes spells_all, sym same, refl, none.0, none.1), same)
+    rw (all, gone) (inr (spelled_some mid bytes spells_all, sym same, refl, refl, end), same)
 
 -- a line was handed out
-pub handed_out : (held text mid rest slice new bytes : List ℕ) (left : Option (List ℕ)) (found : Option ℕ) (ended : Bool) (line now : ℕ) → FindsFirst held text mid rest found ended →
-    slice ≡ take (line_len found mid) mid → line_bytes slice ≡ Some bytes → new ≡ drop (line_skip found mid) mid → left ≡ Some rest → now ≡ min (line + 1) (2 ^ 64 - 1) →
-    LaterText held text new left line now ended
-handed_out held text mid rest slice new bytes left found ended number now f is spells gone left_is next =
+pub handed_out : (held given mid slice new bytes : List ℕ) (found : Option ℕ) (ended : Bool) (line now : ℕ) → mid ≡ held ++ given → FindsNewline found mid →
+    (found ≡ None → length mid ≤ 131072 → ended ≡ true) → slice ≡ take (line_len found mid) mid → line_bytes slice ≡ Some bytes →
+    new ≡ drop (line_skip found mid) mid → now ≡ min (line + 1) (2 ^ 64 - 1) → LaterLines held given new line now ended
+handed_out held given mid slice new bytes found ended number now more f ends is spells gone next =
     let skip = line_skip found mid in
-    let line = first_line found mid rest bytes ended f.place f.ends (ap line_bytes (sym is) ∙ spells) in
+    let line = first_line found mid bytes ended f ends (ap line_bytes (sym is) ∙ spells) in
     record {
       lines = take skip mid ∷ [];
       pieces = record { bytes = bytes; handles = [] } ∷ [];
-      rest = rest;
-      left_is = left_is;
       same =
-          f.same ∙ ap (λ t. t ++ rest) (sym (take-append-drop skip mid)) ∙ append_assoc (take skip mid) (drop skip mid) rest
-          ∙ ap (λ t. take skip mid ++ (t ++ rest)) (sym gone) ∙ ap (λ t. t ++ (new ++ rest)) (sym (append-nil (take skip mid)));
-      are_lines = subst (λ (t : List ℕ). AreLines (take skip mid ∷ []) (t ++ rest) ended) (sym gone) line.0;
+          sym more ∙ sym (take-append-drop skip mid) ∙ ap (λ t. take skip mid ++ t) (sym gone) ∙ ap (λ t. t ++ new) (sym (append-nil (take skip mid)));
+      are_lines = subst (λ (t : List ℕ). AreLines (take skip mid ∷ []) t ended) (sym gone) line.0;
       spelled = ap (λ o. option_map (λ (b : List ℕ). record { bytes = b; handles = [] }) o ∷ []) (ap line_bytes (line.1 ∙ sym is) ∙ spells);
-      handed =
-          first_pieces held text mid rest slice found ended f is ∙ ap (λ o. piece_before o (pieces_of (drop skip mid ++ rest))) spells
-          ∙ ap (λ t. record { bytes = bytes; handles = [] } ∷ pieces_of (t ++ rest)) (sym gone);
       grown = omega (arith, next);
-      bad =
-          ap (number_from number) (first_bad held text mid rest slice found ended f is ∙ spelled_before slice bytes (bad_line_of (drop skip mid ++ rest)) spells)
-          ∙ number_next number now (bad_line_of (drop skip mid ++ rest)) next ∙ ap (λ t. number_from now (bad_line_of (t ++ rest))) (sym gone);
     }
 
 -- its bytes are the first piece
@@ -150,21 +121,6 @@ hands_line held text mid rest slice new bytes left found ended n f is spells gon
   piece = λ _. first_pieces held text mid rest slice found ended f is ∙ ap (λ o. piece_before o (pieces_of (drop (line_skip found mid) mid ++ rest))) spells
       ∙ ap (λ t. record { bytes = take n bytes; handles = [] } ∷ pieces_of (t ++ rest)) (sym gone);
 }
-
--- a bad line has the number behind the lines that went
-pub bad_number : (held text mid rest slice : List ℕ) (found : Option ℕ) (ended : Bool) (line now : ℕ) → FindsFirst held text mid rest found ended →
-    slice ≡ take (line_len found mid) mid → line_bytes slice ≡ None → 0 < length slice → now ≡ min (line + 1) (2 ^ 64 - 1) →
-    number_from line (bad_line_of (held ++ text)) ≡ Some now
-bad_number held text mid rest slice found ended line now f is spells some next =
-    ap (number_from line) (first_bad held text mid rest slice found ended f is ∙ bad_before slice (bad_line_of (drop (line_skip found mid) mid ++ rest)) spells some)
-    ∙ ap (λ n. Some n) (sym next)
-
--- and no piece is left
-pub none_left : (held text mid rest slice : List ℕ) (left : Option (List ℕ)) (found : Option ℕ) (ended : Bool) → FindsFirst held text mid rest found ended →
-    slice ≡ take (line_len found mid) mid → line_bytes slice ≡ None → left ≡ Some rest → option_map (λ t. pieces_of (mid ++ t)) left ≡ Some []
-none_left held text mid rest slice left found ended f is spells left_is =
-    ap (option_map (λ t. pieces_of (mid ++ t))) left_is
-    ∙ ap (λ v. Some v) (ap pieces_of (sym f.same) ∙ first_pieces held text mid rest slice found ended f is ∙ ap (λ o. piece_before o (pieces_of (drop (line_skip found mid) mid ++ rest))) spells)
 
 -- nothing stands before the first newline, or nothing is held
 at_end : (found : Option ℕ) (mid rest : List ℕ) → FindsNewline found mid → (found ≡ None → length mid < 131073 → rest ≡ []) → line_len found mid ≡ 0 → IsAtEnd (mid ++ rest)
@@ -262,31 +218,43 @@ told_at_end left held rest t is told end =
     let same : rest ≡ t = cc in
     subst (λ (v : List ℕ). IsAtEnd (held ++ v)) same end
 
+-- the text left behind the bytes that were given
+pub left_behind : (old new : Option (List ℕ)) (a b bytes : List ℕ) → b ≡ a ++ bytes → ((t : List ℕ) → old ≡ Some t → Moves a t b new) → LeftBehind old bytes new
+left_behind old new a b bytes more moves = λ t is.
+    let m = moves t is in
+    let whole : a ++ t ≡ a ++ (bytes ++ m.rest) = m.same ∙ ap (λ v. v ++ m.rest) more ∙ append_assoc a bytes m.rest in
+    (m.rest, m.left_is, sym (drop-append_seam a t) ∙ ap (drop (length a)) whole ∙ drop-append_seam a (bytes ++ m.rest))
+
+-- what a reading that went on gave, and knows of the end
+pub record GoesOn {I : Type 0} (text : I → Option (List ℕ)) (given : I → List ℕ) (last : I → LastAnswer) (faults : I → ℕ) (later : I → I → Type 0) (x y : Reading I) : Type 0 where
+  pub input : later x.input y.input
+  pub count : faults x.input ≤ faults y.input
+  pub bytes : List ℕ
+  pub gave : given y.input ≡ given x.input ++ bytes
+  pub lines : LaterLines x.held bytes y.held x.line y.line y.ended
+  pub left : LeftBehind (unread text x) bytes (unread text y)
+  pub told : (t : List ℕ) → unread text x ≡ Some t → text x.input ≡ Some t → text y.input ≡ unread text y
+  pub asked : KnowsEnd last x y
+  pub ended : x.ended ≡ true → (y.input ≡ x.input) × (y.ended ≡ true)
+
 -- a reading that went on without a bad line
-pub unmet_later : {I : Type 0} (text : I → Option (List ℕ)) (faults : I → ℕ) (later : I → I → Type 0) (x y : Reading I) → x.bad ≡ None → y.bad ≡ x.bad →
-    y.bad_faults ≡ x.bad_faults → later x.input y.input → faults x.input ≤ faults y.input → (x.ended ≡ true → (y.input ≡ x.input) × (y.ended ≡ true)) →
-    ((t : List ℕ) → unread text x ≡ Some t → text x.input ≡ Some t → text y.input ≡ unread text y) →
-    ((t : List ℕ) → unread text x ≡ Some t → LaterText x.held t y.held (unread text y) x.line y.line y.ended) → LaterReading text faults later x y
-unmet_later text faults later x y none same same_faults input count ended told lines =
+pub unmet_later : {I : Type 0} (text : I → Option (List ℕ)) (given : I → List ℕ) (last : I → LastAnswer) (faults : I → ℕ) (later : I → I → Type 0) (x y : Reading I) →
+    x.bad ≡ None → y.bad ≡ x.bad → y.bad_faults ≡ x.bad_faults → GoesOn text given last faults later x y → LaterReading text given last faults later x y
+unmet_later text given last faults later x y none same same_faults g =
     let unmet : y.bad ≡ None = same ∙ none in
     record {
-      input = input;
-      count = count;
-      ended = ended;
-      told = told;
+      input = g.input;
+      count = g.count;
+      bytes = g.bytes;
+      gave = g.gave;
+      lines = g.lines;
+      left = g.left;
+      told = g.told;
+      asked = g.asked;
+      ended = g.ended;
       kept = λ n is. absurd (not_both x.bad n none is);
       unmet = λ _. (none, sym same_faults);
       met = λ _ n is. absurd (not_both y.bad n unmet is);
       holds = λ _ n is. absurd (not_both y.bad n unmet is);
       bad_count = omega (arith, same_faults);
-      number = λ _ n is. absurd (not_both y.bad n unmet is);
-      spent = λ _ n is. absurd (not_both y.bad n unmet is);
-      lines = lines;
     }
-
--- the bad line that a source over a fresh input met is the first of the text
-pub first_bad_line : {I : Type 0} (text : I → Option (List ℕ)) (faults : I → ℕ) (later : I → I → Type 0) (x y : HexSource I) (input : I) (t : List ℕ) (n : ℕ) →
-    text_reading x ≡ fresh input → LaterSource text faults later x y → text input ≡ Some t → (text_reading y).bad ≡ Some n → number_from 0 (bad_line_of t) ≡ Some n
-first_bad_line text faults later x y input t n new l told met =
-    let r : LaterReading text faults later (fresh input) (text_reading y) = subst (λ (v : Reading _). LaterReading text faults later v (text_reading y)) new l.reading in
-    r.number refl n met t told

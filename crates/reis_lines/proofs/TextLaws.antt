@@ -36,7 +36,7 @@ onto_nil : (t : List ℕ) → onto [] (split t) ≡ split t
 onto_nil [] = refl
 onto_nil (b ∷ bs) = cond_same (b == 10) ([] ∷ split bs) (onto (b ∷ []) (split bs)) refl (onto_some (b ∷ []) (split bs))
 
-split_quiet : (a t : List ℕ) → has_newline a ≡ false → split (a ++ t) ≡ onto a (split t)
+pub split_quiet : (a t : List ℕ) → has_newline a ≡ false → split (a ++ t) ≡ onto a (split t)
 split_quiet [] t e = sym (onto_nil t)
 split_quiet (x ∷ a) t e =
     let h = or_false (x == 10) (has_newline a) e in

@@ -4,11 +4,11 @@ use Rattle.std.specs.Prelude.{Option, Some, None, IsSome, Result, Ok, Err, Bool,
 use Rattle.std.specs.Option.{option_map}
 use Rattle.std.specs.Borrow.{GName}
 use Rattle.ei_spec.specs.Piece.{Piece}
-use Rattle.ei_backend.specs.Outside.{Rose}
+use Rattle.ei_backend.specs.Outside.{Rose, is_end}
 use Rattle.ei_backend.specs.declared.outside.Fault.{Fault}
 use Rattle.ei_backend.specs.declared.outside.LastAnswer.{LastAnswer}
 use Rattle.ei_backend.specs.declared.outside.LastAnswer.TheVariants as answers
-use Rattle.reis_lines.specs.Text.{has_newline, before_newline, line_bytes, Spell, pieces_of, bad_line_of, number_from}
+use Rattle.reis_lines.specs.Text.{has_newline, before_newline, line_bytes, Spell, pieces_of}
 use Rattle.reis_lines.specs.Held.{Moves}
 use Rattle.reis_lines.specs.declared.held.TheConstants.{LONGEST_LINE}
 use Rattle.reis_lines.specs.declared.hex_source.HexSource.{HexSource}
@@ -68,19 +68,15 @@ AreLines (l ∷ ls) rest ended =
     ((l ≡ before_newline l ++ 10 ∷ []) × AreLines ls rest ended)
     ⊎ ((0 < length l) × (l ≡ before_newline l) × (ls ≡ []) × (rest ≡ []) × (ended ≡ true))
 
--- The unread text, the bytes held and then the text left, is these lines, handed out as these pieces, and the text unread now.
--- The lines' number is counted, up to its last value, and the first bad line keeps its number.
-pub record LaterText (held text held_new : List ℕ) (left : Option (List ℕ)) (line line_new : ℕ) (ended : Bool) : Type 0 where
+-- The bytes held, and then those given behind them, are these lines, handed out as these pieces, and the bytes held now. The lines'
+-- number is counted, up to its last value.
+pub record LaterLines (held given held_new : List ℕ) (line line_new : ℕ) (ended : Bool) : Type 0 where
   pub lines : List (List ℕ)
   pub pieces : List Piece
-  pub rest : List ℕ
-  pub left_is : left ≡ Some rest
-  pub same : held ++ text ≡ joined_lines lines ++ (held_new ++ rest)
-  pub are_lines : AreLines lines (held_new ++ rest) ended
+  pub same : held ++ given ≡ joined_lines lines ++ held_new
+  pub are_lines : AreLines lines held_new ended
   pub spelled : Spell (map before_newline lines) pieces
-  pub handed : pieces_of (held ++ text) ≡ pieces ++ pieces_of (held_new ++ rest)
   pub grown : min line_new (2 ^ 64 - 1) ≡ min (line + length lines) (2 ^ 64 - 1)
-  pub bad : number_from line (bad_line_of (held ++ text)) ≡ number_from line_new (bad_line_of (held_new ++ rest))
 
 -- The first line held is bad, and has this number behind the lines that went. It isn't empty, and spells nothing; all of it is
 -- held: its newline, or more bytes than a line has, or all that the input had.
@@ -98,29 +94,34 @@ pub record Stands {I : Type 0} (x y : Reading I) : Type 0 where
   pub line : y.line ≡ x.line
   pub bad : y.bad ≡ x.bad
 
--- A reading goes on. The input isn't asked behind its end. A bad line that is met stands at the front of the bytes held, whatever
--- the input tells; behind it nothing is read. Its number is that of the first bad line of the text that was unread, and no piece is
--- left from then on. The input's count of faults has not fallen, nor that of the faults for the bad line.
-pub record LaterReading {I : Type 0} (text : I → Option (List ℕ)) (faults : I → ℕ) (later : I → I → Type 0) (x y : Reading I) : Type 0 where
+-- nothing was asked, or the input's end is known exactly where it was its last answer
+abbrev pub KnowsEnd : {I : Type 0} → (I → LastAnswer) → Reading I → Reading I → Type 0
+KnowsEnd last x y = ((y.input ≡ x.input) × (y.ended ≡ x.ended)) ⊎ (y.ended ≡ is_end (last y.input))
+
+-- these bytes of the unread text were given, and the others are left
+abbrev pub LeftBehind : Option (List ℕ) → List ℕ → Option (List ℕ) → Type 0
+LeftBehind old bytes new = (t : List ℕ) → old ≡ Some t → (rest : List ℕ) × (new ≡ Some rest) × (t ≡ bytes ++ rest)
+
+-- A reading goes on. Whatever the input tells, the bytes that it gave are lines that went and the bytes held; a text that it told is
+-- these bytes and then what is left. The input isn't asked behind its end. A bad line that is met stands at the front of the bytes
+-- held, and behind it nothing is read. The input's count of faults has not fallen, nor that of the faults for the bad line.
+pub record LaterReading
+    {I : Type 0} (text : I → Option (List ℕ)) (given : I → List ℕ) (last : I → LastAnswer) (faults : I → ℕ) (later : I → I → Type 0) (x y : Reading I)
+    : Type 0 where
   pub input : later x.input y.input
   pub count : faults x.input ≤ faults y.input
-  pub ended : x.ended ≡ true → (y.input ≡ x.input) × (y.ended ≡ true)
+  pub bytes : List ℕ
+  pub gave : given y.input ≡ given x.input ++ bytes
+  pub lines : LaterLines x.held bytes y.held x.line y.line y.ended
+  pub left : LeftBehind (unread text x) bytes (unread text y)
   pub told : (t : List ℕ) → unread text x ≡ Some t → text x.input ≡ Some t → text y.input ≡ unread text y
+  pub asked : KnowsEnd last x y
+  pub ended : x.ended ≡ true → (y.input ≡ x.input) × (y.ended ≡ true)
   pub kept : (n : ℕ) → x.bad ≡ Some n → Stands x y
   pub unmet : y.bad ≡ None → (x.bad ≡ None) × (x.bad_faults ≡ y.bad_faults)
   pub met : x.bad ≡ None → (n : ℕ) → y.bad ≡ Some n → Rose x.bad_faults y.bad_faults
   pub holds : x.bad ≡ None → (n : ℕ) → y.bad ≡ Some n → HoldsBadLine y.held y.ended y.line n
   pub bad_count : x.bad_faults ≤ y.bad_faults
-  pub number : x.bad ≡ None → (n : ℕ) → y.bad ≡ Some n → (t : List ℕ) → unread text x ≡ Some t → number_from x.line (bad_line_of (x.held ++ t)) ≡ Some n
-  pub spent : x.bad ≡ None → (n : ℕ) → y.bad ≡ Some n → (t : List ℕ) → unread text x ≡ Some t → left_of text y ≡ Some []
-  pub lines : (t : List ℕ) → unread text x ≡ Some t → LaterText x.held t y.held (unread text y) x.line y.line y.ended
-
--- A source over this input, which asked it for nothing before, met the bad line of this number, and left the input so.
-pub record MetBadLine {I : Type 0} (text : I → Option (List ℕ)) (faults : I → ℕ) (later : I → I → Type 0) (old new : I) (n : ℕ) : Type 0 where
-  pub reading : Reading I
-  pub went : LaterReading text faults later (fresh old) reading
-  pub input : reading.input ≡ new
-  pub bad : reading.bad ≡ Some n
 
 -- no line comes next: the text is at its end, or an empty line comes
 abbrev pub IsAtEnd : List ℕ → Type 0
@@ -144,9 +145,11 @@ abbrev pub EndsTruly : {I : Type 0} → (I → Option (List ℕ)) → Reading I 
 EndsTruly text r last = last ≡ answers.End → (t : List ℕ) → unread text r ≡ Some t → IsAtEnd (r.held ++ t)
 
 -- the same input is borrowed still, its reading went on, and the last answer stays true
-pub record LaterSource {I : Type 0} (text : I → Option (List ℕ)) (faults : I → ℕ) (later : I → I → Type 0) (x y : HexSource I) : Type 0 where
+pub record LaterSource
+    {I : Type 0} (text : I → Option (List ℕ)) (given : I → List ℕ) (last : I → LastAnswer) (faults : I → ℕ) (later : I → I → Type 0) (x y : HexSource I)
+    : Type 0 where
   pub same_reference : reference_of x ≡ reference_of y
-  pub reading : LaterReading text faults later (text_reading x) (text_reading y)
+  pub reading : LaterReading text given last faults later (text_reading x) (text_reading y)
   pub truly : AnswersTruly (text_reading x) (answer_of x) → AnswersTruly (text_reading y) (answer_of y)
   pub ends : (t : List ℕ) → unread text (text_reading x) ≡ Some t → EndsTruly text (text_reading x) (answer_of x) →
       EndsTruly text (text_reading y) (answer_of y)

@@ -1,5 +1,9 @@
+pub mod Given
 pub mod Held
 pub mod HexSource
 pub mod LaterReadings
 pub mod Lent
 pub mod Text
+-- what the clauses cite of the crates below
+pub use Rattle.ei_backend.specs.Memory
+pub use Rattle.ei_backend.specs.Outside

@@ -1,14 +1,16 @@
 //! The bytes of a text that were read and not yet handed out.
 
 ghost use Rattle.std.specs.Prelude.{◌≡◌, ◌<◌, ◌≤◌, ◌+◌, ◌-◌, ◌↔◌, ℕ, List, [], ◌++◌, Some, None, Ok, true, false, length, vec_len, take, drop, IfOk, OnErr};
-ghost use Rattle.std.specs.Prelude.{IsTrue};
-ghost use Rattle.ei_backend.specs.Outside.{HasCause};
+ghost use Rattle.std.specs.Prelude.{IsTrue, ◌⊎◌};
+ghost use Rattle.ei_backend.specs.Outside.{HasCause, is_end, last_fetched};
+ghost use Rattle.reis_lines.specs.Given.{GaveBehind, came_to_end};
 ghost use Rattle.reis_lines.specs.Text.{has_newline};
 ghost use Rattle.reis_lines.specs.Held.{Moves, ReadsBehind, FindsNewline, line_len, line_skip};
 
 use ei_backend::{Fault, Input};
 use ei_spec::limits::MOST_PIECE_BYTES;
 use ei_wire::NoMemory;
+use memchr::memchr;
 use std::alloc::Global;
 use std::marker::Model;
 
@@ -57,12 +59,7 @@ pub(crate) fn zeroed(alloc: Global, n: usize) -> Result<Vec<u8>, NoMemory>
 fn newline_in(bytes: &[u8]) -> Option<usize>
     ensures { FindsNewline result bytes.now }
 {
-    for (i, b) in bytes.iter().enumerate() {
-        if *b == NEWLINE {
-            return Some(i);
-        }
-    }
-    None
+    memchr(NEWLINE, bytes)
 }
 
 /// Where the bytes from `start` to `end` lie once there is room behind them: at the front, if they
@@ -91,6 +88,9 @@ fn fetch_behind<I: Input>(input: &mut I, room: &mut [u8], end: usize) -> Result<
     ensures text { (text : List ℕ) → I.text input.old ≡ Some text →
         IfOk result (λ n. ReadsBehind (take end room.old) text (take (end + n) room.new) (I.text input.new) n) }
     ensures left { OnErr result ((text : List ℕ) → I.text input.old ≡ Some text → I.text input.new ≡ Some text) }
+    ensures given { IfOk result (λ n. GaveBehind (I.given input.old) (I.given input.new) (take end room.old) (take (end + n) room.new)) }
+    ensures none_given { OnErr result (I.given input.new ≡ I.given input.old) }
+    ensures last { I.last input.new ≡ last_fetched result }
     ensures cause { HasCause (I.faults input.old) (I.faults input.new) result }
     ensures later { I.later input.old input.new }
 {
@@ -156,6 +156,9 @@ impl Held {
         ensures text { (text : List ℕ) → I.text input.old ≡ Some text →
             IfOk result (λ n. ReadsBehind self.old text self.new (I.text input.new) n) }
         ensures left { OnErr result ((text : List ℕ) → I.text input.old ≡ Some text → I.text input.new ≡ Some text) }
+        ensures given { IfOk result (λ n. GaveBehind (I.given input.old) (I.given input.new) self.old self.new) }
+        ensures none_given { OnErr result (I.given input.new ≡ I.given input.old) }
+        ensures last { I.last input.new ≡ last_fetched result }
         ensures count { IfOk result (λ n. length self.new ≡ length self.old + n) }
         ensures none { result ≡ Ok 0 → self.new ≡ self.old }
         ensures err { OnErr result (self.new ≡ self.old) }
@@ -174,6 +177,10 @@ impl Held {
     /// where the newline is, if there is one.
     pub(crate) fn find_line<I: Input>(&mut self, input: &mut I) -> Result<Option<usize>, Fault>
         ensures text { (text : List ℕ) → I.text input.old ≡ Some text → Moves self.old text self.new (I.text input.new) }
+        // whatever the input tells: what it gave, and that it answered its end exactly where this comes to it
+        ensures given { GaveBehind (I.given input.old) (I.given input.new) self.old self.new }
+        ensures asked { ((input.new ≡ input.old) × (came_to_end result (length self.new) ≡ false))
+            ⊎ (is_end (I.last input.new) ≡ came_to_end result (length self.new)) }
         ensures place { IfOk result (λ found. FindsNewline found self.new) }
         ensures ends { result ≡ Ok None → length self.new < TOO_LONG →
             (text : List ℕ) → I.text input.old ≡ Some text → I.text input.new ≡ Some [] }

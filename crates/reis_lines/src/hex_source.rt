@@ -2,9 +2,10 @@
 
 ghost use Rattle.std.specs.Prelude.{◌≡◌, ◌<◌, ◌≤◌, ◌+◌, ◌⊎◌, ℕ, List, [], None, Some, Ok, true, false, length, take, IfOk, IfSome, IsErr, IsSome, MatchOption};
 ghost use Rattle.std.specs.Prelude.{OnErr};
-ghost use Rattle.reis_lines.specs.Text.{line_bytes, has_newline};
+ghost use Rattle.reis_lines.specs.Text.{has_newline};
 ghost use Rattle.ei_spec.specs.declared.limits.TheConstants.{MOST_PIECE_BYTES};
 
+use crate::digits::decode_line;
 use crate::held::{Held, LONGEST_LINE, line_extent};
 use ei_backend::{Fault, Input, LastAnswer, Source, Taken};
 use ei_spec::Handle;
@@ -29,30 +30,14 @@ pub struct HexSource<'a, I: Input> {
     last: LastAnswer,
 }
 
-/// The bytes that a line spells, at the front of the slice.
-fn decode_line(line: &[u8], bytes: &mut [u8]) -> Option<usize>
-    requires some { 0 < length line.now }
-    requires room { MOST_PIECE_BYTES ≤ length bytes.old }
-    ensures spells { MatchOption result (line_bytes line.now ≡ None) (λ n. line_bytes line.now ≡ Some (take n bytes.new)) }
-    ensures size { IfSome result (λ n. (0 < n) × (n ≤ MOST_PIECE_BYTES)) }
-{
-    if line.len() > LONGEST_LINE {
-        return None;
-    }
-    let count = line.len() / 2;
-    match hex::decode_to_slice(line, &mut bytes[..count]) {
-        Ok(()) => Some(count),
-        Err(_) => None,
-    }
-}
-
 impl<'a, I: Input> HexSource<'a, I> {
     ghost use Rattle.ei_backend.specs.Outside.{HasCause};
     ghost use Rattle.ei_backend.specs.Memory.{counted};
     ghost use Rattle.ei_backend.specs.declared.outside.LastAnswer.TheVariants as answers;
+    ghost use Rattle.reis_lines.specs.Given.{GaveBehind};
     ghost use Rattle.reis_lines.specs.Held.{FindsNewline, Moves, line_skip};
     ghost use Rattle.reis_lines.specs.HexSource.{reference_of, text_reading, answer_of, fresh, unread, faults_of, LaterReading, NextPiece};
-    ghost use Rattle.reis_lines.specs.HexSource.{HoldsEnd, HoldsNoLine};
+    ghost use Rattle.reis_lines.specs.HexSource.{KnowsEnd, HoldsEnd, HoldsNoLine};
 
     /// `NoMemory` where there is none for the longest line.
     pub fn new(alloc: Global, input: &'a mut I) -> Result<HexSource<'a, I>, NoMemory>
@@ -103,6 +88,9 @@ impl<'a, I: Input> HexSource<'a, I> {
             Moves (text_reading self.old).held text (text_reading self.new).held (unread I.text (text_reading self.new)) }
         ensures told { (text : List ℕ) → unread I.text (text_reading self.old) ≡ Some text → I.text (text_reading self.old).input ≡ Some text →
             I.text (text_reading self.new).input ≡ unread I.text (text_reading self.new) }
+        ensures given { GaveBehind (I.given (text_reading self.old).input) (I.given (text_reading self.new).input)
+            (text_reading self.old).held (text_reading self.new).held }
+        ensures asked { KnowsEnd I.last (text_reading self.old) (text_reading self.new) }
         ensures place { IfOk result (λ found. FindsNewline found (text_reading self.new).held) }
         ensures within { IfOk result (λ found. line_skip found (text_reading self.new).held ≤ length (text_reading self.new).held) }
         ensures ends { result ≡ Ok None → length (text_reading self.new).held ≤ LONGEST_LINE → (text_reading self.new).ended ≡ true }
@@ -143,7 +131,7 @@ impl<'a, I: Input> HexSource<'a, I> {
         ensures counted { (n : ℕ) → (text_reading self.new).bad ≡ Some n →
             faults_of I.faults (text_reading self.new) ≡ I.faults (text_reading self.old).input + counted (text_reading self.old).bad_faults }
         ensures same_reference { reference_of self.new ≡ reference_of self.old }
-        ensures later { LaterReading I.text I.faults I.later (text_reading self.old) (text_reading self.new) }
+        ensures later { LaterReading I.text I.given I.last I.faults I.later (text_reading self.old) (text_reading self.new) }
     {
         if self.bad.is_some() {
             self.bad_faults = self.bad_faults.saturating_add(1);
@@ -184,11 +172,11 @@ impl<'a, I: Input> Source for HexSource<'a, I> {
 
     ghost last = { λ s. answer_of s };
 
-    ghost later = { λ x y. LaterSource I.text I.faults I.later x y };
+    ghost later = { λ x y. LaterSource I.text I.given I.last I.faults I.later x y };
 
-    ghost later_refl = { λ x. LaterSource-refl I.text I.faults I.later I.later_refl x };
+    ghost later_refl = { λ x. LaterSource-refl I.text I.given I.last I.faults I.later I.later_refl x };
 
-    ghost later_trans = { λ x y z a b. LaterSource-trans I.text I.faults I.later I.later_trans x y z a b };
+    ghost later_trans = { λ x y z a b. LaterSource-trans I.text I.given I.last I.faults I.later I.later_trans x y z a b };
 
     fn take(&mut self, bytes: &mut [u8], _handles: &mut [Handle]) -> Result<Taken, Fault>
         requires room { MOST_PIECE_BYTES ≤ length bytes.old }
@@ -197,7 +185,7 @@ impl<'a, I: Input> Source for HexSource<'a, I> {
         ensures pieces { TakesTold (left_of I.text (text_reading self.old)) (left_of I.text (text_reading self.new)) result bytes.new _handles.new }
         ensures cause { HasCause (faults_of I.faults (text_reading self.old)) (faults_of I.faults (text_reading self.new)) result }
         ensures last { answer_of self.new ≡ last_of result }
-        ensures later { LaterSource I.text I.faults I.later self.old self.new }
+        ensures later { LaterSource I.text I.given I.last I.faults I.later self.old self.new }
         // the input isn't asked while a whole line is held, nor behind its end, nor behind a bad line
         ensures unasked { has_newline (text_reading self.old).held ≡ true → (text_reading self.new).input ≡ (text_reading self.old).input }
         ensures behind_end { (text_reading self.old).ended ≡ true → (text_reading self.new).input ≡ (text_reading self.old).input }

@@ -3,6 +3,7 @@
 //! There is no protocol here, and no file: the text comes from an `Input`. Begin with `HexSource`.
 #![tactic(auto)]
 
+mod digits;
 mod held;
 mod hex_source;
 

@@ -21,16 +21,21 @@ use Rattle.ei_request.specs.declared.event.EisRequest.{EisRequest}
 use Rattle.ei_serve.specs.declared.session.Ended.{Ended as HowEnded}
 use Rattle.ei_serve.specs.declared.session.Ended.TheVariants as ended
 use Rattle.ei_serve.specs.Refusing.{refusal_of, IsRefused}
-use Rattle.ei_serve.specs.Serving.{AnswersAs, IsDecided, IsCutShort, IsSourceEnd, AreReadings, HandsOut, Replied, LeftReadings, Handled, RepliedAtLeast, CutShort}
+use Rattle.ei_serve.specs.Serving.{AnswersAs, IsDecided, IsCutShort, IsSourceEnd, AreReadings, HandsOut, Replied}
+use Rattle.ei_serve.specs.Serving.{LeftReadings, Handled, RepliedAtLeast, CutShort}
 use Rattle.ei_types.specs.declared.error.Error.{Error}
 use Rattle.ei_types.specs.declared.error.Error.TheVariants as error
+use Rattle.ei_backend.specs.declared.outside.LastAnswer.{LastAnswer}
 use Rattle.ei_backend.specs.declared.outside.LastAnswer.TheVariants as answers
-use Rattle.reis_lines.specs.HexSource.{Reading, text_reading, answer_of, fresh, unread, left_of, faults_of, LaterReading, MetBadLine, LaterSource, IsAtEnd}
+use Rattle.reis_lines.specs.HexSource.{Reading, text_reading, answer_of, fresh, unread, left_of, faults_of, LaterReading, LaterSource, IsAtEnd}
 use Rattle.reis_lines.specs.HexSource.{HoldsNoLine, AnswersTruly, EndsTruly}
 use Rattle.reis_lines.specs.declared.hex_source.HexSource.{HexSource}
 use Rattle.reis_lines.specs.Text.{pieces_of, bad_line_of, number_from, AreGiven}
+use Rattle.reis_lines.specs.Given.{MetBadLine}
 use Rattle.reis_lines.specs.Lent.{LentInput}
 use Rattle.reis_lines.proofs.GivenLaws.{are_given}
+use Rattle.reis_lines.proofs.MetLaws.{met_bad_line, lent_by}
+use Rattle.reis_lines.proofs.ToldLaws.{later_text, number_told, spent_told}
 use Rattle.reis_run.specs.Session.{end_behind, end_of, EndsAs, last_line_of, IsDecidedLine, IsAnswered, IsReadFault, IsCutShortLine, IsBadLine}
 use Rattle.reis_run.specs.Session.{HandledGiven, pieces_left, reply_bytes}
 use Rattle.reis_run.specs.declared.session.LastLine.TheVariants as last_line
@@ -42,8 +47,8 @@ pub told_at_first : {I : Type 0} (text : I → Option (List ℕ)) (r : Reading I
 told_at_first text r input t e told = ap (left_of text) e ∙ ap (option_map pieces_of) told
 
 -- how a source over a fresh input went on, behind an answer of the session
-pub record Went {I : Type 0} (text : I → Option (List ℕ)) (faults : I → ℕ) (later : I → I → Type 0) (input after : I) (y : HexSource I) (answer : Result HowEnded Error) : Type 0 where
-  pub reading : LaterReading text faults later (fresh input) (text_reading y)
+pub record Went {I : Type 0} (text : I → Option (List ℕ)) (given : I → List ℕ) (last : I → LastAnswer) (faults : I → ℕ) (later : I → I → Type 0) (input after : I) (y : HexSource I) (answer : Result HowEnded Error) : Type 0 where
+  pub reading : LaterReading text given last faults later (fresh input) (text_reading y)
   pub same : after ≡ (text_reading y).input
   pub truly : AnswersTruly (text_reading y) (answer_of y)
   pub ends : (t : List ℕ) → text input ≡ Some t → EndsTruly text (text_reading y) (answer_of y)
@@ -52,14 +57,14 @@ pub record Went {I : Type 0} (text : I → Option (List ℕ)) (faults : I → �
   pub last_end : IsSourceEnd answer → answer_of y ≡ answers.End
   pub last_fault : IsErrOf answer error.ReadFault → answer_of y ≡ answers.Fault
 
-pub went : {I : Type 0} (text : I → Option (List ℕ)) (faults : I → ℕ) (later : I → I → Type 0) (input after : I) (x y : HexSource I) (answer : Result HowEnded Error) →
-    text_reading x ≡ fresh input → answer_of x ≡ answers.Nothing → LaterSource text faults later x y → after ≡ (text_reading y).input →
+pub went : {I : Type 0} (text : I → Option (List ℕ)) (given : I → List ℕ) (last : I → LastAnswer) (faults : I → ℕ) (later : I → I → Type 0) (input after : I) (x y : HexSource I) (answer : Result HowEnded Error) →
+    text_reading x ≡ fresh input → answer_of x ≡ answers.Nothing → LaterSource text given last faults later x y → after ≡ (text_reading y).input →
     (faults_of faults (text_reading x) < faults_of faults (text_reading y) → IsErrOf answer error.ReadFault) →
     (IsErrOf answer error.ReadFault → Rose (faults_of faults (text_reading x)) (faults_of faults (text_reading y))) →
     (IsSourceEnd answer → answer_of y ≡ answers.End) → (IsErrOf answer error.ReadFault → answer_of y ≡ answers.Fault) →
-    Went text faults later input after y answer
-went {I} text faults later input after x y answer new unasked l same risen rose last_end last_fault = record {
-  reading = subst (λ (v : Reading I). LaterReading text faults later v (text_reading y)) new l.reading;
+    Went text given last faults later input after y answer
+went {I} text given last faults later input after x y answer new unasked l same risen rose last_end last_fault = record {
+  reading = subst (λ (v : Reading I). LaterReading text given last faults later v (text_reading y)) new l.reading;
   same = same;
   truly = l.truly (record { ends = λ e. absurd cc; fails = λ e. absurd cc });
   ends = λ t told. l.ends t (ap (unread text) new ∙ told) (λ e. absurd cc);
@@ -70,27 +75,27 @@ went {I} text faults later input after x y answer new unasked l same risen rose 
 }
 
 -- a session has a read fault where a bad line was met
-met_fault : {I : Type 0} (text : I → Option (List ℕ)) (faults : I → ℕ) (later : I → I → Type 0) (input after : I) (y : HexSource I) (answer : Result HowEnded Error) (n : ℕ) →
-    Went text faults later input after y answer → (text_reading y).bad ≡ Some n → IsErrOf answer error.ReadFault
-met_fault text faults later input after y answer n w is = w.risen (omega (arith, w.reading.count, w.reading.met refl n is))
+met_fault : {I : Type 0} (text : I → Option (List ℕ)) (given : I → List ℕ) (last : I → LastAnswer) (faults : I → ℕ) (later : I → I → Type 0) (input after : I) (y : HexSource I) (answer : Result HowEnded Error) (n : ℕ) →
+    Went text given last faults later input after y answer → (text_reading y).bad ≡ Some n → IsErrOf answer error.ReadFault
+met_fault text given last faults later input after y answer n w is = w.risen (omega (arith, w.reading.count, w.reading.met refl n is))
 
 -- and where none was met, the input failed
-unmet_rose : {I : Type 0} (text : I → Option (List ℕ)) (faults : I → ℕ) (later : I → I → Type 0) (input after : I) (y : HexSource I) (answer : Result HowEnded Error) →
-    Went text faults later input after y answer → (text_reading y).bad ≡ None → IsErrOf answer error.ReadFault → Rose (faults input) (faults after)
-unmet_rose {I} text faults later input after y answer w none e =
+unmet_rose : {I : Type 0} (text : I → Option (List ℕ)) (given : I → List ℕ) (last : I → LastAnswer) (faults : I → ℕ) (later : I → I → Type 0) (input after : I) (y : HexSource I) (answer : Result HowEnded Error) →
+    Went text given last faults later input after y answer → (text_reading y).bad ≡ None → IsErrOf answer error.ReadFault → Rose (faults input) (faults after)
+unmet_rose {I} text given last faults later input after y answer w none e =
     let same : 0 ≡ (text_reading y).bad_faults = (w.reading.unmet none).1 in
     subst (λ (a : I). Rose (faults input) (faults a)) (sym w.same) (omega (arith, w.rose e, same))
 
--- the input is a later one, and its count of faults has not fallen
-pub went_input : {I : Type 0} (text : I → Option (List ℕ)) (faults : I → ℕ) (later : I → I → Type 0) (input after : I) (y : HexSource I) (answer : Result HowEnded Error) →
-    Went text faults later input after y answer → LentInput faults later input after
-went_input {I} text faults later input after y answer w =
-    subst (LentInput faults later input) (sym w.same) (record { input_faults = w.reading.count; later_input = w.reading.input })
+-- what a call says of the input that the source read
+pub went_input : {I : Type 0} (text : I → Option (List ℕ)) (given : I → List ℕ) (last : I → LastAnswer) (faults : I → ℕ) (later : I → I → Type 0) (input after : I) (y : HexSource I) (answer : Result HowEnded Error) →
+    Went text given last faults later input after y answer → LentInput text given faults later input after
+went_input {I} text given last faults later input after y answer w =
+    subst (λ (a : I). LentInput text given faults later input a) (sym w.same) (lent_by text given last faults later input (text_reading y) w.reading)
 
 -- what the input tells is what is unread behind the bytes held
-told_after : {I : Type 0} (text : I → Option (List ℕ)) (faults : I → ℕ) (later : I → I → Type 0) (input after : I) (y : HexSource I) (answer : Result HowEnded Error) (t : List ℕ) →
-    Went text faults later input after y answer → text input ≡ Some t → unread text (text_reading y) ≡ text after
-told_after text faults later input after y answer t w told = sym (w.reading.told t told told) ∙ ap text (sym w.same)
+told_after : {I : Type 0} (text : I → Option (List ℕ)) (given : I → List ℕ) (last : I → LastAnswer) (faults : I → ℕ) (later : I → I → Type 0) (input after : I) (y : HexSource I) (answer : Result HowEnded Error) (t : List ℕ) →
+    Went text given last faults later input after y answer → text input ≡ Some t → unread text (text_reading y) ≡ text after
+told_after text given last faults later input after y answer t w told = sym (w.reading.told t told told) ∙ ap text (sym w.same)
 
 none_at_end : (text : List ℕ) → IsAtEnd text → bad_line_of text ≡ None
 unfolding bad_line_of
@@ -103,10 +108,10 @@ no_number line None e some = cc
 no_number line (Some n) e some = cc
 
 -- at the source's end no line of the text was bad
-no_bad_line : {I : Type 0} (text : I → Option (List ℕ)) (faults : I → ℕ) (later : I → I → Type 0) (input after : I) (y : HexSource I) (answer : Result HowEnded Error) (t : List ℕ) (n : ℕ) →
-    Went text faults later input after y answer → text input ≡ Some t → IsSourceEnd answer → number_from 0 (bad_line_of t) ≡ Some n → ⊥
-no_bad_line text faults later input after y answer t n w told end bad =
-    let p = w.reading.lines t told in
+no_bad_line : {I : Type 0} (text : I → Option (List ℕ)) (given : I → List ℕ) (last : I → LastAnswer) (faults : I → ℕ) (later : I → I → Type 0) (input after : I) (y : HexSource I) (answer : Result HowEnded Error) (t : List ℕ) (n : ℕ) →
+    Went text given last faults later input after y answer → text input ≡ Some t → IsSourceEnd answer → number_from 0 (bad_line_of t) ≡ Some n → ⊥
+no_bad_line text given last faults later input after y answer t n w told end bad =
+    let p = later_text text given last faults later (fresh input) (text_reading y) w.reading t told in
     let here : IsAtEnd (y.held ++ p.rest) = w.ends t told (w.last_end end) p.rest p.left_is in
     let none = p.bad ∙ ap (number_from y.line) (none_at_end (y.held ++ p.rest) here) in
     absurd cc
@@ -240,43 +245,43 @@ pub record Says (setup : Setup) (pieces : List Piece) (left : Option (List Piece
   pub cut : IsCutShort answer → CutShort setup pieces left readings old new took_old took_new
 
 -- the same over a source that went on, and the bad line that it met
-pub record Served {I : Type 0} (text : I → Option (List ℕ)) (faults : I → ℕ) (later : I → I → Type 0) (input after : I) (y : HexSource I) (setup : Setup) (t : List ℕ) (readings readings_left : Option (List ℕ)) (answer : Result HowEnded Error) (old new : List EisRequest) (took_old took_new : Option Piece) : Type 0 where
-  pub went : Went text faults later input after y answer
+pub record Served {I : Type 0} (text : I → Option (List ℕ)) (given : I → List ℕ) (last : I → LastAnswer) (faults : I → ℕ) (later : I → I → Type 0) (input after : I) (y : HexSource I) (setup : Setup) (t : List ℕ) (readings readings_left : Option (List ℕ)) (answer : Result HowEnded Error) (old new : List EisRequest) (took_old took_new : Option Piece) : Type 0 where
+  pub went : Went text given last faults later input after y answer
   pub told : text input ≡ Some t
   pub says : Says setup (pieces_of t) (left_of text (text_reading y)) readings readings_left answer old new took_old took_new
 
-pub line_ends : {I : Type 0} (text : I → Option (List ℕ)) (faults : I → ℕ) (later : I → I → Type 0) (input after : I) (y : HexSource I) (setup : Setup) (t : List ℕ) (readings readings_left : Option (List ℕ)) (answer : Result HowEnded Error) (old new : List EisRequest) (took_old took_new : Option Piece) (bad : Option ℕ) →
-    Served text faults later input after y setup t readings readings_left answer old new took_old took_new → bad ≡ (text_reading y).bad →
+pub line_ends : {I : Type 0} (text : I → Option (List ℕ)) (given : I → List ℕ) (last : I → LastAnswer) (faults : I → ℕ) (later : I → I → Type 0) (input after : I) (y : HexSource I) (setup : Setup) (t : List ℕ) (readings readings_left : Option (List ℕ)) (answer : Result HowEnded Error) (old new : List EisRequest) (took_old took_new : Option Piece) (bad : Option ℕ) →
+    Served text given last faults later input after y setup t readings readings_left answer old new took_old took_new → bad ≡ (text_reading y).bad →
     IsDecidedLine (last_line_of bad answer) → EndsAs (end_of setup t) (last_line_of bad answer)
-line_ends text faults later input after y setup t readings readings_left answer old new took_old took_new None s is d =
-    answered (session setup (pieces_of t)).answer (number_from 0 (bad_line_of t)) answer s.says.answers d (λ n bad end. no_bad_line text faults later input after y answer t n s.went s.told end bad)
-line_ends text faults later input after y setup t readings readings_left answer old new took_old took_new (Some n) s is d =
-    let fault = met_fault text faults later input after y answer n s.went (sym is) in
-    let last = ended_of_handled setup (pieces_of t) (left_of text (text_reading y)) readings old new took_old took_new (s.went.reading.spent refl n (sym is) t s.told) (s.says.handled fault) in
-    ended_bad (session setup (pieces_of t)).answer (number_from 0 (bad_line_of t)) n last (s.went.reading.number refl n (sym is) t s.told)
+line_ends text given last faults later input after y setup t readings readings_left answer old new took_old took_new None s is d =
+    answered (session setup (pieces_of t)).answer (number_from 0 (bad_line_of t)) answer s.says.answers d (λ n bad end. no_bad_line text given last faults later input after y answer t n s.went s.told end bad)
+line_ends text given last faults later input after y setup t readings readings_left answer old new took_old took_new (Some n) s is d =
+    let fault = met_fault text given last faults later input after y answer n s.went (sym is) in
+    let at_the_end = ended_of_handled setup (pieces_of t) (left_of text (text_reading y)) readings old new took_old took_new (spent_told text given last faults later (fresh input) (text_reading y) s.went.reading refl n (sym is) t s.told) (s.says.handled fault) in
+    ended_bad (session setup (pieces_of t)).answer (number_from 0 (bad_line_of t)) n at_the_end (number_told text given last faults later (fresh input) (text_reading y) s.went.reading refl n (sym is) t s.told)
 
-pub line_handles : {I : Type 0} (text : I → Option (List ℕ)) (faults : I → ℕ) (later : I → I → Type 0) (input after : I) (y : HexSource I) (setup : Setup) (t : List ℕ) (readings readings_left : Option (List ℕ)) (answer : Result HowEnded Error) (old new : List EisRequest) (took_old took_new : Option Piece) (bad : Option ℕ) →
-    Served text faults later input after y setup t readings readings_left answer old new took_old took_new → bad ≡ (text_reading y).bad →
+pub line_handles : {I : Type 0} (text : I → Option (List ℕ)) (given : I → List ℕ) (last : I → LastAnswer) (faults : I → ℕ) (later : I → I → Type 0) (input after : I) (y : HexSource I) (setup : Setup) (t : List ℕ) (readings readings_left : Option (List ℕ)) (answer : Result HowEnded Error) (old new : List EisRequest) (took_old took_new : Option Piece) (bad : Option ℕ) →
+    Served text given last faults later input after y setup t readings readings_left answer old new took_old took_new → bad ≡ (text_reading y).bad →
     IsDecidedLine (last_line_of bad answer) → Both setup (session setup (pieces_of t)).handled readings old new took_old took_new
-line_handles text faults later input after y setup t readings readings_left answer old new took_old took_new None s is d = (s.says.gives d, s.says.replied d)
-line_handles text faults later input after y setup t readings readings_left answer old new took_old took_new (Some n) s is d =
-    let fault = met_fault text faults later input after y answer n s.went (sym is) in
-    all_of_handled setup (pieces_of t) (left_of text (text_reading y)) readings old new took_old took_new (s.went.reading.spent refl n (sym is) t s.told) (s.says.handled fault)
+line_handles text given last faults later input after y setup t readings readings_left answer old new took_old took_new None s is d = (s.says.gives d, s.says.replied d)
+line_handles text given last faults later input after y setup t readings readings_left answer old new took_old took_new (Some n) s is d =
+    let fault = met_fault text given last faults later input after y answer n s.went (sym is) in
+    all_of_handled setup (pieces_of t) (left_of text (text_reading y)) readings old new took_old took_new (spent_told text given last faults later (fresh input) (text_reading y) s.went.reading refl n (sym is) t s.told) (s.says.handled fault)
 
-pub line_clock : {I : Type 0} (text : I → Option (List ℕ)) (faults : I → ℕ) (later : I → I → Type 0) (input after : I) (y : HexSource I) (setup : Setup) (t : List ℕ) (readings readings_left : Option (List ℕ)) (answer : Result HowEnded Error) (old new : List EisRequest) (took_old took_new : Option Piece) (bad : Option ℕ) →
-    Served text faults later input after y setup t readings readings_left answer old new took_old took_new → IsAnswered (last_line_of bad answer) → LeftReadings setup (session setup (pieces_of t)).handled readings readings_left
-line_clock text faults later input after y setup t readings readings_left answer old new took_old took_new None s d = s.says.clock d
-line_clock text faults later input after y setup t readings readings_left answer old new took_old took_new (Some n) s d = absurd d
+pub line_clock : {I : Type 0} (text : I → Option (List ℕ)) (given : I → List ℕ) (last : I → LastAnswer) (faults : I → ℕ) (later : I → I → Type 0) (input after : I) (y : HexSource I) (setup : Setup) (t : List ℕ) (readings readings_left : Option (List ℕ)) (answer : Result HowEnded Error) (old new : List EisRequest) (took_old took_new : Option Piece) (bad : Option ℕ) →
+    Served text given last faults later input after y setup t readings readings_left answer old new took_old took_new → IsAnswered (last_line_of bad answer) → LeftReadings setup (session setup (pieces_of t)).handled readings readings_left
+line_clock text given last faults later input after y setup t readings readings_left answer old new took_old took_new None s d = s.says.clock d
+line_clock text given last faults later input after y setup t readings readings_left answer old new took_old took_new (Some n) s d = absurd d
 
-pub line_cut : {I : Type 0} (text : I → Option (List ℕ)) (faults : I → ℕ) (later : I → I → Type 0) (input after : I) (y : HexSource I) (setup : Setup) (t : List ℕ) (readings readings_left : Option (List ℕ)) (answer : Result HowEnded Error) (old new : List EisRequest) (took_old took_new : Option Piece) (bad : Option ℕ) →
-    Served text faults later input after y setup t readings readings_left answer old new took_old took_new → IsCutShortLine (last_line_of bad answer) →
+pub line_cut : {I : Type 0} (text : I → Option (List ℕ)) (given : I → List ℕ) (last : I → LastAnswer) (faults : I → ℕ) (later : I → I → Type 0) (input after : I) (y : HexSource I) (setup : Setup) (t : List ℕ) (readings readings_left : Option (List ℕ)) (answer : Result HowEnded Error) (old new : List EisRequest) (took_old took_new : Option Piece) (bad : Option ℕ) →
+    Served text given last faults later input after y setup t readings readings_left answer old new took_old took_new → IsCutShortLine (last_line_of bad answer) →
     (unread : List ℕ) × CutShort setup (pieces_of t) (pieces_left unread (text after)) readings old new took_old took_new
-line_cut {I} text faults later input after y setup t readings readings_left answer old new took_old took_new None s d = (
+line_cut {I} text given last faults later input after y setup t readings readings_left answer old new took_old took_new None s d = (
   y.held,
   subst (λ (o : Option (List ℕ)). CutShort setup (pieces_of t) (pieces_left y.held o) readings old new took_old took_new)
-      (told_after text faults later input after y answer t s.went s.told) (s.says.cut d),
+      (told_after text given last faults later input after y answer t s.went s.told) (s.says.cut d),
 )
-line_cut text faults later input after y setup t readings readings_left answer old new took_old took_new (Some n) s d = absurd d
+line_cut text given last faults later input after y setup t readings readings_left answer old new took_old took_new (Some n) s d = absurd d
 
 answer_same : (answer : Result HowEnded Error) → last_line.Answer answer ≡ last_line.Answer (Err error.ReadFault) → answer ≡ Err error.ReadFault
 answer_same answer e = cc
@@ -284,10 +289,10 @@ answer_same answer e = cc
 bad_not_answer : (n : ℕ) (answer : Result HowEnded Error) → last_line.BadLine n ≡ last_line.Answer answer → ⊥
 bad_not_answer n answer e = cc
 
-pub line_fault : {I : Type 0} (text : I → Option (List ℕ)) (faults : I → ℕ) (later : I → I → Type 0) (input after : I) (y : HexSource I) (answer : Result HowEnded Error) (bad : Option ℕ) →
-    Went text faults later input after y answer → bad ≡ (text_reading y).bad → IsReadFault (last_line_of bad answer) → Rose (faults input) (faults after)
-line_fault text faults later input after y answer None w is e = unmet_rose text faults later input after y answer w (sym is) (answer_same answer e)
-line_fault text faults later input after y answer (Some n) w is e = absurd (bad_not_answer n (Err error.ReadFault) e)
+pub line_fault : {I : Type 0} (text : I → Option (List ℕ)) (given : I → List ℕ) (last : I → LastAnswer) (faults : I → ℕ) (later : I → I → Type 0) (input after : I) (y : HexSource I) (answer : Result HowEnded Error) (bad : Option ℕ) →
+    Went text given last faults later input after y answer → bad ≡ (text_reading y).bad → IsReadFault (last_line_of bad answer) → Rose (faults input) (faults after)
+line_fault text given last faults later input after y answer None w is e = unmet_rose text given last faults later input after y answer w (sym is) (answer_same answer e)
+line_fault text given last faults later input after y answer (Some n) w is e = absurd (bad_not_answer n (Err error.ReadFault) e)
 
 bad_same : (n m : ℕ) → last_line.BadLine n ≡ last_line.BadLine m → n ≡ m
 bad_same n m e = cc
@@ -296,15 +301,12 @@ answer_not_bad : (answer : Result HowEnded Error) (n : ℕ) → last_line.Answer
 answer_not_bad answer n e = cc
 
 -- a bad line was met, whatever the input tells
-pub line_met : {I : Type 0} (text : I → Option (List ℕ)) (faults : I → ℕ) (later : I → I → Type 0) (input after : I) (y : HexSource I) (answer : Result HowEnded Error) (bad : Option ℕ) (n : ℕ) →
-    Went text faults later input after y answer → bad ≡ (text_reading y).bad → IsBadLine n (last_line_of bad answer) → MetBadLine text faults later input after n
-line_met text faults later input after y answer None n w is e = absurd (answer_not_bad answer n e)
-line_met text faults later input after y answer (Some m) n w is e = record {
-  reading = text_reading y;
-  went = w.reading;
-  input = sym w.same;
-  bad = sym is ∙ ap (λ k. Some k) (bad_same m n e);
-}
+pub line_met : {I : Type 0} (text : I → Option (List ℕ)) (given : I → List ℕ) (last : I → LastAnswer) (faults : I → ℕ) (later : I → I → Type 0) (input after : I) (y : HexSource I) (answer : Result HowEnded Error) (bad : Option ℕ) (n : ℕ) →
+    Went text given last faults later input after y answer → bad ≡ (text_reading y).bad → IsBadLine n (last_line_of bad answer) → MetBadLine given last input after n
+line_met text given last faults later input after y answer None n w is e = absurd (answer_not_bad answer n e)
+line_met {I} text given last faults later input after y answer (Some m) n w is e =
+    subst (λ (a : I). MetBadLine given last input a n) (sym w.same)
+    (met_bad_line text given last faults later input (text_reading y) n w.reading (sym is ∙ ap (λ k. Some k) (bad_same m n e)))
 
 -- ---- what was given
 
@@ -326,13 +328,13 @@ no_line_held held ended bad (inl q) none = q
 no_line_held held ended None (inr some) none = absurd cc
 no_line_held held ended (Some n) (inr some) none = absurd cc
 
-given_of : {I : Type 0} (text : I → Option (List ℕ)) (faults : I → ℕ) (later : I → I → Type 0) (input after : I) (y : HexSource I) (setup : Setup) (t : List ℕ) (readings readings_left : Option (List ℕ)) (answer : Result HowEnded Error) (old new : List EisRequest) (took_old took_new : Option Piece) →
-    Served text faults later input after y setup t readings readings_left answer old new took_old took_new → (text_reading y).bad ≡ None → IsErrOf answer error.ReadFault →
+given_of : {I : Type 0} (text : I → Option (List ℕ)) (given : I → List ℕ) (last : I → LastAnswer) (faults : I → ℕ) (later : I → I → Type 0) (input after : I) (y : HexSource I) (setup : Setup) (t : List ℕ) (readings readings_left : Option (List ℕ)) (answer : Result HowEnded Error) (old new : List EisRequest) (took_old took_new : Option Piece) →
+    Served text given last faults later input after y setup t readings readings_left answer old new took_old took_new → (text_reading y).bad ≡ None → IsErrOf answer error.ReadFault →
     HandledGiven setup t (text after) readings old new took_old took_new
-given_of {I} text faults later input after y setup t readings readings_left answer old new took_old took_new s none e =
+given_of {I} text given last faults later input after y setup t readings readings_left answer old new took_old took_new s none e =
     let w = s.went in
     let no_line = no_line_held y.held y.ended (text_reading y).bad (w.truly.fails (w.last_fault e)) none in
-    let p = w.reading.lines t s.told in
+    let p = later_text text given last faults later (fresh input) (text_reading y) w.reading t s.told in
     let h = s.says.handled e in
     let behind = pieces_of (y.held ++ p.rest) in
     let left : drop h.k (pieces_of t) ≡ behind =
@@ -341,7 +343,7 @@ given_of {I} text faults later input after y setup t readings readings_left answ
     record {
       pieces = p.pieces;
       given =
-          subst (λ (o : Option (List ℕ)). AreGiven t o p.pieces) (told_after text faults later input after y answer t w s.told)
+          subst (λ (o : Option (List ℕ)). AreGiven t o p.pieces) (told_after text given last faults later input after y answer t w s.told)
           (are_given t y.held (unread text (text_reading y)) 0 y.line y.ended p no_line);
       first = (behind, p.handed);
       goes_on = λ j low high. h.goes_on j low (omega (arith, high, f.number));
@@ -349,12 +351,12 @@ given_of {I} text faults later input after y setup t readings readings_left answ
       replies = subst (λ (v : List Piece). Replied setup (accepted setup (stream v)) took_old took_new) f.same h.replies;
     }
 
-pub line_given : {I : Type 0} (text : I → Option (List ℕ)) (faults : I → ℕ) (later : I → I → Type 0) (input after : I) (y : HexSource I) (setup : Setup) (t : List ℕ) (readings readings_left : Option (List ℕ)) (answer : Result HowEnded Error) (old new : List EisRequest) (took_old took_new : Option Piece) (bad : Option ℕ) →
-    Served text faults later input after y setup t readings readings_left answer old new took_old took_new → bad ≡ (text_reading y).bad → IsReadFault (last_line_of bad answer) →
+pub line_given : {I : Type 0} (text : I → Option (List ℕ)) (given : I → List ℕ) (last : I → LastAnswer) (faults : I → ℕ) (later : I → I → Type 0) (input after : I) (y : HexSource I) (setup : Setup) (t : List ℕ) (readings readings_left : Option (List ℕ)) (answer : Result HowEnded Error) (old new : List EisRequest) (took_old took_new : Option Piece) (bad : Option ℕ) →
+    Served text given last faults later input after y setup t readings readings_left answer old new took_old took_new → bad ≡ (text_reading y).bad → IsReadFault (last_line_of bad answer) →
     HandledGiven setup t (text after) readings old new took_old took_new
-line_given text faults later input after y setup t readings readings_left answer old new took_old took_new None s is e =
-    given_of text faults later input after y setup t readings readings_left answer old new took_old took_new s (sym is) (answer_same answer e)
-line_given text faults later input after y setup t readings readings_left answer old new took_old took_new (Some n) s is e = absurd (bad_not_answer n (Err error.ReadFault) e)
+line_given text given last faults later input after y setup t readings readings_left answer old new took_old took_new None s is e =
+    given_of text given last faults later input after y setup t readings readings_left answer old new took_old took_new s (sym is) (answer_same answer e)
+line_given text given last faults later input after y setup t readings readings_left answer old new took_old took_new (Some n) s is e = absurd (bad_not_answer n (Err error.ReadFault) e)
 
 -- ---- nothing was handled
 

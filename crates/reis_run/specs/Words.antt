@@ -32,7 +32,8 @@ command_with command serial capabilities pieces = None
 
 -- a command whose words are its name, a first serial, capabilities and a number of pieces
 abbrev pub session_command : (ℕ → ℕ → ℕ → Command) → List ℕ → List ℕ → List ℕ → Option Command
-session_command command serial capabilities pieces = command_with command (number_of 4294967295 serial) (number_of 127 capabilities) (number_of 4294967295 pieces)
+session_command command serial capabilities pieces =
+    command_with command (number_of 4294967295 serial) (number_of 127 capabilities) (number_of 4294967295 pieces)
 
 -- the command of a number of groups, at least one, and a start
 abbrev pub demo_with : Option ℕ → Option ℕ → Option Command

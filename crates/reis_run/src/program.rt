@@ -11,7 +11,7 @@ ghost use Rattle.ei_serve.specs.Serving.{LeftReadings};
 ghost use Rattle.ei_serve.specs.declared.session.Ended.TheVariants as ended;
 ghost use Rattle.reis_demo.specs.Generated.{demo_setup};
 ghost use Rattle.reis_demo.specs.Summary.{demo_session, demo_lines};
-ghost use Rattle.reis_lines.specs.HexSource.{MetBadLine};
+ghost use Rattle.reis_lines.specs.Given.{MetBadLine};
 ghost use Rattle.reis_lines.specs.Lent.{LentInput};
 ghost use Rattle.reis_lines.specs.Text.{pieces_of, bad_line_of};
 ghost use Rattle.reis_run.specs.Words.{command_of};
@@ -65,16 +65,16 @@ fn serve_command<I: Input, O: Sink, C: Clock>(
 ) -> u8
     requires lawful { bits_of setup.capabilities ≤ all_bits }
     ensures report { Reports (IsReport (setup_of setup) (I.text input.old) (I.text input.new) (C.readings clock.old) (C.readings clock.new)
-        (Rose (I.faults input.old) (I.faults input.new)) (MetBadLine I.text I.faults I.later input.old input.new))
+        (Rose (I.faults input.old) (I.faults input.new)) (MetBadLine I.given I.last input.old input.new))
         (told_text form) result (O.taken output.old) (O.taken output.new) }
     ensures status { ForText (I.text input.old) (λ text.
         IsStatus (status_of_end (end_of (setup_of setup) text)) (Rose (I.faults input.old) (I.faults input.new)) result) }
-    ensures cause { HasReadCause result (Rose (I.faults input.old) (I.faults input.new)) (MetBadLine I.text I.faults I.later input.old input.new) }
+    ensures cause { HasReadCause result (Rose (I.faults input.old) (I.faults input.new)) (MetBadLine I.given I.last input.old input.new) }
     ensures complete { ForText (I.text input.old) (λ text. bad_line_of text ≡ None → AreComplete (setup_of setup) (pieces_of text) →
         (Rose (I.faults input.old) (I.faults input.new) → ⊥) → (Rose (O.faults output.old) (O.faults output.new) → ⊥) →
         (result ≡ 0) ⊎ (result ≡ 5)) }
     ensures served { result ≡ 2 → ⊥ }
-    ensures input { LentInput I.faults I.later input.old input.new }
+    ensures input { LentInput I.text I.given I.faults I.later input.old input.new }
     ensures output { LentSink O.faults O.later (result ≡ 4) output.old output.new }
     ensures clock { LentClock C.later clock.old clock.new }
 {
@@ -135,11 +135,11 @@ pub fn run<I: Input, O: Sink, C: Clock>(
     ensures served { IsSome (command_of words.now) → result ≡ 2 → ⊥ }
     // the words of `serve`: the report of the session over the lines that the input gives
     ensures report { ForServe words.now (λ setup. Reports (IsReport setup (I.text input.old) (I.text input.new) (C.readings clock.old) (C.readings clock.new)
-        (Rose (I.faults input.old) (I.faults input.new)) (MetBadLine I.text I.faults I.later input.old input.new))
+        (Rose (I.faults input.old) (I.faults input.new)) (MetBadLine I.given I.last input.old input.new))
         report_text result (O.taken output.old) (O.taken output.new)) }
     // the words of `trace`: the same, and behind it the trace of the reply bytes
     ensures trace { ForTrace words.now (λ setup. Reports (IsReport setup (I.text input.old) (I.text input.new) (C.readings clock.old) (C.readings clock.new)
-        (Rose (I.faults input.old) (I.faults input.new)) (MetBadLine I.text I.faults I.later input.old input.new))
+        (Rose (I.faults input.old) (I.faults input.new)) (MetBadLine I.given I.last input.old input.new))
         traced_text result (O.taken output.old) (O.taken output.new)) }
     // the words of `demo`: six lines of the session over the generated stream, which ends with the disconnect
     ensures demo { ForDemo words.now (λ groups start. (held : Piece) → O.taken output.old ≡ Some held →
@@ -151,15 +151,15 @@ pub fn run<I: Input, O: Sink, C: Clock>(
     // the status of `serve` and `trace`
     ensures status { ForSession words.now (λ setup. ForText (I.text input.old) (λ text.
         IsStatus (status_of_end (end_of setup text)) (Rose (I.faults input.old) (I.faults input.new)) result)) }
-    // over any input, told or not: 3 only where it failed, or a source over it met a bad line
+    // over any input, told or not: 3 only where it failed, or the bytes that it gave have a bad line, whole
     ensures cause { ForSession words.now (λ setup.
-        HasReadCause result (Rose (I.faults input.old) (I.faults input.new)) (MetBadLine I.text I.faults I.later input.old input.new)) }
+        HasReadCause result (Rose (I.faults input.old) (I.faults input.new)) (MetBadLine I.given I.last input.old input.new)) }
     // over a text of lines whose pieces make a good end sure, where neither the input nor the output fails
     ensures complete { ForSession words.now (λ setup. ForText (I.text input.old) (λ text. bad_line_of text ≡ None → AreComplete setup (pieces_of text) →
         (Rose (I.faults input.old) (I.faults input.new) → ⊥) → (Rose (O.faults output.old) (O.faults output.new) → ⊥) →
         (result ≡ 0) ⊎ (result ≡ 5))) }
     // the input, the output and the clock: status 4 exactly where the output failed
-    ensures input { LentInput I.faults I.later input.old input.new }
+    ensures input { LentInput I.text I.given I.faults I.later input.old input.new }
     ensures output { LentSink O.faults O.later (result ≡ 4) output.old output.new }
     ensures clock { LentClock C.later clock.old clock.new }
 {

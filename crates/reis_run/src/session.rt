@@ -7,7 +7,7 @@ ghost use Rattle.ei_backend.specs.Outside.{Rose};
 ghost use Rattle.ei_session.specs.Served.{session};
 ghost use Rattle.ei_serve.specs.Standing.{setup_of};
 ghost use Rattle.ei_serve.specs.Serving.{HandsOut, Replied, LeftReadings, CutShort};
-ghost use Rattle.reis_lines.specs.HexSource.{MetBadLine};
+ghost use Rattle.reis_lines.specs.Given.{MetBadLine};
 ghost use Rattle.reis_lines.specs.Lent.{LentInput};
 ghost use Rattle.reis_lines.specs.Text.{pieces_of};
 ghost use Rattle.reis_run.specs.Session.{ForText, end_of, EndsAs, IsDecidedLine, IsAnswered, IsReadFault, IsCutShortLine, pieces_left, HandledGiven};
@@ -67,8 +67,8 @@ pub(crate) fn serve_lines<I: Input, C: Clock>(
         (Some reply.old.held) (Some reply.new.held)) }
     // over any input
     ensures fault { IsReadFault result → Rose (I.faults input.old) (I.faults input.new) }
-    ensures bad_line { (n : ℕ) → IsBadLine n result → MetBadLine I.text I.faults I.later input.old input.new n }
-    ensures input { LentInput I.faults I.later input.old input.new }
+    ensures bad_line { (n : ℕ) → IsBadLine n result → MetBadLine I.given I.last input.old input.new n }
+    ensures input { LentInput I.text I.given I.faults I.later input.old input.new }
     ensures clock { LentClock C.later clock.old clock.new }
 {
     let held = match Held::new(alloc) {

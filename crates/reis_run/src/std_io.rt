@@ -1,14 +1,15 @@
 //! Standard input, standard output and the clock, as the outside of the program.
 //!
-//! They tell nothing of what they give and take. Each error of theirs counts as a fault.
+//! They tell nothing of what they will give or of what they took. Each error of theirs counts as a fault.
 
-ghost use Rattle.std.specs.Prelude.{◌≡◌, ◌<◌, ◌≤◌, ℕ, List, None, Some, IfOk, IfSome, length};
+ghost use Rattle.std.specs.Prelude.{◌≡◌, ◌<◌, ◌≤◌, ℕ, List, [], None, Some, IfOk, IfSome, length};
 ghost use Rattle.std.specs.Duration.{as_nanos};
 ghost use Rattle.ei_backend.specs.Memory.{counted};
-ghost use Rattle.ei_backend.specs.Outside.{HasCause, HasPutCause, HasPutWant, Fetches, Puts, IsPutSize, ReadsClock};
+ghost use Rattle.ei_backend.specs.Outside.{HasCause, HasPutCause, HasPutWant, Fetches, Gives, last_fetched, Puts, IsPutSize, ReadsClock};
+ghost use Rattle.ei_backend.specs.declared.outside.LastAnswer.TheVariants as answers;
 ghost use Rattle.reis_run.specs.StdIo.{Counts, IsSince, ReadsOrRepeats, faults_of_start, whole_micros};
 
-use ei_backend::{Clock, Fault, Input, PutError, Sink};
+use ei_backend::{Clock, Fault, Given, Input, LastAnswer, PutError, Sink};
 use ei_spec::Handle;
 use std::io::{Read, Write};
 use std::time::{Clock as TimeSource, Duration, Instant};
@@ -21,23 +22,36 @@ fn count_fault(faults: &mut u64)
     *faults = faults.saturating_add(1);
 }
 
-/// Standard input, of any reader.
+/// Standard input, of any reader. It keeps nothing of what it gave: that is for clauses alone.
 #[derive(Drop)]
 pub struct StdInput<R: Read + Drop> {
     reader: R,
+    given: Given,
+    last: LastAnswer,
     faults: u64,
 }
 
 impl<R: Read + Drop> StdInput<R> {
     pub fn new(reader: R) -> Self
-        ensures { result.faults ≡ 0 }
+        ensures given { result.given.bytes ≡ [] }
+        ensures last { result.last ≡ answers.Nothing }
+        ensures faults { result.faults ≡ 0 }
     {
-        StdInput { reader, faults: 0 }
+        StdInput {
+            reader,
+            given: Given::new(),
+            last: LastAnswer::Nothing,
+            faults: 0,
+        }
     }
 }
 
 impl<R: Read + Drop> Input for StdInput<R> {
     ghost text = { λ _. None };
+
+    ghost given = { λ s. s.given.bytes };
+
+    ghost last = { λ s. s.last };
 
     ghost faults = { λ s. s.faults };
 
@@ -51,14 +65,21 @@ impl<R: Read + Drop> Input for StdInput<R> {
         requires { 0 < length bytes.old }
         ensures size { IfOk result (λ n. n ≤ length bytes.new) }
         ensures text { Fetches None None result bytes.new }
+        ensures given { Gives self.old.given.bytes self.new.given.bytes result bytes.new }
+        ensures last { self.new.last ≡ last_fetched result }
         ensures cause { HasCause self.old.faults self.new.faults result }
         // beyond the trait's
         ensures counts { Counts result self.old.faults self.new.faults }
     {
         match self.reader.read(bytes) {
-            Ok(n) => Ok(n),
+            Ok(n) => {
+                self.given.note(&bytes[..n]);
+                self.last = LastAnswer::at(n);
+                Ok(n)
+            }
             Err(_) => {
                 count_fault(&mut self.faults);
+                self.last = LastAnswer::Fault;
                 Err(Fault)
             }
         }

@@ -21,5 +21,5 @@ pub returns-else-rest-ne0-clause-ok : goal.returns-else-rest-ne0-clause-ok
 returns-else-rest-ne0-clause-ok g c = λ rest b.
     let p : Parsed = record { values = g.T.MessageEnum.values c.in-Ok.message; table = c.parse-parsed.new.table; unread = c.parse-parsed.new.bytes } in
     let read = subst (λ (s : Unread). message_read g.T.MessageEnum.events c.args.target.interface c.args.opcode s c.args.table.now ≡ Ok p) c.new-stream.ensures c.in-Ok.ensures.read in
-    rw (c.in-Ok.ensures.target.0, c.in-Ok.ensures.target.1, c.handles_taken.ensures)
+    rw (c.put.ensures, c.in-Ok.ensures.target.0, c.in-Ok.ensures.target.1, c.handles_taken.ensures)
     (says g.T.MessageEnum.events c.args.target c.args.opcode c.args.body.now c.args.handles.now c.args.table.now p.table p.values p.unread rest b read (sym c.rest-rest.ensures ∙ c.if-rest-ne0.false))

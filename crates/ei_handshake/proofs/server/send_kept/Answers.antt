@@ -1,4 +1,4 @@
-use Rattle.std.proofs.Common.{◌≡◌, ◌<◌, ◌+◌, ◌*◌, sym, ap, ◌∙◌, length, arith}
+use Rattle.std.proofs.Common.{◌+◌, ◌*◌, sym, ap, ◌∙◌, length, arith}
 use Rattle.ei_handshake.specs.Handshaker.{sends, settled_in}
 use Rattle.ei_handshake.proofs.Sending.{sends-nil, settled_pairs_more, settled_pairs_whole, sends_more}
 use Rattle.ei_handshake.proofs.Room.{less_spare, spent}

@@ -1,40 +1,32 @@
-use Rattle.std.proofs.Common.{refl}
-use Rattle.std.proofs.lemmas.Result.{err_from_is_err_and}
+use Rattle.std.proofs.Common.{Err, refl}
 use Rattle.ei_serve.specs.declared.phase.Phase.TheVariants.{Over}
-use Rattle.ei_serve.proofs.ConversingFront.{no_memory, waits, refused, asked, untold, tells, cut}
+use Rattle.ei_serve.proofs.ConversingFront.{no_memory, refused, asked, untold, tells, cut}
 use Rattle.ei_serve.proofs.connected.converse.Goals as goal
 
-pub returns-in_err-pending-clause-converses : goal.returns-in_err-pending-clause-converses
-returns-in_err-pending-clause-converses g c = λ setup past times rest handles stands.
-    let p = err_from_is_err_and c.from_residual.result c.from_residual.ensures.1 in
-    no_memory setup past times rest handles _ _ _ _ p.1 p.2
-
-pub returns-in_default-clause-converses : goal.returns-in_default-clause-converses
-returns-in_default-clause-converses g c = λ setup past times rest handles stands.
-    waits setup past times rest handles c.args.converter.now _ _ c.pending_request.new.self stands c.handle_mut.ensures.value c.context_mut.ensures.value _ c.in_default.is c.in_ok-pending.ensures.ok _ refl _
-
-pub returns-in-Request-clause-converses : goal.returns-in-Request-clause-converses
-returns-in-Request-clause-converses g c = λ setup past times rest handles stands.
+pub returns-in-Ok-Some-Request-clause-converses : goal.returns-in-Ok-Some-Request-clause-converses
+returns-in-Ok-Some-Request-clause-converses g c = λ setup past times rest handles stands.
     c.take_request.ensures.takes setup past times rest handles
-    (asked setup past times rest handles c.args.converter.now _ _ c.pending_request.new.self stands c.handle_mut.ensures.value c.context_mut.ensures.value c.in_ok-pending.field-0 c.in-Some.pending c.in-Some.is c.in_ok-pending.ensures.ok c.in-Request.request c.in-Request.is c.in_ok-pending.ensures.announced _ refl)
+    (asked setup past times rest handles c.args.converter.now _ _ c.pending_request.new.self stands c.handle_mut.ensures.value c.context_mut.ensures.value c.in-Ok-Some-Request.field-0 c.in-Ok-Some-Request.field-0-0 c.in-Ok-Some-Request.field-0-is c.in-Ok-Some-Request.ensures.ok c.in-Ok-Some-Request.request c.in-Ok-Some-Request.field-0-0-is c.in-Ok-Some-Request.ensures.announced _ refl)
 
-pub returns-in-ParseError-clause-converses : goal.returns-in-ParseError-clause-converses
-returns-in-ParseError-clause-converses g c = λ setup past times rest handles stands.
-    refused setup past times rest handles c.args.converter.now _ _ c.pending_request.new.self stands c.handle_mut.ensures.value c.context_mut.ensures.value c.in_ok-pending.field-0 c.in-Some.pending c.in-Some.is c.in_ok-pending.ensures.ok c.in-ParseError.error c.in-ParseError.is Over _
+pub returns-in-Ok-Some-ParseError-clause-converses : goal.returns-in-Ok-Some-ParseError-clause-converses
+returns-in-Ok-Some-ParseError-clause-converses g c = λ setup past times rest handles stands.
+    rw c.refuse_parse.ensures (refused setup past times rest handles c.args.converter.now _ _ c.pending_request.new.self stands c.handle_mut.ensures.value c.context_mut.ensures.value c.in-Ok-Some-ParseError.field-0 c.in-Ok-Some-ParseError.field-0-0 c.in-Ok-Some-ParseError.field-0-is c.in-Ok-Some-ParseError.ensures.ok c.in-Ok-Some-ParseError.error c.in-Ok-Some-ParseError.field-0-0-is Over _)
 
-pub returns-in_err-invalid_object-in-InvalidObject-clause-converses : goal.returns-in_err-invalid_object-in-InvalidObject-clause-converses
-returns-in_err-invalid_object-in-InvalidObject-clause-converses g c = λ setup past times rest handles stands.
-    let p = err_from_is_err_and c.from_residual-in_err-invalid_object-in-InvalidObject.result c.from_residual-in_err-invalid_object-in-InvalidObject.ensures.1 in
-    untold setup past times rest handles c.args.converter.now _ _ c.pending_request.new.self stands c.handle_mut.ensures.value c.context_mut.ensures.value c.in_ok-pending.field-0 c.in-Some.pending c.in-Some.is c.in_ok-pending.ensures.ok c.in-InvalidObject.id c.in-InvalidObject.is
-    _ refl _ c.handle_mut-handle.ensures.value _ _ _ _ _ _ _ c.in_err-invalid_object-in-InvalidObject.ensures.only p.1 p.2
+pub returns-in-Err-invalid_object-clause-converses : goal.returns-in-Err-invalid_object-clause-converses
+returns-in-Err-invalid_object-clause-converses g c = λ setup past times rest handles stands.
+    untold setup past times rest handles c.args.converter.now _ _ c.pending_request.new.self stands c.handle_mut.ensures.value c.context_mut.ensures.value c.in-Ok-Some-InvalidObject.field-0 c.in-Ok-Some-InvalidObject.field-0-0 c.in-Ok-Some-InvalidObject.field-0-is c.in-Ok-Some-InvalidObject.ensures.ok c.in-Ok-Some-InvalidObject.id c.in-Ok-Some-InvalidObject.field-0-0-is
+    _ refl _ c.handle_mut-handle.ensures.value _ _ c.in-Err-invalid_object.error c.refuse_send.new.why Over _ (Err c.refuse_send.new.why) c.in-Err-invalid_object.ensures.only refl c.refuse_send.ensures
 
-pub returns-in_err-flush-in-InvalidObject-clause-converses : goal.returns-in_err-flush-in-InvalidObject-clause-converses
-returns-in_err-flush-in-InvalidObject-clause-converses g c = λ setup past times rest handles stands.
-    let p = err_from_is_err_and c.from_residual-in_err-flush-in-InvalidObject.result c.from_residual-in_err-flush-in-InvalidObject.ensures.1 in
-    cut setup past times rest handles c.args.converter.now _ _ c.pending_request.new.self stands c.handle_mut.ensures.value c.context_mut.ensures.value c.in_ok-pending.field-0 c.in-Some.pending c.in-Some.is c.in_ok-pending.ensures.ok c.in-InvalidObject.id c.in-InvalidObject.is
-    _ refl _ c.handle_mut-handle.ensures.value _ _ _ c.in_ok-invalid_object-in-InvalidObject.ensures.ok _ _ _ _ _ _ _ p.1 p.2 c.in_err-flush-in-InvalidObject.ensures.took
+pub returns-in-Err-flush-clause-converses : goal.returns-in-Err-flush-clause-converses
+returns-in-Err-flush-clause-converses g c = λ setup past times rest handles stands.
+    cut setup past times rest handles c.args.converter.now _ _ c.pending_request.new.self stands c.handle_mut.ensures.value c.context_mut.ensures.value c.in-Ok-Some-InvalidObject.field-0 c.in-Ok-Some-InvalidObject.field-0-0 c.in-Ok-Some-InvalidObject.field-0-is c.in-Ok-Some-InvalidObject.ensures.ok c.in-Ok-Some-InvalidObject.id c.in-Ok-Some-InvalidObject.field-0-0-is
+    _ refl _ c.handle_mut-handle.ensures.value _ _ _ c.in_default.ensures.ok _ c.in-Err-flush.error c.refuse_flush.new.why Over _ _ (Err c.refuse_flush.new.why) refl c.refuse_flush.ensures c.in-Err-flush.ensures.took
 
-pub returns-in_ok-flush-in-InvalidObject-clause-converses : goal.returns-in_ok-flush-in-InvalidObject-clause-converses
-returns-in_ok-flush-in-InvalidObject-clause-converses g c = λ setup past times rest handles stands.
-    tells setup past times rest handles c.args.converter.now _ _ c.pending_request.new.self stands c.handle_mut.ensures.value c.context_mut.ensures.value c.in_ok-pending.field-0 c.in-Some.pending c.in-Some.is c.in_ok-pending.ensures.ok c.in-InvalidObject.id c.in-InvalidObject.is
-    _ refl _ c.handle_mut-handle.ensures.value _ _ _ c.in_ok-invalid_object-in-InvalidObject.ensures.ok _ c.in_ok-flush-in-InvalidObject.ensures.stops c.in_ok-flush-in-InvalidObject.ensures.kept _ _ c.in_ok-flush-in-InvalidObject.ensures.took _ refl
+pub returns-in_default-flush-clause-converses : goal.returns-in_default-flush-clause-converses
+returns-in_default-flush-clause-converses g c = λ setup past times rest handles stands.
+    tells setup past times rest handles c.args.converter.now _ _ c.pending_request.new.self stands c.handle_mut.ensures.value c.context_mut.ensures.value c.in-Ok-Some-InvalidObject.field-0 c.in-Ok-Some-InvalidObject.field-0-0 c.in-Ok-Some-InvalidObject.field-0-is c.in-Ok-Some-InvalidObject.ensures.ok c.in-Ok-Some-InvalidObject.id c.in-Ok-Some-InvalidObject.field-0-0-is
+    _ refl _ c.handle_mut-handle.ensures.value _ _ _ c.in_default.ensures.ok _ c.in_default-flush.ensures.stops c.in_default-flush.ensures.kept _ _ c.in_default-flush.ensures.took _ refl
+
+pub returns-in-Err-clause-converses : goal.returns-in-Err-clause-converses
+returns-in-Err-clause-converses g c = λ setup past times rest handles stands.
+    no_memory setup past times rest handles Over c.refuse_memory.new.why _ (Err c.refuse_memory.new.why) refl c.refuse_memory.ensures

@@ -1,35 +1,31 @@
-use Rattle.std.proofs.Common.{◌∙◌, refl}
-use Rattle.std.proofs.lemmas.Result.{err_from_is_err_and}
+use Rattle.std.proofs.Common.{Err, refl}
+use Rattle.ei_serve.specs.declared.phase.Phase.TheVariants.{Over}
 use Rattle.ei_serve.proofs.ConversingTakes.{refuses, unqueued, unfollowed, unflushed, answers_end, answers_on}
 use Rattle.ei_serve.proofs.connected.take_request.Goals as goal
-use Rattle.ei_serve.proofs.connected.take_request.Goals.{in-End, in_default}
+use Rattle.ei_serve.proofs.connected.take_request.Goals.{in-End, in_default-policy}
 
-pub returns-in_err-handle_request-clause-takes : goal.returns-in_err-handle_request-clause-takes
-returns-in_err-handle_request-clause-takes g c = λ setup past times rest handles a.
-    let p = err_from_is_err_and c.from_residual.result c.from_residual.ensures.1 in
-    refuses setup past times rest handles c.args.request c.args.converter.now a c.handle_request.new.self _ _ _ _ _ _ _ _ p.1 p.2 c.in_err-handle_request.ensures.handles
+pub returns-in-Err-clause-takes : goal.returns-in-Err-clause-takes
+returns-in-Err-clause-takes g c = λ setup past times rest handles a.
+    refuses setup past times rest handles c.args.request c.args.converter.now a c.handle_request.new.self c.in-Err.error c.refuse.new.why Over _ _ _ _ (Err c.refuse.new.why) refl c.refuse.ensures c.in-Err.ensures.handles
 
-pub returns-in_err-policy-clause-takes : goal.returns-in_err-policy-clause-takes
-returns-in_err-policy-clause-takes g c = λ setup past times rest handles a.
-    let p = err_from_is_err_and c.from_residual-in_err-policy.result c.from_residual-in_err-policy.ensures.1 in
-    unqueued setup past times rest handles c.args.request c.args.converter.now a c.handle_request.new.self _ _ c.in_ok-handle_request.ensures.handles _ _ _ _ _ _ p.1 (p.2 ∙ c.in_err-policy.ensures.only) c.in_err-policy.ensures.kept
+pub returns-in-Err-hand_out-clause-takes : goal.returns-in-Err-hand_out-clause-takes
+returns-in-Err-hand_out-clause-takes g c = λ setup past times rest handles a.
+    unqueued setup past times rest handles c.args.request c.args.converter.now a c.handle_request.new.self _ _ c.in_default.ensures.handles Over c.refuse_memory.new.why _ _ _ (Err c.refuse_memory.new.why) refl c.refuse_memory.ensures c.in-Err-hand_out.ensures.kept
 
-pub returns-in_err-follow-clause-takes : goal.returns-in_err-follow-clause-takes
-returns-in_err-follow-clause-takes g c = λ setup past times rest handles a.
-    let p = err_from_is_err_and c.from_residual-in_err-follow.result c.from_residual-in_err-follow.ensures.1 in
-    unfollowed setup past times rest handles c.args.request c.args.converter.now a c.handle_request.new.self _ _ c.in_ok-handle_request.ensures.handles _ _ c.in_ok-policy.ensures.hands_out _ c.in_ok-policy.ensures.policy _ c.in_ok-policy.ensures.queue _ c.handle_mut-handle.ensures.value
-    _ _ _ _ _ p.1 p.2 c.in_err-follow.ensures.exhausted c.in_err-follow.ensures.short
+pub returns-in-Err-follow-clause-takes : goal.returns-in-Err-follow-clause-takes
+returns-in-Err-follow-clause-takes g c = λ setup past times rest handles a.
+    unfollowed setup past times rest handles c.args.request c.args.converter.now a c.handle_request.new.self _ _ c.in_default.ensures.handles _ _ c.in-Ok.ensures.hands_out _ c.in-Ok.ensures.policy _ c.in-Ok.ensures.queue _ c.handle_mut-handle.ensures.value
+    c.in-Err-follow.error c.refuse_send.new.why Over _ (Err c.refuse_send.new.why) refl c.refuse_send.ensures c.in-Err-follow.ensures.exhausted c.in-Err-follow.ensures.short
 
-pub returns-in_err-flush-clause-takes : goal.returns-in_err-flush-clause-takes
-returns-in_err-flush-clause-takes g c = λ setup past times rest handles a.
-    let p = err_from_is_err_and c.from_residual-in_err-flush.result c.from_residual-in_err-flush.ensures.1 in
-    unflushed setup past times rest handles c.args.request c.args.converter.now a c.handle_request.new.self _ _ c.in_ok-handle_request.ensures.handles _ _ c.in_ok-policy.ensures.hands_out _ c.in_ok-policy.ensures.policy _ c.in_ok-policy.ensures.queue _ c.handle_mut-handle.ensures.value
-    c.in_ok-follow.ensures.exhausted _ c.in_ok-follow.ensures.ok c.in_ok-follow.ensures.ring _ _ _ _ _ _ _ p.1 p.2 c.in_err-flush.ensures.took
+pub returns-in-Err-flush-clause-takes : goal.returns-in-Err-flush-clause-takes
+returns-in-Err-flush-clause-takes g c = λ setup past times rest handles a.
+    unflushed setup past times rest handles c.args.request c.args.converter.now a c.handle_request.new.self _ _ c.in_default.ensures.handles _ _ c.in-Ok.ensures.hands_out _ c.in-Ok.ensures.policy _ c.in-Ok.ensures.queue _ c.handle_mut-handle.ensures.value
+    c.in_default-follow.ensures.exhausted _ c.in_default-follow.ensures.ok c.in_default-follow.ensures.ring c.in-Err-flush.error c.refuse_flush.new.why Over _ _ _ (Err c.refuse_flush.new.why) refl c.refuse_flush.ensures c.in-Err-flush.ensures.took
 
 pub returns-clause-takes : goal.returns-clause-takes
 returns-clause-takes g c = λ setup past times rest handles a. elim c.match-policy-9.branch [
-  | in-End w ↦ answers_end setup past times rest handles c.args.request c.args.converter.now a c.handle_request.new.self _ _ c.in_ok-handle_request.ensures.handles _ _ c.in_ok-policy.ensures.hands_out _ c.in_ok-policy.ensures.policy _ c.in_ok-policy.ensures.queue _ c.handle_mut-handle.ensures.value
-      c.in_ok-follow.ensures.exhausted _ c.in_ok-follow.ensures.ok c.in_ok-follow.ensures.ring c.flush.new.self c.in_ok-flush.ensures.stops c.in_ok-flush.ensures.kept _ _ c.in_ok-flush.ensures.took _ _ w.result-is w.in-End.is
-  | in_default w ↦ answers_on setup past times rest handles c.args.request c.args.converter.now a c.handle_request.new.self _ _ c.in_ok-handle_request.ensures.handles _ _ c.in_ok-policy.ensures.hands_out _ c.in_ok-policy.ensures.policy _ c.in_ok-policy.ensures.queue _ c.handle_mut-handle.ensures.value
-      c.in_ok-follow.ensures.exhausted _ c.in_ok-follow.ensures.ok c.in_ok-follow.ensures.ring c.flush.new.self c.in_ok-flush.ensures.stops c.in_ok-flush.ensures.kept _ _ c.in_ok-flush.ensures.took _ refl _ w.result-is w.in_default.not-End
+  | in-End w ↦ answers_end setup past times rest handles c.args.request c.args.converter.now a c.handle_request.new.self _ _ c.in_default.ensures.handles _ _ c.in-Ok.ensures.hands_out _ c.in-Ok.ensures.policy _ c.in-Ok.ensures.queue _ c.handle_mut-handle.ensures.value
+      c.in_default-follow.ensures.exhausted _ c.in_default-follow.ensures.ok c.in_default-follow.ensures.ring c.flush.new.self c.in_default-flush.ensures.stops c.in_default-flush.ensures.kept _ _ c.in_default-flush.ensures.took _ _ w.result-is w.in-End.is
+  | in_default-policy w ↦ answers_on setup past times rest handles c.args.request c.args.converter.now a c.handle_request.new.self _ _ c.in_default.ensures.handles _ _ c.in-Ok.ensures.hands_out _ c.in-Ok.ensures.policy _ c.in-Ok.ensures.queue _ c.handle_mut-handle.ensures.value
+      c.in_default-follow.ensures.exhausted _ c.in_default-follow.ensures.ok c.in_default-follow.ensures.ring c.flush.new.self c.in_default-flush.ensures.stops c.in_default-flush.ensures.kept _ _ c.in_default-flush.ensures.took _ refl _ w.result-is w.in_default-policy.not-End
 ]

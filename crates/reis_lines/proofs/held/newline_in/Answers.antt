@@ -1,6 +1,5 @@
-use Rattle.std.proofs.Common.{arith}
-use Rattle.reis_lines.proofs.TextLaws.{quiet_more}
+use Rattle.reis_lines.proofs.NewlineLaws.{finds_newline}
 use Rattle.reis_lines.proofs.held.newline_in.Goals as goal
 
-pub loop-i-preserved : goal.loop-i-preserved
-loop-i-preserved c = quiet_more c.args.bytes.now c.loop-i.i c.loop-i.invariant (omega arith) c.if-b-eq-NEWLINE.false
+pub returns : goal.returns
+returns c = finds_newline c.memchr.result c.args.bytes.now c.memchr.ensures

@@ -1,7 +1,7 @@
 use Rattle.std.proofs.Common.{rules}
 use Rattle.ei_backend.specs.Outside.{Rose}
 use Rattle.ei_session.specs.Complete.{AreComplete}
-use Rattle.reis_lines.specs.HexSource.{MetBadLine}
+use Rattle.reis_lines.specs.Given.{MetBadLine}
 use Rattle.reis_lines.specs.Text.{pieces_of}
 use Rattle.reis_run.specs.Tell.{report_text, traced_text, Reports}
 use Rattle.reis_run.specs.Session.{ForText, end_of, IsReport, status_of_end, IsStatus}
@@ -14,7 +14,7 @@ returns-in-Some-Serve-clause-report g c = λ setup asks.
     (λ s. Reports
     (IsReport s (g.I.Input.text c.args.input.now) (g.I.Input.text c.serve_command.new.input) (g.C.Clock.readings c.args.clock.now) (g.C.Clock.readings c.serve_command.new.clock)
     (Rose (g.I.Input.faults c.args.input.now) (g.I.Input.faults c.serve_command.new.input))
-    (MetBadLine g.I.Input.text g.I.Input.faults g.I.Input.later c.args.input.now c.serve_command.new.input))
+    (MetBadLine g.I.Input.given g.I.Input.last c.args.input.now c.serve_command.new.input))
     report_text c.serve_command.result (g.O.Sink.taken c.args.output.now) (g.O.Sink.taken c.serve_command.new.output))
     _ setup c.serve_command.ensures.report (search rules)
 
@@ -35,7 +35,7 @@ returns-in-Some-Trace-clause-trace g c = λ setup asks.
     (λ s. Reports
     (IsReport s (g.I.Input.text c.args.input.now) (g.I.Input.text c.serve_command-in-Some-Trace.new.input) (g.C.Clock.readings c.args.clock.now) (g.C.Clock.readings c.serve_command-in-Some-Trace.new.clock)
     (Rose (g.I.Input.faults c.args.input.now) (g.I.Input.faults c.serve_command-in-Some-Trace.new.input))
-    (MetBadLine g.I.Input.text g.I.Input.faults g.I.Input.later c.args.input.now c.serve_command-in-Some-Trace.new.input))
+    (MetBadLine g.I.Input.given g.I.Input.last c.args.input.now c.serve_command-in-Some-Trace.new.input))
     traced_text c.serve_command-in-Some-Trace.result (g.O.Sink.taken c.args.output.now) (g.O.Sink.taken c.serve_command-in-Some-Trace.new.output))
     _ setup c.serve_command-in-Some-Trace.ensures.report (search rules)
 

@@ -1,10 +1,8 @@
-use Rattle.std.specs.String.{string_bytes}
-use Rattle.std.proofs.lemmas.Map.Text.{btree_map_updates_text}
-use Rattle.ei_handshake.proofs.VersionLemmas.{text_given}
+use Rattle.std.proofs.Common.{arith}
+use Rattle.ei_handshake.proofs.VersionLemmas.{given_one}
 use Rattle.ei_handshake.proofs.versions.Versions.insert.Goals as goal
 
-pub returns-clause-ok : goal.returns-clause-ok
-returns-clause-ok c =
-    rw (← c.self.view_is, ← c.in_ok-name.ensures.ok)
-    (text_given c.self.inside.versions.entries c.insert.new.self.entries (string_bytes c.in_ok-name.name) c.args.version
-    (btree_map_updates_text (string_bytes c.in_ok-name.name) c.self.inside.versions c.insert.new.self _ c.in_ok-insert.ensures.updates))
+pub returns : goal.returns
+returns c =
+    rw (← c.self.view_is, c.place.ensures.place)
+    (given_one c.self.inside.versions c.args.interface c.args.version (omega (arith, c.self.invariant, c.place.ensures.place, c.place.ensures.within)))

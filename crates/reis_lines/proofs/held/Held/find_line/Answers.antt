@@ -1,8 +1,10 @@
-use Rattle.std.proofs.Common.{◌≡◌, ◌∙◌, false}
+use Rattle.std.proofs.Common.{◌≡◌, ◌∙◌, refl, sym, inl, inr, false, arith}
 use Rattle.std.specs.Prelude.{is_some}
 use Rattle.reis_lines.specs.Text.{has_newline}
+use Rattle.reis_lines.proofs.GaveLaws.{gave_none, gave_on, some_read, asked_found}
 use Rattle.reis_lines.proofs.HeldLaws.{moves_on, moves_by, moves_kept, nothing_left, none_found, not_whole}
 use Rattle.reis_lines.proofs.held.Held.find_line.Goals as goal
+use Rattle.reis_lines.proofs.held.Held.find_line.Goals.{then-is_some-via-then-is_some, then-is_some-via-else-is_some+then-len-ge-TOO_LONG}
 
 pub returns-in_err-read-clause-text : goal.returns-in_err-read-clause-text
 returns-in_err-read-clause-text g c = λ text told.
@@ -23,8 +25,29 @@ lines-preserved g c =
     let quiet : has_newline c.lines.self ≡ false = none_found _ _ c.newline-found.ensures.found none in
     record {
       text = λ text told. moves_on _ text _ _ _ _ _ (c.lines.invariant.text text told) c.newline-found.ensures.same (λ t now. moves_by _ t _ _ _ (c.in_ok-read.ensures.text t now));
+      given = gave_on _ _ _ _ _ _ _ c.lines.invariant.given c.newline-found.ensures.same c.in_ok-read.ensures.given;
+      asked = inr (some_read c.in_ok-read.field-0 _ c.in_ok-read.ensures.last c.if-branch-eq0.false);
       unasked = λ has. absurd (not_whole _ _ has (c.lines.invariant.kept has) quiet);
       kept = λ has. absurd (not_whole _ _ has (c.lines.invariant.kept has) quiet);
       kept_count = c.in_ok-read.ensures.cause.kept ∙ c.lines.invariant.kept_count;
       later = g.met.I.Input.later_trans _ _ _ c.lines.invariant.later c.in_ok-read.ensures.later;
     }
+
+pub returns-then-is_some-clause-given : goal.returns-then-is_some-clause-given
+returns-then-is_some-clause-given g c = gave_on _ _ _ _ _ _ _ c.lines.invariant.given c.newline-found.ensures.same (gave_none _ _ _ _ refl refl)
+
+pub returns-then-is_some-clause-asked : goal.returns-then-is_some-clause-asked
+returns-then-is_some-clause-asked g c =
+    asked_found g.I.Input.last _ _ c.newline-found.result _
+    (elim c.then-is_some.branch [
+      | then-is_some-via-then-is_some w ↦ inl (sym c.is_some.ensures ∙ w.if-is_some.true)
+      | then-is_some-via-else-is_some+then-len-ge-TOO_LONG w ↦ inr (omega (arith, w.len.ensures, w.if-len-ge-TOO_LONG.true))
+    ])
+    c.lines.invariant.asked
+
+pub returns-in_err-read-clause-given : goal.returns-in_err-read-clause-given
+returns-in_err-read-clause-given g c = gave_on _ _ _ _ _ _ _ c.lines.invariant.given c.newline-found.ensures.same
+    (gave_none _ _ _ _ c.in_err-read.ensures.none_given c.in_err-read.ensures.err)
+
+pub returns-then-branch-eq0-clause-given : goal.returns-then-branch-eq0-clause-given
+returns-then-branch-eq0-clause-given g c = gave_on _ _ _ _ _ _ _ c.lines.invariant.given c.newline-found.ensures.same c.in_ok-read.ensures.given

@@ -1,4 +1,6 @@
-use Rattle.std.proofs.Common.{◌≡◌, ◌-◌, List, ℕ, Some, true, length}
+use Rattle.std.proofs.Common.{◌≡◌, ◌-◌, ◌⊎◌, List, ℕ, Some, true, false, length}
+use Rattle.ei_backend.specs.Outside.{is_end}
+use Rattle.reis_lines.specs.Given.{GaveBehind}
 use Rattle.reis_lines.specs.Text.{has_newline}
 use Rattle.reis_lines.specs.Held.{Moves}
 use Rattle.reis_lines.proofs.held.Held.find_line.Given as goal
@@ -6,6 +8,8 @@ use Rattle.reis_lines.proofs.held.Held.find_line.Given as goal
 abbrev pub invariant-lines : goal.invariant-lines
 invariant-lines g l = record {
   text : (text : List ℕ) → g.I.Input.text l.fn.input ≡ Some text → Moves l.fn.self text l.self (g.I.Input.text l.input);
+  given : GaveBehind (g.I.Input.given l.fn.input) (g.I.Input.given l.input) l.fn.self l.self;
+  asked : (l.input ≡ l.fn.input) ⊎ (is_end (g.I.Input.last l.input) ≡ false);
   unasked : has_newline l.fn.self ≡ true → l.input ≡ l.fn.input;
   kept : has_newline l.fn.self ≡ true → l.self ≡ l.fn.self;
   kept_count : g.I.Input.faults l.input ≡ g.I.Input.faults l.fn.input;

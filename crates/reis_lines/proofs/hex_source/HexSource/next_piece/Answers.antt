@@ -1,9 +1,9 @@
-use Rattle.std.proofs.Common.{◌≡◌, ◌<◌, length, take, refl, arith, ap, sym, ◌∙◌, Ok, None, true}
-use Rattle.std.proofs.lemmas.List.{length-take-le}
+use Rattle.std.proofs.Common.{◌≡◌, ◌<◌, inl, [], length, take, refl, arith, ap, sym, ◌∙◌, Ok, None, true}
+use Rattle.std.proofs.lemmas.List.{append-nil, length-take-le}
 use Rattle.std.specs.Prelude.{is_some}
-use Rattle.reis_lines.specs.LaterReadings.{LaterText-none, Stands-refl}
-use Rattle.reis_lines.proofs.SourceLaws.{some_not_none, none_if_not_some, not_both, first_of, line_is, removed_is, no_line, handed_out, hands_line, bad_number}
-use Rattle.reis_lines.proofs.SourceLaws.{none_left, ends_here, holds_end, holds_bad, unmet_later}
+use Rattle.reis_lines.specs.LaterReadings.{LaterLines-none, left_all}
+use Rattle.reis_lines.proofs.SourceLaws.{some_not_none, none_if_not_some, not_both, first_of, line_is, removed_is, no_line, handed_out, hands_line}
+use Rattle.reis_lines.proofs.SourceLaws.{ends_here, holds_end, holds_bad, left_behind, unmet_later}
 use Rattle.reis_lines.proofs.hex_source.HexSource.next_piece.Goals as goal
 
 pub returns-then-is_some-clause-later : goal.returns-then-is_some-clause-later
@@ -12,31 +12,53 @@ returns-then-is_some-clause-later g c =
     record {
       input = g.met.I.Input.later_refl _;
       count = omega arith;
-      ended = λ is. (refl, is);
+      bytes = [];
+      gave = sym (append-nil _);
+      lines = LaterLines-none _ [] _ _ _ (sym (append-nil _));
+      left = left_all _;
       told = λ t left is. is ∙ sym left;
+      asked = inl (refl, refl);
+      ended = λ is. (refl, is);
       kept = λ n is. record { input = refl; held = refl; ended = refl; line = refl; bad = refl };
       unmet = λ none. absurd (some_not_none _ some none);
       met = λ none. absurd (some_not_none _ some none);
       holds = λ none. absurd (some_not_none _ some none);
       bad_count = omega (arith, c.saturating_add-self.ensures);
-      number = λ none. absurd (some_not_none _ some none);
-      spent = λ none. absurd (some_not_none _ some none);
-      lines = λ t told. LaterText-none _ t _ _ _ _ (record { rest = t; left_is = told; same = refl });
     }
 
 pub returns-in_err-found-clause-later : goal.returns-in_err-found-clause-later
 returns-in_err-found-clause-later g c =
     let is = c.in_err-found.ensures in
-    unmet_later g.I.Input.text g.I.Input.faults g.I.Input.later _ _ (none_if_not_some _ (sym c.is_some.ensures ∙ c.if-is_some.false)) is.same_bad
-    is.same_faults is.later is.cause.later is.behind_end is.told
-    (λ t told. rw is.same_line (LaterText-none _ t _ _ _ _ (is.text t told)))
+    unmet_later g.I.Input.text g.I.Input.given g.I.Input.last g.I.Input.faults g.I.Input.later _ _ (none_if_not_some _ (sym c.is_some.ensures ∙ c.if-is_some.false)) is.same_bad
+    is.same_faults
+    (record {
+      input = is.later;
+      count = is.cause.later;
+      bytes = is.given.bytes;
+      gave = is.given.gave;
+      lines = rw is.same_line (LaterLines-none _ _ _ _ _ is.given.held);
+      left = left_behind _ _ _ _ is.given.bytes is.given.held is.text;
+      told = is.told;
+      asked = is.asked;
+      ended = is.behind_end;
+    })
 
 pub returns-then-count-eq0-clause-later : goal.returns-then-count-eq0-clause-later
 returns-then-count-eq0-clause-later g c =
     let is = c.in_ok-found.ensures in
-    unmet_later g.I.Input.text g.I.Input.faults g.I.Input.later _ _ (none_if_not_some _ (sym c.is_some.ensures ∙ c.if-is_some.false)) is.same_bad
-    is.same_faults is.later is.cause.later is.behind_end is.told
-    (λ t told. rw is.same_line (LaterText-none _ t _ _ _ _ (is.text t told)))
+    unmet_later g.I.Input.text g.I.Input.given g.I.Input.last g.I.Input.faults g.I.Input.later _ _ (none_if_not_some _ (sym c.is_some.ensures ∙ c.if-is_some.false)) is.same_bad
+    is.same_faults
+    (record {
+      input = is.later;
+      count = is.cause.later;
+      bytes = is.given.bytes;
+      gave = is.given.gave;
+      lines = rw is.same_line (LaterLines-none _ _ _ _ _ is.given.held);
+      left = left_behind _ _ _ _ is.given.bytes is.given.held is.text;
+      told = is.told;
+      asked = is.asked;
+      ended = is.behind_end;
+    })
 
 pub returns-then-count-eq0-clause-pieces : goal.returns-then-count-eq0-clause-pieces
 returns-then-count-eq0-clause-pieces g c = λ text told.
@@ -67,15 +89,22 @@ pub returns-in-Some-clause-later : goal.returns-in-Some-clause-later
 returns-in-Some-clause-later g c =
     let found = c.in_ok-found.found in
     let is = c.in_ok-found.ensures in
-    unmet_later g.I.Input.text g.I.Input.faults g.I.Input.later _ _ (none_if_not_some _ (sym c.is_some.ensures ∙ c.if-is_some.false)) is.same_bad
-    is.same_faults is.later is.cause.later is.behind_end is.told
-    (λ text told.
-    let m = is.text text told in
-    let first = first_of _ text _ _ found _ m is.place (λ none less. is.ends (ap (λ o. Ok o) none) less) in
-    handed_out _ text _ m.rest _ _ _ _ found _ _ _ first
-    (line_is found _ _ _ c.line_extent-count.ensures.count c.bytes-line.ensures) c.in-Some.ensures.spells
-    (removed_is found _ _ _ _ c.line_extent-count.ensures.skip c.bytes-line.ensures c.remove.ensures) m.left_is
-    (omega (arith, c.saturating_add-self-in-Some.ensures, is.same_line)))
+    unmet_later g.I.Input.text g.I.Input.given g.I.Input.last g.I.Input.faults g.I.Input.later _ _ (none_if_not_some _ (sym c.is_some.ensures ∙ c.if-is_some.false)) is.same_bad
+    is.same_faults
+    (record {
+      input = is.later;
+      count = is.cause.later;
+      bytes = is.given.bytes;
+      gave = is.given.gave;
+      lines = handed_out _ is.given.bytes _ _ _ _ found _ _ _ is.given.held is.place (λ none less. is.ends (ap (λ o. Ok o) none) less)
+          (line_is found _ _ _ c.line_extent-count.ensures.count c.bytes-line.ensures) c.in-Some.ensures.spells
+          (removed_is found _ _ _ _ c.line_extent-count.ensures.skip c.bytes-line.ensures c.remove.ensures)
+          (omega (arith, c.saturating_add-self-in-Some.ensures, is.same_line));
+      left = left_behind _ _ _ _ is.given.bytes is.given.held is.text;
+      told = is.told;
+      asked = is.asked;
+      ended = is.behind_end;
+    })
 
 pub returns-in-None-clause-later : goal.returns-in-None-clause-later
 returns-in-None-clause-later g c =
@@ -93,21 +122,17 @@ returns-in-None-clause-later g c =
     record {
       input = is.later;
       count = is.cause.later;
-      ended = is.behind_end;
+      bytes = is.given.bytes;
+      gave = is.given.gave;
+      lines = rw is.same_line (LaterLines-none _ _ _ _ _ is.given.held);
+      left = left_behind _ _ _ _ is.given.bytes is.given.held is.text;
       told = is.told;
+      asked = is.asked;
+      ended = is.behind_end;
       kept = λ n was. absurd (not_both _ n unmet was);
       unmet = λ none. absurd (not_both _ _ none refl);
       met = λ none n was. omega (arith, c.saturating_add-self-in-None.ensures, is.same_faults);
       holds = λ none n was. holds_bad found _ _ _ _ _ n is.place (λ e less. is.ends (ap (λ o. Ok o) e) less) line c.in-None.ensures.spells some
           (omega (arith, c.saturating_add.ensures)) was;
       bad_count = omega (arith, c.saturating_add-self-in-None.ensures, is.same_faults);
-      number = λ none n was text told.
-          let m = is.text text told in
-          let first = first_of _ text _ _ found _ m is.place (λ e less. is.ends (ap (λ o. Ok o) e) less) in
-          bad_number _ text _ m.rest _ found _ _ _ first line c.in-None.ensures.spells some (omega (arith, c.saturating_add.ensures, is.same_line)) ∙ was;
-      spent = λ none n was text told.
-          let m = is.text text told in
-          let first = first_of _ text _ _ found _ m is.place (λ e less. is.ends (ap (λ o. Ok o) e) less) in
-          none_left _ text _ m.rest _ _ found _ first line c.in-None.ensures.spells m.left_is;
-      lines = λ t told. rw is.same_line (LaterText-none _ t _ _ _ _ (is.text t told));
     }

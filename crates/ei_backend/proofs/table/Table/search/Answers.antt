@@ -4,7 +4,7 @@ use Rattle.ei_spec.specs.Interface.{ObjectView}
 use Rattle.ei_backend.specs.Table.{TableView, by_id, is_own}
 use Rattle.ei_backend.proofs.FirstObject.{first_found}
 use Rattle.ei_backend.proofs.OwnAndPeer.{own_ordered, peer_ordered, found_own, found_peer}
-use Rattle.ei_backend.proofs.table.Table.object_for_id.Goals as goal
+use Rattle.ei_backend.proofs.table.Table.search.Goals as goal
 
 pub look_up-requires : goal.look_up-requires
 look_up-requires c = rw c.deref.ensures.value (own_ordered _ _ _ _ _ c.self.invariant)

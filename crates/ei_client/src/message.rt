@@ -1,0 +1,41 @@
+//! What the events of each interface promise.
+
+ghost use Rattle.std.specs.Prelude.{◌≡◌, ℕ, List, Option, None, IfOk, OnErr, true};
+ghost use Rattle.ei_spec.specs.Value.{Value};
+ghost use Rattle.ei_spec.specs.Interface.{ObjectView};
+ghost use Rattle.ei_spec.specs.declared.interface.KnownInterface.{KnownInterface};
+ghost use Rattle.ei_backend.specs.Proxies.{Announced, ReadsRow, Shows};
+
+use ei_backend::Table;
+use ei_wire::{Arg, ByteStream, NoMemory, ParseError};
+use std::alloc::Global;
+
+/// A message that was read, or why there is none.
+pub(crate) type Parsed<T> = Result<T, ParseError>;
+
+/// The events of one interface, by their rows in the table of messages.
+pub(crate) trait Message: Sized {
+    ghost code: { Self → ℕ };
+
+    ghost values: { Self → List Value };
+
+    /// The object that the event announces; none, unless an `impl` says so.
+    ghost announced: { Self → Option ObjectView } = { λ _. None };
+
+    /// The interface.
+    ghost KNOWN: { KnownInterface };
+
+    /// Reads the arguments of an event of that opcode, and announces the object that it bears.
+    fn parse(opcode: u32, bytes: &mut ByteStream<'_>, objects: &mut Table) -> Parsed<Self>
+        ensures read { ReadsRow values true KNOWN opcode bytes.old bytes.new objects.old objects.new result }
+        ensures code { IfOk result (λ m. code m ≡ opcode) }
+        ensures announced { IfOk result (λ m. Announced (announced m) objects.old objects.new) }
+        ensures err { OnErr result (objects.new ≡ objects.old) };
+
+    fn opcode(&self) -> u32
+        ensures { result ≡ code self.now };
+
+    /// The arguments in order.
+    fn args(&self, alloc: Global) -> Result<Vec<Arg<'_>>, NoMemory>
+        ensures { IfOk result (λ args. Shows true KNOWN (code self.now) (values self.now) args.items) };
+}

@@ -1,0 +1,25 @@
+//! The request by which a client gives an object back.
+
+ghost use Rattle.std.specs.Prelude.{◌≡◌, Some, false, codes, []};
+ghost use Rattle.ei_spec.specs.Rows.{row_named};
+ghost use Rattle.ei_spec.specs.Table.{table, release};
+ghost use Rattle.ei_client.specs.Words.{Sends};
+
+use crate::prelude::*;
+use ei_backend::Kind;
+
+/// The kinds whose objects a client gives back by `release`, their request 0.
+pub trait Release: Kind {
+    ghost row: { row_named (codes "release") (table false Self.KNOWN) ≡ Some (0, release) };
+}
+
+impl<K: Release> Proxy<K> {
+    /// Tells the server that the client is done with the object. It stays until the server takes it away.
+    ///
+    /// `NoMemory`: nothing is sent.
+    pub fn release(&self, ctx: &mut Context) -> Sent
+        ensures sends { Sends (row_named (codes "release") (table false K.KNOWN)) self.now [] ctx.old ctx.new result }
+    {
+        self.object.request(ctx, 0, &[])
+    }
+}

@@ -1,0 +1,26 @@
+//! The event by which the server takes an object away.
+
+ghost use Rattle.std.specs.Prelude.{◌≡◌, Some, true, codes, [], ◌∷◌};
+ghost use Rattle.ei_spec.specs.Rows.{row_named};
+ghost use Rattle.ei_spec.specs.Table.{table, destroyed};
+ghost use Rattle.ei_server.specs.Words.{Word, Sends};
+
+use crate::prelude::*;
+use ei_backend::Kind;
+
+/// The kinds whose objects the server takes away by `destroyed`, their event 0.
+pub trait Destroyed: Kind {
+    ghost row: { row_named (codes "destroyed") (table true Self.KNOWN) ≡ Some (0, destroyed) };
+}
+
+impl<K: Destroyed> Proxy<K> {
+    /// Tells the client that the object is gone, as the event of this serial, and takes it out of the table.
+    /// The devices of a seat and the interfaces of a device stay.
+    ///
+    /// `NoMemory`: nothing is sent, and the object stays.
+    pub fn destroyed(&self, ctx: &mut Context, serial: u32) -> Sent
+        ensures sends { Sends (row_named (codes "destroyed") (table true K.KNOWN)) self.now (Word serial ∷ []) ctx.old ctx.new result }
+    {
+        self.send_last(ctx, 0, &[Arg::Uint32(serial)])
+    }
+}

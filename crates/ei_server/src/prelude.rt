@@ -1,0 +1,12 @@
+//! What the files of proxies name, in one place.
+
+pub(crate) use crate::context::Context;
+pub(crate) use crate::destroyed::Destroyed;
+pub(crate) use crate::message::{Message, Parsed};
+pub(crate) use crate::proxy::{Proxy, Sent};
+pub(crate) use ei_backend::{HasBackend, Interface, Table, kinds};
+pub(crate) use ei_wire::{
+    Arg, ByteStream, EiText, Handle, NoMemory, OwnedArg, ParseError, RawFloat, SendError, read_one,
+    read_three, read_two,
+};
+pub(crate) use std::alloc::Global;

@@ -1,0 +1,120 @@
+-- The bad line among the bytes that an input gave, whatever it tells of its text.
+use Rattle.std.proofs.Common.{◌≡◌, ◌<◌, ◌≤◌, ◌⊎◌, inl, inr, ℕ, ◌+◌, ◌-◌, List, [], ◌∷◌, ◌++◌, length, get_or, map, refl, ap, sym, ◌∙◌, subst}
+use Rattle.std.proofs.Common.{arith, Some, length-append}
+use Rattle.std.proofs.lemmas.List.{append-nil, length-map, length-take-le}
+use Rattle.std.proofs.Math.Seq.{get_or-append_seam}
+use Rattle.std.specs.Prelude.{◌==◌, Option, Bool, true, false, if◌then◌else◌}
+use Rattle.std.specs.Option.{option_map}
+use Rattle.ei_spec.specs.Piece.{Piece}
+use Rattle.ei_backend.specs.Outside.{is_end}
+use Rattle.ei_backend.specs.declared.outside.LastAnswer.{LastAnswer}
+use Rattle.reis_lines.specs.Text.{has_newline, before_newline, onto, split, Spell, bad_line_of, whole_lines}
+use Rattle.reis_lines.specs.Given.{given_since, line_at, HasBadLine, MetBadLine}
+use Rattle.reis_lines.specs.HexSource.{Reading, fresh, joined_lines, AreLines, KnowsEnd, HoldsBadLine, LaterReading}
+use Rattle.reis_lines.specs.Lent.{LentInput}
+use Rattle.reis_lines.proofs.TextLaws.{split_all}
+use Rattle.reis_lines.proofs.GaveLaws.{since_is}
+use Rattle.reis_lines.proofs.GivenLaws.{AreEnded, split_lines}
+use Rattle.reis_lines.proofs.ToldLaws.{bad_on, bad_first, newline_at, split_before}
+
+-- lines in front of some bytes have their newlines
+ended_before : (ls : List (List ℕ)) (rest : List ℕ) (ended : Bool) → AreLines ls rest ended → 0 < length rest → AreEnded ls
+ended_before [] rest ended w some = tt
+ended_before (l ∷ ls) rest ended (inl w) some = (w.0, ended_before ls rest ended w.1 some)
+ended_before (l ∷ ls) rest ended (inr w) some = absurd (omega (arith, ap length w.3))
+
+some_onto : (a : List ℕ) (ls : List (List ℕ)) → 0 < length (onto a ls)
+some_onto a [] = omega arith
+some_onto a (l ∷ ls) = omega arith
+
+some_if : (t : Bool) (u v : List (List ℕ)) → 0 < length u → 0 < length v → 0 < length (if t then u else v)
+some_if true u v p q = p
+some_if false u v p q = q
+
+-- each text has a line
+some_line : (t : List ℕ) → 0 < length (split t)
+some_line [] = omega arith
+some_line (b ∷ bs) = some_if (b == 10) ([] ∷ split bs) (onto (b ∷ []) (split bs)) (omega arith) (some_onto (b ∷ []) (split bs))
+
+-- and one with a newline has two
+two_lines : (t : List ℕ) → has_newline t ≡ true → 2 ≤ length (split t)
+two_lines t has =
+    let r = newline_at t has in
+    let lines : split t ≡ before_newline t ∷ split (r.0 ++ []) = ap split (sym (append-nil t)) ∙ split_before t r.0 [] r.1 in
+    omega (arith, ap length lines, some_line (r.0 ++ []))
+
+whole_count : (t : List ℕ) → length (whole_lines t) ≡ length (split t) - 1
+whole_count t = length-take-le (length (split t) - 1) (split t) (omega arith)
+
+-- the line behind some lines is whole
+line_whole : (t : Bool) (ls : List (List ℕ)) (held : List ℕ) (ended : Bool) → has_newline held ≡ t → AreEnded ls →
+    (has_newline held ≡ true) ⊎ ((131072 < length held) ⊎ (ended ≡ true)) →
+    (length ls + 1 ≤ length (whole_lines (joined_lines ls ++ held))) ⊎ ((131072 < length (line_at (joined_lines ls ++ held) (length ls + 1))) ⊎ (ended ≡ true))
+line_whole true ls held ended has newlines whole =
+    let all = joined_lines ls ++ held in
+    let lines : split all ≡ map before_newline ls ++ split held = split_lines ls held newlines in
+    inl (omega (arith, whole_count all, ap length lines, length-append (map before_newline ls) (split held), length-map ls before_newline, two_lines held has))
+line_whole false ls held ended has newlines (inl newline) = absurd cc
+line_whole false ls held ended has newlines (inr (inl long)) =
+    let all = joined_lines ls ++ held in
+    let lines : split all ≡ map before_newline ls ++ held ∷ [] = split_lines ls held newlines ∙ ap (λ v. map before_newline ls ++ v) (split_all held has) in
+    let place : length ls + 1 - 1 ≡ length (map before_newline ls) = omega (arith, length-map ls before_newline) in
+    let line : line_at all (length ls + 1) ≡ held =
+    ap (λ k. get_or (split all) k []) place ∙ ap (λ v. get_or v (length (map before_newline ls)) []) lines ∙ get_or-append_seam (map before_newline ls) held [] [] in
+    inr (inl (omega (arith, ap length line)))
+line_whole false ls held ended has newlines (inr (inr end)) = inr (inr end)
+
+some_held : (held : List ℕ) → 0 < length (before_newline held) → 0 < length held
+some_held [] some = some
+some_held (b ∷ bs) some = omega arith
+
+-- lines that spell pieces and then a bad line that is held
+has_bad_line : (ls : List (List ℕ)) (held : List ℕ) (ps : List Piece) (ended : Bool) (line n : ℕ) → AreLines ls held ended → Spell (map before_newline ls) ps →
+    HoldsBadLine held ended line n → HasBadLine (joined_lines ls ++ held) ended (length ls + 1)
+has_bad_line ls held ps ended line n w s h = record {
+  first =
+      bad_on ls held ended ps w s
+      ∙ ap (λ v. option_map (λ k. length ls + k) (bad_line_of v)) (sym (append-nil held))
+      ∙ ap (option_map (λ k. length ls + k)) (bad_first held [] ended line n h (λ _. refl));
+  whole = line_whole (has_newline held) ls held ended refl (ended_before ls held ended w (some_held held h.some)) h.whole;
+}
+
+-- where the end is known it was answered
+has_as_known : (bytes : List ℕ) (ended end : Bool) (place : ℕ) → (ended ≡ true → end ≡ true) → HasBadLine bytes ended place → HasBadLine bytes end place
+has_as_known bytes ended end place known h = record {
+  first = h.first;
+  whole = elim h.whole [ inl newline ↦ inl newline | inr (inl long) ↦ inr (inl long) | inr (inr e) ↦ inr (inr (known e)) ];
+}
+
+known_end : {I : Type 0} (last : I → LastAnswer) (x y : Reading I) → KnowsEnd last x y → x.ended ≡ false → y.ended ≡ true → is_end (last y.input) ≡ true
+known_end last x y (inl same) open_yet e = absurd cc
+known_end last x y (inr is) open_yet e = sym is ∙ e
+
+module _ {I : Type 0} (text : I → Option (List ℕ)) (given : I → List ℕ) (last : I → LastAnswer) (faults : I → ℕ) (later : I → I → Type 0) where
+  -- the bad line that a source over a fresh input met is the first among the bytes given
+  pub met_bad_line : (old : I) (y : Reading I) (n : ℕ) → LaterReading text given last faults later (fresh old) y → y.bad ≡ Some n → MetBadLine given last old y.input n
+  met_bad_line old y n r is =
+      let l = r.lines in
+      let h = r.holds refl n is in
+      let since : given_since given old y.input ≡ joined_lines l.lines ++ y.held = since_is given old y.input r.bytes r.gave ∙ l.same in
+      record {
+        place = length l.lines + 1;
+        bad =
+            has_as_known (given_since given old y.input) y.ended (is_end (last y.input)) (length l.lines + 1) (known_end last (fresh old) y r.asked refl)
+            (subst (λ (v : List ℕ). HasBadLine v y.ended (length l.lines + 1)) (sym since)
+            (has_bad_line l.lines y.held l.pieces y.ended y.line n l.are_lines l.spelled h));
+        number = omega (arith, h.number, l.grown);
+      }
+
+  -- what a call says of an input that a source read
+  pub lent_by : (old : I) (y : Reading I) → LaterReading text given last faults later (fresh old) y → LentInput text given faults later old y.input
+  lent_by old y r =
+      let since = since_is given old y.input r.bytes r.gave in
+      record {
+        gave = r.gave ∙ ap (λ v. given old ++ v) (sym since);
+        told = λ t told.
+            let m = r.left t told in
+            (m.0, r.told t told told ∙ m.1, m.2 ∙ ap (λ v. v ++ m.0) (sym since));
+        input_faults = r.count;
+        later_input = r.input;
+      }

@@ -1,0 +1,40 @@
+-- The bytes that an input gave, whatever it tells of its text, and the bad line among them.
+use Rattle.std.specs.Prelude.{◌≡◌, ◌<◌, ◌≤◌, ◌⊎◌, ℕ, ◌-◌, ◌^◌, min, nat_le, Bool, true, false, List, [], ◌++◌, length, drop, get_or, Option, Some, None}
+use Rattle.std.specs.Prelude.{Result, Ok}
+use Rattle.ei_backend.specs.Outside.{is_end}
+use Rattle.ei_backend.specs.declared.outside.Fault.{Fault}
+use Rattle.ei_backend.specs.declared.outside.LastAnswer.{LastAnswer}
+use Rattle.reis_lines.specs.Text.{split, bad_line_of, whole_lines}
+use Rattle.reis_lines.specs.declared.held.TheConstants.{LONGEST_LINE}
+
+-- what was given came behind the bytes held
+pub record GaveBehind (given_old given_new held_old held_new : List ℕ) : Type 0 where
+  pub bytes : List ℕ
+  pub gave : given_new ≡ given_old ++ bytes
+  pub held : held_new ≡ held_old ++ bytes
+
+-- whether a search for a line came to the end of the text: it found none, and no more bytes are held than a line may have
+abbrev pub came_to_end : Result (Option ℕ) Fault → ℕ → Bool
+came_to_end (Ok None) count = nat_le count LONGEST_LINE
+came_to_end result count = false
+
+-- the bytes that an input gave from one state to another
+abbrev pub given_since : {I : Type 0} → (I → List ℕ) → I → I → List ℕ
+given_since given old new = drop (length (given old)) (given new)
+
+-- the line at a place, from 1
+abbrev pub line_at : List ℕ → ℕ → List ℕ
+line_at bytes place = get_or (split bytes) (place - 1) []
+
+-- The first bad line of these bytes is at this place, from 1, and it is whole: a newline ends it, or it has more bytes than a
+-- line may have, or nothing follows these bytes.
+pub record HasBadLine (bytes : List ℕ) (ended : Bool) (place : ℕ) : Type 0 where
+  pub first : bad_line_of bytes ≡ Some place
+  pub whole : (place ≤ length (whole_lines bytes)) ⊎ ((LONGEST_LINE < length (line_at bytes place)) ⊎ (ended ≡ true))
+
+-- The bytes that an input gave from one state to another have a first bad line, which is whole, and this is its number: its place,
+-- up to the last value of 64 bits. Nothing follows where the input's last answer was its end.
+pub record MetBadLine {I : Type 0} (given : I → List ℕ) (last : I → LastAnswer) (old new : I) (n : ℕ) : Type 0 where
+  pub place : ℕ
+  pub bad : HasBadLine (given_since given old new) (is_end (last new)) place
+  pub number : n ≡ min place (2 ^ 64 - 1)
