@@ -1,0 +1,65 @@
+//! The words that the program takes.
+
+ghost use Rattle.std.specs.Prelude.{◌<◌, ◌≤◌, IfSome};
+ghost use Rattle.reis_bench.specs.Words.{IsWithin};
+
+/// What is written where the words are refused.
+pub(crate) const USAGE: &str =
+    "usage: reis_bench parse <piece> <groups> | send <messages> | client <messages> | handshake <messages>";
+
+/// The most bytes of a piece.
+const PIECE: u32 = 65536;
+
+/// The most groups of a generated stream.
+const GROUPS: u32 = 100_000;
+
+/// The most messages of a row.
+const MESSAGES: u32 = 1_000_000;
+
+/// What is measured.
+#[derive(Clone, Copy)]
+pub(crate) enum Row {
+    /// A server reads the generated stream of so many groups, in pieces of so many bytes.
+    Parse(u32, u32),
+    /// A server sends so many motions.
+    Send(u32),
+    /// A client reads so many motions.
+    Client(u32),
+    /// A session over a handshake of so many versions of interfaces.
+    Handshake(u32),
+}
+
+/// The number of a decimal from 1 to the limit.
+fn number(text: &str, limit: u32) -> Option<u32>
+    ensures some { IfSome result (λ n. 0 < n) }
+    ensures within { IfSome result (λ n. n ≤ limit) }
+{
+    match text.parse::<u32>() {
+        Ok(n) if n > 0 && n <= limit => Some(n),
+        _ => None,
+    }
+}
+
+impl Row {
+    /// The row that the words ask for.
+    pub(crate) fn from_words(words: &[String]) -> Option<Row>
+        ensures within { IfSome result IsWithin }
+    {
+        match words {
+            [row, piece, groups] if row.as_str() == "parse" => {
+                let piece = number(piece.as_str(), PIECE)?;
+                Some(Row::Parse(piece, number(groups.as_str(), GROUPS)?))
+            }
+            [row, messages] if row.as_str() == "send" => {
+                Some(Row::Send(number(messages.as_str(), MESSAGES)?))
+            }
+            [row, messages] if row.as_str() == "client" => {
+                Some(Row::Client(number(messages.as_str(), MESSAGES)?))
+            }
+            [row, messages] if row.as_str() == "handshake" => {
+                Some(Row::Handshake(number(messages.as_str(), MESSAGES)?))
+            }
+            _ => None,
+        }
+    }
+}
