@@ -121,15 +121,20 @@ impl From<ParseError> for Error {
     }
 }
 
+/// The error of the same name, by the variants of the other enum.
+macro_rules! of_same_name {
+    ($e:expr, $from:ident: $($name:ident),+) => {
+        match $e {
+            $($from::$name => Error::$name,)+
+        }
+    };
+}
+
 impl From<SendError> for Error {
     ghost from_gives = { λ e whole. whole ≡ error_of_send e };
 
     fn from(e: SendError) -> Error {
-        match e {
-            SendError::MessageTooLong => Error::MessageTooLong,
-            SendError::IdsExhausted => Error::IdsExhausted,
-            SendError::NoMemory => Error::NoMemory,
-        }
+        of_same_name!(e, SendError: MessageTooLong, IdsExhausted, NoMemory)
     }
 }
 
@@ -137,12 +142,7 @@ impl From<ReadError> for Error {
     ghost from_gives = { λ e whole. whole ≡ error_of_read e };
 
     fn from(e: ReadError) -> Error {
-        match e {
-            ReadError::UnexpectedEof => Error::UnexpectedEof,
-            ReadError::ReadFault => Error::ReadFault,
-            ReadError::HandleLimit => Error::HandleLimit,
-            ReadError::NoMemory => Error::NoMemory,
-        }
+        of_same_name!(e, ReadError: UnexpectedEof, ReadFault, HandleLimit, NoMemory)
     }
 }
 
@@ -150,10 +150,7 @@ impl From<FlushError> for Error {
     ghost from_gives = { λ e whole. whole ≡ error_of_flush e };
 
     fn from(e: FlushError) -> Error {
-        match e {
-            FlushError::WriteFault => Error::WriteFault,
-            FlushError::NoMemory => Error::NoMemory,
-        }
+        of_same_name!(e, FlushError: WriteFault, NoMemory)
     }
 }
 
