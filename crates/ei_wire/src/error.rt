@@ -14,6 +14,15 @@ use std::fmt;
 #[derive(Clone, Copy, Debug, PartialEq, Eq, Hash)]
 pub struct NoMemory;
 
+/// What an allocation answers where memory ran out. The errors here are made of it.
+pub trait MemoryError: Drop {}
+
+impl MemoryError for NoMemory {}
+
+impl MemoryError for AllocError {}
+
+impl<T: Drop> MemoryError for AllocFailed<T> {}
+
 impl From<AllocError> for NoMemory {
     fn from(_e: AllocError) -> NoMemory {
         NoMemory
@@ -174,74 +183,26 @@ impl fmt::Display for FlushError {
 
 impl std::error::Error for FlushError {}
 
-impl From<NoMemory> for ParseError {
+impl<E: MemoryError> From<E> for ParseError {
     ghost from_gives = { λ _ e. e ≡ error.NoMemory };
 
-    fn from(_e: NoMemory) -> ParseError {
+    fn from(_e: E) -> ParseError {
         ParseError::NoMemory
     }
 }
 
-impl From<AllocError> for ParseError {
-    ghost from_gives = { λ _ e. e ≡ error.NoMemory };
-
-    fn from(_e: AllocError) -> ParseError {
-        ParseError::NoMemory
-    }
-}
-
-impl<T: Drop> From<AllocFailed<T>> for ParseError {
-    ghost from_gives = { λ _ e. e ≡ error.NoMemory };
-
-    fn from(_e: AllocFailed<T>) -> ParseError {
-        ParseError::NoMemory
-    }
-}
-
-impl From<NoMemory> for SendError {
+impl<E: MemoryError> From<E> for SendError {
     ghost from_gives = { λ _ e. e ≡ send_error.NoMemory };
 
-    fn from(_e: NoMemory) -> SendError {
+    fn from(_e: E) -> SendError {
         SendError::NoMemory
     }
 }
 
-impl From<AllocError> for SendError {
-    ghost from_gives = { λ _ e. e ≡ send_error.NoMemory };
-
-    fn from(_e: AllocError) -> SendError {
-        SendError::NoMemory
-    }
-}
-
-impl<T: Drop> From<AllocFailed<T>> for SendError {
-    ghost from_gives = { λ _ e. e ≡ send_error.NoMemory };
-
-    fn from(_e: AllocFailed<T>) -> SendError {
-        SendError::NoMemory
-    }
-}
-
-impl From<NoMemory> for ReadError {
+impl<E: MemoryError> From<E> for ReadError {
     ghost from_gives = { λ _ e. e ≡ read_error.NoMemory };
 
-    fn from(_e: NoMemory) -> ReadError {
-        ReadError::NoMemory
-    }
-}
-
-impl From<AllocError> for ReadError {
-    ghost from_gives = { λ _ e. e ≡ read_error.NoMemory };
-
-    fn from(_e: AllocError) -> ReadError {
-        ReadError::NoMemory
-    }
-}
-
-impl<T: Drop> From<AllocFailed<T>> for ReadError {
-    ghost from_gives = { λ _ e. e ≡ read_error.NoMemory };
-
-    fn from(_e: AllocFailed<T>) -> ReadError {
+    fn from(_e: E) -> ReadError {
         ReadError::NoMemory
     }
 }
