@@ -97,6 +97,16 @@ pub enum Request {
     Disconnect,
 }
 
+/// The rows, from which the macros of `rows.rt` write the bodies below.
+macro_rules! rows {
+    ($write:ident $with:tt) => {
+        $write! { $with Request "connection";
+            0 => Sync { callback: new Callback },
+            1 => Disconnect,
+        }
+    };
+}
+
 impl Message for Request {
     ghost code = { opcode_of };
 
@@ -108,28 +118,14 @@ impl Message for Request {
 
     #[inline(always)]
     fn parse(opcode: u32, bytes: &mut ByteStream<'_>, objects: &mut Table) -> Parsed<Request> {
-        match opcode {
-            0 => {
-                let (id, version) = read_two(bytes)?;
-                let callback = Callback::announced(objects, id, version)?;
-                Ok(Request::Sync { callback })
-            }
-            1 => Ok(Request::Disconnect),
-            _ => Err(ParseError::InvalidOpcode("connection", opcode)),
-        }
+        rows!(read_row(opcode, bytes, objects))
     }
 
     fn opcode(&self) -> u32 {
-        match self {
-            Request::Sync { .. } => 0,
-            Request::Disconnect => 1,
-        }
+        rows!(opcode_of(self))
     }
 
     fn args(&self, alloc: Global) -> Result<Vec<Arg<'_>>, NoMemory> {
-        Ok(match self {
-            Request::Sync { callback } => Vec::from_array(alloc, [callback.as_arg()])?,
-            Request::Disconnect => Vec::new(alloc),
-        })
+        rows!(show_row(self, alloc))
     }
 }

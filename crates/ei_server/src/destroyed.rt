@@ -1,6 +1,6 @@
 //! The event by which the server takes an object away.
 
-ghost use Rattle.std.specs.Prelude.{◌≡◌, Some, true, codes, [], ◌∷◌};
+ghost use Rattle.std.specs.Prelude.{◌≡◌, Some, true, refl, codes, [], ◌∷◌};
 ghost use Rattle.ei_spec.specs.Rows.{row_named};
 ghost use Rattle.ei_spec.specs.Table.{table, destroyed};
 ghost use Rattle.ei_server.specs.Words.{Word, Sends};
@@ -11,6 +11,42 @@ use ei_backend::Kind;
 /// The kinds whose objects the server takes away by `destroyed`, their event 0.
 pub trait Destroyed: Kind {
     ghost row: { row_named (codes "destroyed") (table true Self.KNOWN) ≡ Some (0, destroyed) };
+}
+
+impl Destroyed for kinds::Seat {
+    ghost row = { refl };
+}
+
+impl Destroyed for kinds::Device {
+    ghost row = { refl };
+}
+
+impl Destroyed for kinds::Pointer {
+    ghost row = { refl };
+}
+
+impl Destroyed for kinds::PointerAbsolute {
+    ghost row = { refl };
+}
+
+impl Destroyed for kinds::Scroll {
+    ghost row = { refl };
+}
+
+impl Destroyed for kinds::Button {
+    ghost row = { refl };
+}
+
+impl Destroyed for kinds::Keyboard {
+    ghost row = { refl };
+}
+
+impl Destroyed for kinds::Touchscreen {
+    ghost row = { refl };
+}
+
+impl Destroyed for kinds::Text {
+    ghost row = { refl };
 }
 
 impl<K: Destroyed> Proxy<K> {

@@ -1,6 +1,6 @@
 //! `ei_device`: a device, which has interfaces for input.
 
-ghost use Rattle.std.specs.Prelude.{refl, codes, [], ◌∷◌};
+ghost use Rattle.std.specs.Prelude.{codes, [], ◌∷◌};
 ghost use Rattle.ei_spec.specs.Interface.{name_of};
 ghost use Rattle.ei_server.specs.Words.{KnownInterface, Word, Long, Letters, Sends, SendsText, SendsNew, device_type_number};
 ghost use Rattle.ei_server.specs.Device.{opcode_of, values_of, event};
@@ -11,10 +11,6 @@ use ei_types::DeviceType;
 
 /// A device.
 pub type Device = Proxy<kinds::Device>;
-
-impl Destroyed for kinds::Device {
-    ghost row = { refl };
-}
 
 impl Device {
     /// Names the device.
@@ -178,6 +174,19 @@ pub enum Request {
     Ready,
 }
 
+/// The rows, from which the macros of `rows.rt` write the bodies below.
+macro_rules! rows {
+    ($write:ident $with:tt) => {
+        $write! { $with Request "device";
+            0 => Release,
+            1 => StartEmulating { last_serial: Uint32, sequence: Uint32 },
+            2 => StopEmulating { last_serial: Uint32 },
+            3 => Frame { last_serial: Uint32, timestamp: Uint64 },
+            4 => Ready,
+        }
+    };
+}
+
 impl Message for Request {
     ghost code = { opcode_of };
 
@@ -186,56 +195,15 @@ impl Message for Request {
     ghost KNOWN = { KnownInterface.Device };
 
     #[inline(always)]
-    fn parse(opcode: u32, bytes: &mut ByteStream<'_>, _: &mut Table) -> Parsed<Request> {
-        match opcode {
-            0 => Ok(Request::Release),
-            1 => {
-                let (last_serial, sequence) = read_two(bytes)?;
-                Ok(Request::StartEmulating {
-                    last_serial,
-                    sequence,
-                })
-            }
-            2 => Ok(Request::StopEmulating {
-                last_serial: read_one(bytes)?,
-            }),
-            3 => {
-                let (last_serial, timestamp) = read_two(bytes)?;
-                Ok(Request::Frame {
-                    last_serial,
-                    timestamp,
-                })
-            }
-            4 => Ok(Request::Ready),
-            _ => Err(ParseError::InvalidOpcode("device", opcode)),
-        }
+    fn parse(opcode: u32, bytes: &mut ByteStream<'_>, objects: &mut Table) -> Parsed<Request> {
+        rows!(read_row(opcode, bytes, objects))
     }
 
     fn opcode(&self) -> u32 {
-        match self {
-            Request::Release => 0,
-            Request::StartEmulating { .. } => 1,
-            Request::StopEmulating { .. } => 2,
-            Request::Frame { .. } => 3,
-            Request::Ready => 4,
-        }
+        rows!(opcode_of(self))
     }
 
     fn args(&self, alloc: Global) -> Result<Vec<Arg<'_>>, NoMemory> {
-        Ok(match self {
-            Request::Release | Request::Ready => Vec::new(alloc),
-            Request::StartEmulating {
-                last_serial,
-                sequence,
-            } => Vec::from_array(alloc, [Arg::Uint32(*last_serial), Arg::Uint32(*sequence)])?,
-            Request::StopEmulating { last_serial } => Vec::from_array(
-                alloc,
-                [Arg::Uint32(*last_serial)],
-            )?,
-            Request::Frame {
-                last_serial,
-                timestamp,
-            } => Vec::from_array(alloc, [Arg::Uint32(*last_serial), Arg::Uint64(*timestamp)])?,
-        })
+        rows!(show_row(self, alloc))
     }
 }

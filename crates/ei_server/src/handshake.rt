@@ -73,6 +73,19 @@ pub enum Request {
     InterfaceVersion { name: EiText, version: u32 },
 }
 
+/// The rows, from which the macros of `rows.rt` write the bodies below.
+macro_rules! rows {
+    ($write:ident $with:tt) => {
+        $write! { $with Request "handshake";
+            0 => HandshakeVersion { version: Uint32 },
+            1 => Finish,
+            2 => ContextType { context_type: Enum },
+            3 => Name { name: Text },
+            4 => InterfaceVersion { name: Text, version: Uint32 },
+        }
+    };
+}
+
 impl Message for Request {
     ghost code = { opcode_of };
 
@@ -81,53 +94,15 @@ impl Message for Request {
     ghost KNOWN = { KnownInterface.Handshake };
 
     #[inline(always)]
-    fn parse(opcode: u32, bytes: &mut ByteStream<'_>, _: &mut Table) -> Parsed<Request> {
-        match opcode {
-            0 => Ok(Request::HandshakeVersion {
-                version: read_one(bytes)?,
-            }),
-            1 => Ok(Request::Finish),
-            2 => Ok(Request::ContextType {
-                context_type: read_one(bytes)?,
-            }),
-            3 => Ok(Request::Name {
-                name: read_one(bytes)?,
-            }),
-            4 => {
-                let (name, version) = read_two(bytes)?;
-                Ok(Request::InterfaceVersion { name, version })
-            }
-            _ => Err(ParseError::InvalidOpcode("handshake", opcode)),
-        }
+    fn parse(opcode: u32, bytes: &mut ByteStream<'_>, objects: &mut Table) -> Parsed<Request> {
+        rows!(read_row(opcode, bytes, objects))
     }
 
     fn opcode(&self) -> u32 {
-        match self {
-            Request::HandshakeVersion { .. } => 0,
-            Request::Finish => 1,
-            Request::ContextType { .. } => 2,
-            Request::Name { .. } => 3,
-            Request::InterfaceVersion { .. } => 4,
-        }
+        rows!(opcode_of(self))
     }
 
     fn args(&self, alloc: Global) -> Result<Vec<Arg<'_>>, NoMemory> {
-        Ok(match self {
-            Request::HandshakeVersion { version } => Vec::from_array(
-                alloc,
-                [Arg::Uint32(*version)],
-            )?,
-            Request::Finish => Vec::new(alloc),
-            Request::ContextType { context_type } => {
-                Vec::from_array(alloc, [Arg::Uint32(u32::from(*context_type))])?
-            }
-            Request::Name { name } => Vec::from_array(alloc, [Arg::String(Some(name.as_str()))])?,
-            Request::InterfaceVersion { name, version } => {
-                Vec::from_array(
-                    alloc,
-                    [Arg::String(Some(name.as_str())), Arg::Uint32(*version)],
-                )?
-            }
-        })
+        rows!(show_row(self, alloc))
     }
 }

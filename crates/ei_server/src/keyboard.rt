@@ -1,6 +1,6 @@
 //! `ei_keyboard`: the keys of a device.
 
-ghost use Rattle.std.specs.Prelude.{refl, codes, [], ◌∷◌};
+ghost use Rattle.std.specs.Prelude.{codes, [], ◌∷◌};
 ghost use Rattle.ei_server.specs.Words.{KnownInterface, Word, Fd, Sends, key_state_number, keymap_type_number};
 ghost use Rattle.ei_server.specs.Keyboard.{opcode_of, values_of, event};
 
@@ -9,10 +9,6 @@ use ei_types::{KeyState, KeymapType};
 
 /// The keys of a device.
 pub type Keyboard = Proxy<kinds::Keyboard>;
-
-impl Destroyed for kinds::Keyboard {
-    ghost row = { refl };
-}
 
 impl Keyboard {
     /// Tells the client what the keys mean: the handle is of a keymap of so many bytes.
@@ -79,6 +75,16 @@ pub enum Request {
     Key { key: u32, state: KeyState },
 }
 
+/// The rows, from which the macros of `rows.rt` write the bodies below.
+macro_rules! rows {
+    ($write:ident $with:tt) => {
+        $write! { $with Request "keyboard";
+            0 => Release,
+            1 => Key { key: Uint32, state: Enum },
+        }
+    };
+}
+
 impl Message for Request {
     ghost code = { opcode_of };
 
@@ -87,30 +93,15 @@ impl Message for Request {
     ghost KNOWN = { KnownInterface.Keyboard };
 
     #[inline(always)]
-    fn parse(opcode: u32, bytes: &mut ByteStream<'_>, _: &mut Table) -> Parsed<Request> {
-        match opcode {
-            0 => Ok(Request::Release),
-            1 => {
-                let (key, state) = read_two(bytes)?;
-                Ok(Request::Key { key, state })
-            }
-            _ => Err(ParseError::InvalidOpcode("keyboard", opcode)),
-        }
+    fn parse(opcode: u32, bytes: &mut ByteStream<'_>, objects: &mut Table) -> Parsed<Request> {
+        rows!(read_row(opcode, bytes, objects))
     }
 
     fn opcode(&self) -> u32 {
-        match self {
-            Request::Release => 0,
-            Request::Key { .. } => 1,
-        }
+        rows!(opcode_of(self))
     }
 
     fn args(&self, alloc: Global) -> Result<Vec<Arg<'_>>, NoMemory> {
-        Ok(match self {
-            Request::Release => Vec::new(alloc),
-            Request::Key { key, state } => {
-                Vec::from_array(alloc, [Arg::Uint32(*key), Arg::Uint32(u32::from(*state))])?
-            }
-        })
+        rows!(show_row(self, alloc))
     }
 }

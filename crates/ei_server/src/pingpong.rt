@@ -15,6 +15,15 @@ pub enum Request {
     Done { callback_data: u64 },
 }
 
+/// The rows, from which the macros of `rows.rt` write the bodies below.
+macro_rules! rows {
+    ($write:ident $with:tt) => {
+        $write! { $with Request "pingpong";
+            0 => Done { callback_data: Uint64 },
+        }
+    };
+}
+
 impl Message for Request {
     ghost code = { opcode_of };
 
@@ -23,27 +32,15 @@ impl Message for Request {
     ghost KNOWN = { KnownInterface.Pingpong };
 
     #[inline(always)]
-    fn parse(opcode: u32, bytes: &mut ByteStream<'_>, _: &mut Table) -> Parsed<Request> {
-        match opcode {
-            0 => Ok(Request::Done {
-                callback_data: read_one(bytes)?,
-            }),
-            _ => Err(ParseError::InvalidOpcode("pingpong", opcode)),
-        }
+    fn parse(opcode: u32, bytes: &mut ByteStream<'_>, objects: &mut Table) -> Parsed<Request> {
+        rows!(read_row(opcode, bytes, objects))
     }
 
     fn opcode(&self) -> u32 {
-        match self {
-            Request::Done { .. } => 0,
-        }
+        rows!(opcode_of(self))
     }
 
     fn args(&self, alloc: Global) -> Result<Vec<Arg<'_>>, NoMemory> {
-        Ok(match self {
-            Request::Done { callback_data } => Vec::from_array(
-                alloc,
-                [Arg::Uint64(*callback_data)],
-            )?,
-        })
+        rows!(show_row(self, alloc))
     }
 }

@@ -1,6 +1,6 @@
 //! `ei_pointer_absolute`: the motion of a device to points of its regions.
 
-ghost use Rattle.std.specs.Prelude.{refl, codes, [], ◌∷◌};
+ghost use Rattle.std.specs.Prelude.{codes, [], ◌∷◌};
 ghost use Rattle.ei_server.specs.Words.{KnownInterface, Word, Sends};
 ghost use Rattle.ei_server.specs.PointerAbsolute.{opcode_of, values_of, event};
 
@@ -8,10 +8,6 @@ use crate::prelude::*;
 
 /// The motion of a device to points of its regions.
 pub type PointerAbsolute = Proxy<kinds::PointerAbsolute>;
-
-impl Destroyed for kinds::PointerAbsolute {
-    ghost row = { refl };
-}
 
 impl PointerAbsolute {
     /// Tells a receiver that the pointer moves to the point at x and y, in logical pixels.
@@ -34,6 +30,16 @@ pub enum Request {
     MotionAbsolute { x: RawFloat, y: RawFloat },
 }
 
+/// The rows, from which the macros of `rows.rt` write the bodies below.
+macro_rules! rows {
+    ($write:ident $with:tt) => {
+        $write! { $with Request "pointer_absolute";
+            0 => Release,
+            1 => MotionAbsolute { x: Float, y: Float },
+        }
+    };
+}
+
 impl Message for Request {
     ghost code = { opcode_of };
 
@@ -42,30 +48,15 @@ impl Message for Request {
     ghost KNOWN = { KnownInterface.PointerAbsolute };
 
     #[inline(always)]
-    fn parse(opcode: u32, bytes: &mut ByteStream<'_>, _: &mut Table) -> Parsed<Request> {
-        match opcode {
-            0 => Ok(Request::Release),
-            1 => {
-                let (x, y) = read_two(bytes)?;
-                Ok(Request::MotionAbsolute { x, y })
-            }
-            _ => Err(ParseError::InvalidOpcode("pointer_absolute", opcode)),
-        }
+    fn parse(opcode: u32, bytes: &mut ByteStream<'_>, objects: &mut Table) -> Parsed<Request> {
+        rows!(read_row(opcode, bytes, objects))
     }
 
     fn opcode(&self) -> u32 {
-        match self {
-            Request::Release => 0,
-            Request::MotionAbsolute { .. } => 1,
-        }
+        rows!(opcode_of(self))
     }
 
     fn args(&self, alloc: Global) -> Result<Vec<Arg<'_>>, NoMemory> {
-        Ok(match self {
-            Request::Release => Vec::new(alloc),
-            Request::MotionAbsolute { x, y } => {
-                Vec::from_array(alloc, [Arg::Float(x.0), Arg::Float(y.0)])?
-            }
-        })
+        rows!(show_row(self, alloc))
     }
 }

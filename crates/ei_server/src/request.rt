@@ -38,6 +38,49 @@ pub enum Request {
     Text(Text, text::Request),
 }
 
+/// Hands the interfaces to which a request is sent, each with its file, to the macro that a call names.
+macro_rules! interfaces {
+    ($write:ident $with:tt) => {
+        $write! { $with
+            Handshake handshake,
+            Connection connection,
+            Pingpong pingpong,
+            Seat seat,
+            Device device,
+            Pointer pointer,
+            PointerAbsolute pointer_absolute,
+            Scroll scroll,
+            Button button,
+            Keyboard keyboard,
+            Touchscreen touchscreen,
+            Text text,
+        }
+    };
+}
+
+/// Reads a request to an object of that interface: a `match` with an arm an interface.
+macro_rules! read_request {
+    (($known:ident, $object:ident, $opcode:ident, $bytes:ident, $table:ident) $($interface:ident $file:ident,)+) => {
+        match $known {
+            // no request is sent to a callback
+            KnownInterface::Callback => Err(ParseError::InvalidOpcode("callback", $opcode)),
+            $(KnownInterface::$interface => {
+                let request = $file::Request::parse($opcode, $bytes, $table)?;
+                Ok(Request::$interface($interface::new_unchecked($object), request))
+            })+
+        }
+    };
+}
+
+/// Answers the same of the proxy or the request, whatever the interface: a `match` with an arm an interface.
+macro_rules! each_request {
+    (($of:ident, ($proxy:pat, $request:pat) => $answer:expr) $($interface:ident $file:ident,)+) => {
+        match $of {
+            $(Request::$interface($proxy, $request) => $answer,)+
+        }
+    };
+}
+
 impl MessageEnum for Request {
     ghost events = { false };
 
@@ -64,108 +107,18 @@ impl MessageEnum for Request {
                 return Err(ParseError::InvalidInterface(name));
             }
         };
-        match known {
-            KnownInterface::Handshake => {
-                let request = handshake::Request::parse(opcode, bytes, table)?;
-                Ok(Request::Handshake(Handshake::new_unchecked(object), request))
-            }
-            KnownInterface::Connection => {
-                let request = connection::Request::parse(opcode, bytes, table)?;
-                Ok(Request::Connection(Connection::new_unchecked(object), request))
-            }
-            // no request is sent to a callback
-            KnownInterface::Callback => Err(ParseError::InvalidOpcode("callback", opcode)),
-            KnownInterface::Pingpong => {
-                let request = pingpong::Request::parse(opcode, bytes, table)?;
-                Ok(Request::Pingpong(Pingpong::new_unchecked(object), request))
-            }
-            KnownInterface::Seat => {
-                let request = seat::Request::parse(opcode, bytes, table)?;
-                Ok(Request::Seat(Seat::new_unchecked(object), request))
-            }
-            KnownInterface::Device => {
-                let request = device::Request::parse(opcode, bytes, table)?;
-                Ok(Request::Device(Device::new_unchecked(object), request))
-            }
-            KnownInterface::Pointer => {
-                let request = pointer::Request::parse(opcode, bytes, table)?;
-                Ok(Request::Pointer(Pointer::new_unchecked(object), request))
-            }
-            KnownInterface::PointerAbsolute => {
-                let request = pointer_absolute::Request::parse(opcode, bytes, table)?;
-                Ok(Request::PointerAbsolute(PointerAbsolute::new_unchecked(object), request))
-            }
-            KnownInterface::Scroll => {
-                let request = scroll::Request::parse(opcode, bytes, table)?;
-                Ok(Request::Scroll(Scroll::new_unchecked(object), request))
-            }
-            KnownInterface::Button => {
-                let request = button::Request::parse(opcode, bytes, table)?;
-                Ok(Request::Button(Button::new_unchecked(object), request))
-            }
-            KnownInterface::Keyboard => {
-                let request = keyboard::Request::parse(opcode, bytes, table)?;
-                Ok(Request::Keyboard(Keyboard::new_unchecked(object), request))
-            }
-            KnownInterface::Touchscreen => {
-                let request = touchscreen::Request::parse(opcode, bytes, table)?;
-                Ok(Request::Touchscreen(Touchscreen::new_unchecked(object), request))
-            }
-            KnownInterface::Text => {
-                let request = text::Request::parse(opcode, bytes, table)?;
-                Ok(Request::Text(Text::new_unchecked(object), request))
-            }
-        }
+        interfaces!(read_request(known, object, opcode, bytes, table))
     }
 
     fn args(&self, alloc: Global) -> Result<Vec<Arg<'_>>, NoMemory> {
-        match self {
-            Request::Handshake(_, request) => request.args(alloc),
-            Request::Connection(_, request) => request.args(alloc),
-            Request::Pingpong(_, request) => request.args(alloc),
-            Request::Seat(_, request) => request.args(alloc),
-            Request::Device(_, request) => request.args(alloc),
-            Request::Pointer(_, request) => request.args(alloc),
-            Request::PointerAbsolute(_, request) => request.args(alloc),
-            Request::Scroll(_, request) => request.args(alloc),
-            Request::Button(_, request) => request.args(alloc),
-            Request::Keyboard(_, request) => request.args(alloc),
-            Request::Touchscreen(_, request) => request.args(alloc),
-            Request::Text(_, request) => request.args(alloc),
-        }
+        interfaces!(each_request(self, (_, request) => request.args(alloc)))
     }
 
     fn object(&self) -> &Object {
-        match self {
-            Request::Handshake(proxy, _) => proxy.as_object(),
-            Request::Connection(proxy, _) => proxy.as_object(),
-            Request::Pingpong(proxy, _) => proxy.as_object(),
-            Request::Seat(proxy, _) => proxy.as_object(),
-            Request::Device(proxy, _) => proxy.as_object(),
-            Request::Pointer(proxy, _) => proxy.as_object(),
-            Request::PointerAbsolute(proxy, _) => proxy.as_object(),
-            Request::Scroll(proxy, _) => proxy.as_object(),
-            Request::Button(proxy, _) => proxy.as_object(),
-            Request::Keyboard(proxy, _) => proxy.as_object(),
-            Request::Touchscreen(proxy, _) => proxy.as_object(),
-            Request::Text(proxy, _) => proxy.as_object(),
-        }
+        interfaces!(each_request(self, (proxy, _) => proxy.as_object()))
     }
 
     fn opcode(&self) -> u32 {
-        match self {
-            Request::Handshake(_, request) => request.opcode(),
-            Request::Connection(_, request) => request.opcode(),
-            Request::Pingpong(_, request) => request.opcode(),
-            Request::Seat(_, request) => request.opcode(),
-            Request::Device(_, request) => request.opcode(),
-            Request::Pointer(_, request) => request.opcode(),
-            Request::PointerAbsolute(_, request) => request.opcode(),
-            Request::Scroll(_, request) => request.opcode(),
-            Request::Button(_, request) => request.opcode(),
-            Request::Keyboard(_, request) => request.opcode(),
-            Request::Touchscreen(_, request) => request.opcode(),
-            Request::Text(_, request) => request.opcode(),
-        }
+        interfaces!(each_request(self, (_, request) => request.opcode()))
     }
 }

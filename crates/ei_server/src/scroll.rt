@@ -1,6 +1,6 @@
 //! `ei_scroll`: the scrolling of a device.
 
-ghost use Rattle.std.specs.Prelude.{refl, codes, [], ◌∷◌};
+ghost use Rattle.std.specs.Prelude.{codes, [], ◌∷◌};
 ghost use Rattle.ei_server.specs.Words.{KnownInterface, Word, Signed, Sends};
 ghost use Rattle.ei_server.specs.Scroll.{opcode_of, values_of, event};
 
@@ -8,10 +8,6 @@ use crate::prelude::*;
 
 /// The scrolling of a device.
 pub type Scroll = Proxy<kinds::Scroll>;
-
-impl Destroyed for kinds::Scroll {
-    ghost row = { refl };
-}
 
 impl Scroll {
     /// Tells a receiver that it scrolls by x and y, in logical pixels.
@@ -59,6 +55,18 @@ pub enum Request {
     ScrollStop { x: u32, y: u32, is_cancel: u32 },
 }
 
+/// The rows, from which the macros of `rows.rt` write the bodies below.
+macro_rules! rows {
+    ($write:ident $with:tt) => {
+        $write! { $with Request "scroll";
+            0 => Release,
+            1 => Scroll { x: Float, y: Float },
+            2 => ScrollDiscrete { x: Int32, y: Int32 },
+            3 => ScrollStop { x: Uint32, y: Uint32, is_cancel: Uint32 },
+        }
+    };
+}
+
 impl Message for Request {
     ghost code = { opcode_of };
 
@@ -67,49 +75,15 @@ impl Message for Request {
     ghost KNOWN = { KnownInterface.Scroll };
 
     #[inline(always)]
-    fn parse(opcode: u32, bytes: &mut ByteStream<'_>, _: &mut Table) -> Parsed<Request> {
-        match opcode {
-            0 => Ok(Request::Release),
-            1 => {
-                let (x, y) = read_two(bytes)?;
-                Ok(Request::Scroll { x, y })
-            }
-            2 => {
-                let (x, y) = read_two(bytes)?;
-                Ok(Request::ScrollDiscrete { x, y })
-            }
-            3 => {
-                let (x, y, is_cancel) = read_three(bytes)?;
-                Ok(Request::ScrollStop { x, y, is_cancel })
-            }
-            _ => Err(ParseError::InvalidOpcode("scroll", opcode)),
-        }
+    fn parse(opcode: u32, bytes: &mut ByteStream<'_>, objects: &mut Table) -> Parsed<Request> {
+        rows!(read_row(opcode, bytes, objects))
     }
 
     fn opcode(&self) -> u32 {
-        match self {
-            Request::Release => 0,
-            Request::Scroll { .. } => 1,
-            Request::ScrollDiscrete { .. } => 2,
-            Request::ScrollStop { .. } => 3,
-        }
+        rows!(opcode_of(self))
     }
 
     fn args(&self, alloc: Global) -> Result<Vec<Arg<'_>>, NoMemory> {
-        Ok(match self {
-            Request::Release => Vec::new(alloc),
-            Request::Scroll { x, y } => {
-                Vec::from_array(alloc, [Arg::Float(x.0), Arg::Float(y.0)])?
-            }
-            Request::ScrollDiscrete { x, y } => {
-                Vec::from_array(alloc, [Arg::Int32(*x), Arg::Int32(*y)])?
-            }
-            Request::ScrollStop { x, y, is_cancel } => {
-                Vec::from_array(
-                    alloc,
-                    [Arg::Uint32(*x), Arg::Uint32(*y), Arg::Uint32(*is_cancel)],
-                )?
-            }
-        })
+        rows!(show_row(self, alloc))
     }
 }

@@ -1,6 +1,6 @@
 //! `ei_seat`: a seat, which offers capabilities.
 
-ghost use Rattle.std.specs.Prelude.{refl, codes, [], ◌∷◌};
+ghost use Rattle.std.specs.Prelude.{codes, [], ◌∷◌};
 ghost use Rattle.ei_server.specs.Words.{KnownInterface, Word, Long, Letters, Sends, SendsText, SendsNew};
 ghost use Rattle.ei_server.specs.Seat.{opcode_of, values_of, event};
 
@@ -9,10 +9,6 @@ use crate::prelude::*;
 
 /// A seat.
 pub type Seat = Proxy<kinds::Seat>;
-
-impl Destroyed for kinds::Seat {
-    ghost row = { refl };
-}
 
 impl Seat {
     /// Names the seat.
@@ -70,6 +66,17 @@ pub enum Request {
     RequestDevice { capabilities: u64 },
 }
 
+/// The rows, from which the macros of `rows.rt` write the bodies below.
+macro_rules! rows {
+    ($write:ident $with:tt) => {
+        $write! { $with Request "seat";
+            0 => Release,
+            1 => Bind { capabilities: Uint64 },
+            2 => RequestDevice { capabilities: Uint64 },
+        }
+    };
+}
+
 impl Message for Request {
     ghost code = { opcode_of };
 
@@ -78,33 +85,15 @@ impl Message for Request {
     ghost KNOWN = { KnownInterface.Seat };
 
     #[inline(always)]
-    fn parse(opcode: u32, bytes: &mut ByteStream<'_>, _: &mut Table) -> Parsed<Request> {
-        match opcode {
-            0 => Ok(Request::Release),
-            1 => Ok(Request::Bind {
-                capabilities: read_one(bytes)?,
-            }),
-            2 => Ok(Request::RequestDevice {
-                capabilities: read_one(bytes)?,
-            }),
-            _ => Err(ParseError::InvalidOpcode("seat", opcode)),
-        }
+    fn parse(opcode: u32, bytes: &mut ByteStream<'_>, objects: &mut Table) -> Parsed<Request> {
+        rows!(read_row(opcode, bytes, objects))
     }
 
     fn opcode(&self) -> u32 {
-        match self {
-            Request::Release => 0,
-            Request::Bind { .. } => 1,
-            Request::RequestDevice { .. } => 2,
-        }
+        rows!(opcode_of(self))
     }
 
     fn args(&self, alloc: Global) -> Result<Vec<Arg<'_>>, NoMemory> {
-        Ok(match self {
-            Request::Release => Vec::new(alloc),
-            Request::Bind { capabilities } | Request::RequestDevice { capabilities } => {
-                Vec::from_array(alloc, [Arg::Uint64(*capabilities)])?
-            }
-        })
+        rows!(show_row(self, alloc))
     }
 }

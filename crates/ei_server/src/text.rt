@@ -1,6 +1,6 @@
 //! `ei_text`: the keysyms and the text of a device.
 
-ghost use Rattle.std.specs.Prelude.{refl, codes, [], ◌∷◌};
+ghost use Rattle.std.specs.Prelude.{codes, [], ◌∷◌};
 ghost use Rattle.ei_server.specs.Words.{KnownInterface, Word, Letters, Sends, SendsText, key_state_number};
 ghost use Rattle.ei_server.specs.Text.{opcode_of, values_of, event};
 
@@ -9,10 +9,6 @@ use ei_types::KeyState;
 
 /// The keysyms and the text of a device.
 pub type Text = Proxy<kinds::Text>;
-
-impl Destroyed for kinds::Text {
-    ghost row = { refl };
-}
 
 impl Text {
     /// Tells a receiver that a keysym, by its number in XKB, goes down or up.
@@ -48,6 +44,17 @@ pub enum Request {
     Utf8 { text: EiText },
 }
 
+/// The rows, from which the macros of `rows.rt` write the bodies below.
+macro_rules! rows {
+    ($write:ident $with:tt) => {
+        $write! { $with Request "text";
+            0 => Release,
+            1 => Keysym { keysym: Uint32, state: Enum },
+            2 => Utf8 { text: Text },
+        }
+    };
+}
+
 impl Message for Request {
     ghost code = { opcode_of };
 
@@ -56,40 +63,15 @@ impl Message for Request {
     ghost KNOWN = { KnownInterface.Text };
 
     #[inline(always)]
-    fn parse(opcode: u32, bytes: &mut ByteStream<'_>, _: &mut Table) -> Parsed<Request> {
-        match opcode {
-            0 => Ok(Request::Release),
-            1 => {
-                let (keysym, state) = read_two(bytes)?;
-                Ok(Request::Keysym { keysym, state })
-            }
-            2 => Ok(Request::Utf8 {
-                text: read_one(bytes)?,
-            }),
-            _ => Err(ParseError::InvalidOpcode("text", opcode)),
-        }
+    fn parse(opcode: u32, bytes: &mut ByteStream<'_>, objects: &mut Table) -> Parsed<Request> {
+        rows!(read_row(opcode, bytes, objects))
     }
 
     fn opcode(&self) -> u32 {
-        match self {
-            Request::Release => 0,
-            Request::Keysym { .. } => 1,
-            Request::Utf8 { .. } => 2,
-        }
+        rows!(opcode_of(self))
     }
 
     fn args(&self, alloc: Global) -> Result<Vec<Arg<'_>>, NoMemory> {
-        Ok(match self {
-            Request::Release => Vec::new(alloc),
-            Request::Keysym { keysym, state } => {
-                Vec::from_array(
-                    alloc,
-                    [Arg::Uint32(*keysym), Arg::Uint32(u32::from(*state))],
-                )?
-            }
-            Request::Utf8 { text } => {
-                Vec::from_array(alloc, [Arg::String(Some(text.as_str()))])?
-            }
-        })
+        rows!(show_row(self, alloc))
     }
 }

@@ -1,6 +1,6 @@
 //! `ei_touchscreen`: the touches on a device.
 
-ghost use Rattle.std.specs.Prelude.{refl, codes, [], ◌∷◌};
+ghost use Rattle.std.specs.Prelude.{codes, [], ◌∷◌};
 ghost use Rattle.ei_server.specs.Words.{KnownInterface, Word, Sends};
 ghost use Rattle.ei_server.specs.Touchscreen.{opcode_of, values_of, event};
 
@@ -8,10 +8,6 @@ use crate::prelude::*;
 
 /// The touches on a device.
 pub type Touchscreen = Proxy<kinds::Touchscreen>;
-
-impl Destroyed for kinds::Touchscreen {
-    ghost row = { refl };
-}
 
 impl Touchscreen {
     /// Tells a receiver that a touch begins at the point at x and y, in logical pixels. The id is its name until
@@ -81,6 +77,19 @@ pub enum Request {
     },
 }
 
+/// The rows, from which the macros of `rows.rt` write the bodies below.
+macro_rules! rows {
+    ($write:ident $with:tt) => {
+        $write! { $with Request "touchscreen";
+            0 => Release,
+            1 => Down { touchid: Uint32, x: Float, y: Float },
+            2 => Motion { touchid: Uint32, x: Float, y: Float },
+            3 => Up { touchid: Uint32 },
+            4 => Cancel { touchid: Uint32 },
+        }
+    };
+}
+
 impl Message for Request {
     ghost code = { opcode_of };
 
@@ -89,49 +98,15 @@ impl Message for Request {
     ghost KNOWN = { KnownInterface.Touchscreen };
 
     #[inline(always)]
-    fn parse(opcode: u32, bytes: &mut ByteStream<'_>, _: &mut Table) -> Parsed<Request> {
-        match opcode {
-            0 => Ok(Request::Release),
-            1 => {
-                let (touchid, x, y) = read_three(bytes)?;
-                Ok(Request::Down { touchid, x, y })
-            }
-            2 => {
-                let (touchid, x, y) = read_three(bytes)?;
-                Ok(Request::Motion { touchid, x, y })
-            }
-            3 => Ok(Request::Up {
-                touchid: read_one(bytes)?,
-            }),
-            4 => Ok(Request::Cancel {
-                touchid: read_one(bytes)?,
-            }),
-            _ => Err(ParseError::InvalidOpcode("touchscreen", opcode)),
-        }
+    fn parse(opcode: u32, bytes: &mut ByteStream<'_>, objects: &mut Table) -> Parsed<Request> {
+        rows!(read_row(opcode, bytes, objects))
     }
 
     fn opcode(&self) -> u32 {
-        match self {
-            Request::Release => 0,
-            Request::Down { .. } => 1,
-            Request::Motion { .. } => 2,
-            Request::Up { .. } => 3,
-            Request::Cancel { .. } => 4,
-        }
+        rows!(opcode_of(self))
     }
 
     fn args(&self, alloc: Global) -> Result<Vec<Arg<'_>>, NoMemory> {
-        Ok(match self {
-            Request::Release => Vec::new(alloc),
-            Request::Down { touchid, x, y } | Request::Motion { touchid, x, y } => {
-                Vec::from_array(
-                    alloc,
-                    [Arg::Uint32(*touchid), Arg::Float(x.0), Arg::Float(y.0)],
-                )?
-            }
-            Request::Up { touchid } | Request::Cancel { touchid } => {
-                Vec::from_array(alloc, [Arg::Uint32(*touchid)])?
-            }
-        })
+        rows!(show_row(self, alloc))
     }
 }
