@@ -1,6 +1,6 @@
 //! `ei_button`: the buttons of a device.
 
-ghost use Rattle.std.specs.Prelude.{refl, codes, [], ◌∷◌};
+ghost use Rattle.std.specs.Prelude.{codes, [], ◌∷◌};
 ghost use Rattle.ei_client.specs.Words.{KnownInterface, Word, Sends, button_state_number};
 ghost use Rattle.ei_client.specs.Button.{opcode_of, values_of, request};
 
@@ -9,10 +9,6 @@ use ei_types::ButtonState;
 
 /// The buttons of a device.
 pub type Button = Proxy<kinds::Button>;
-
-impl Release for kinds::Button {
-    ghost row = { refl };
-}
 
 impl Button {
     /// Tells the server that a button goes down or up. The button is a code of `linux/input-event-codes.h`.
@@ -36,6 +32,16 @@ pub enum Event {
     Button { button: u32, state: ButtonState },
 }
 
+/// The rows, from which the macros of `rows.rt` write the bodies below.
+macro_rules! rows {
+    ($write:ident $with:tt) => {
+        $write! { $with Event "button";
+            0 => Destroyed { serial: Uint32 },
+            1 => Button { button: Uint32, state: Enum },
+        }
+    };
+}
+
 impl Message for Event {
     ghost code = { opcode_of };
 
@@ -44,35 +50,15 @@ impl Message for Event {
     ghost KNOWN = { KnownInterface.Button };
 
     #[inline(always)]
-    fn parse(opcode: u32, bytes: &mut ByteStream<'_>, _: &mut Table) -> Parsed<Event> {
-        match opcode {
-            0 => Ok(Event::Destroyed {
-                serial: read_one(bytes)?,
-            }),
-            1 => {
-                let (button, state) = read_two(bytes)?;
-                Ok(Event::Button { button, state })
-            }
-            _ => Err(ParseError::InvalidOpcode("button", opcode)),
-        }
+    fn parse(opcode: u32, bytes: &mut ByteStream<'_>, objects: &mut Table) -> Parsed<Event> {
+        rows!(read_row(opcode, bytes, objects))
     }
 
     fn opcode(&self) -> u32 {
-        match self {
-            Event::Destroyed { .. } => 0,
-            Event::Button { .. } => 1,
-        }
+        rows!(opcode_of(self))
     }
 
     fn args(&self, alloc: Global) -> Result<Vec<Arg<'_>>, NoMemory> {
-        Ok(match self {
-            Event::Destroyed { serial } => Vec::from_array(alloc, [Arg::Uint32(*serial)])?,
-            Event::Button { button, state } => {
-                Vec::from_array(
-                    alloc,
-                    [Arg::Uint32(*button), Arg::Uint32(u32::from(*state))],
-                )?
-            }
-        })
+        rows!(show_row(self, alloc))
     }
 }

@@ -15,6 +15,15 @@ pub enum Event {
     Done { callback_data: u64 },
 }
 
+/// The rows, from which the macros of `rows.rt` write the bodies below.
+macro_rules! rows {
+    ($write:ident $with:tt) => {
+        $write! { $with Event "callback";
+            0 => Done { callback_data: Uint64 },
+        }
+    };
+}
+
 impl Message for Event {
     ghost code = { opcode_of };
 
@@ -23,24 +32,15 @@ impl Message for Event {
     ghost KNOWN = { KnownInterface.Callback };
 
     #[inline(always)]
-    fn parse(opcode: u32, bytes: &mut ByteStream<'_>, _: &mut Table) -> Parsed<Event> {
-        match opcode {
-            0 => Ok(Event::Done {
-                callback_data: read_one(bytes)?,
-            }),
-            _ => Err(ParseError::InvalidOpcode("callback", opcode)),
-        }
+    fn parse(opcode: u32, bytes: &mut ByteStream<'_>, objects: &mut Table) -> Parsed<Event> {
+        rows!(read_row(opcode, bytes, objects))
     }
 
     fn opcode(&self) -> u32 {
-        match self {
-            Event::Done { .. } => 0,
-        }
+        rows!(opcode_of(self))
     }
 
     fn args(&self, alloc: Global) -> Result<Vec<Arg<'_>>, NoMemory> {
-        Ok(match self {
-            Event::Done { callback_data } => Vec::from_array(alloc, [Arg::Uint64(*callback_data)])?,
-        })
+        rows!(show_row(self, alloc))
     }
 }

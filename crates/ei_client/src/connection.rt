@@ -60,6 +60,18 @@ pub enum Event {
     },
 }
 
+/// The rows, from which the macros of `rows.rt` write the bodies below.
+macro_rules! rows {
+    ($write:ident $with:tt) => {
+        $write! { $with Event "connection";
+            0 => Disconnected { last_serial: Uint32, reason: Enum, explanation: Nullable },
+            1 => Seat { seat: new Seat },
+            2 => InvalidObject { last_serial: Uint32, invalid_id: Uint64 },
+            3 => Ping { ping: new Pingpong },
+        }
+    };
+}
+
 impl Message for Event {
     ghost code = { opcode_of };
 
@@ -71,67 +83,14 @@ impl Message for Event {
 
     #[inline(always)]
     fn parse(opcode: u32, bytes: &mut ByteStream<'_>, objects: &mut Table) -> Parsed<Event> {
-        match opcode {
-            0 => {
-                let (last_serial, reason, explanation) = read_three(bytes)?;
-                Ok(Event::Disconnected {
-                    last_serial,
-                    reason,
-                    explanation,
-                })
-            }
-            1 => {
-                let (id, version) = read_two(bytes)?;
-                let seat = Seat::announced(objects, id, version)?;
-                Ok(Event::Seat { seat })
-            }
-            2 => {
-                let (last_serial, invalid_id) = read_two(bytes)?;
-                Ok(Event::InvalidObject {
-                    last_serial,
-                    invalid_id,
-                })
-            }
-            3 => {
-                let (id, version) = read_two(bytes)?;
-                let ping = Pingpong::announced(objects, id, version)?;
-                Ok(Event::Ping { ping })
-            }
-            _ => Err(ParseError::InvalidOpcode("connection", opcode)),
-        }
+        rows!(read_row(opcode, bytes, objects))
     }
 
     fn opcode(&self) -> u32 {
-        match self {
-            Event::Disconnected { .. } => 0,
-            Event::Seat { .. } => 1,
-            Event::InvalidObject { .. } => 2,
-            Event::Ping { .. } => 3,
-        }
+        rows!(opcode_of(self))
     }
 
     fn args(&self, alloc: Global) -> Result<Vec<Arg<'_>>, NoMemory> {
-        Ok(match self {
-            Event::Disconnected {
-                last_serial,
-                reason,
-                explanation,
-            } => {
-                Vec::from_array(
-                    alloc,
-                    [
-                        Arg::Uint32(*last_serial),
-                        Arg::Uint32(u32::from(*reason)),
-                        explanation.as_arg(),
-                    ],
-                )?
-            }
-            Event::Seat { seat } => Vec::from_array(alloc, [seat.as_arg()])?,
-            Event::InvalidObject {
-                last_serial,
-                invalid_id,
-            } => { Vec::from_array(alloc, [Arg::Uint32(*last_serial), Arg::Uint64(*invalid_id)])? }
-            Event::Ping { ping } => Vec::from_array(alloc, [ping.as_arg()])?,
-        })
+        rows!(show_row(self, alloc))
     }
 }

@@ -1,6 +1,6 @@
 //! `ei_device`: a device, which has interfaces for input.
 
-ghost use Rattle.std.specs.Prelude.{◌≡◌, Some, IfOk, OnErr, true, refl, codes, [], ◌∷◌};
+ghost use Rattle.std.specs.Prelude.{◌≡◌, Some, IfOk, OnErr, true, codes, [], ◌∷◌};
 ghost use Rattle.ei_backend.specs.Proxies.{Announced, ReadsRow, Shows};
 ghost use Rattle.ei_spec.specs.Interface.{named, bytes_of};
 ghost use Rattle.ei_spec.specs.declared.interface.KnownInterface.TheVariants as known;
@@ -15,10 +15,6 @@ use ei_types::DeviceType;
 
 /// A device.
 pub type Device = Proxy<kinds::Device>;
-
-impl Release for kinds::Device {
-    ghost row = { refl };
-}
 
 impl Device {
     /// Tells the server that the client begins to send input, with the last serial that came. The sequence
@@ -143,6 +139,29 @@ pub enum Event {
     },
 }
 
+/// The rows, from which the macros of `rows.rt` write the bodies below.
+macro_rules! rows {
+    ($write:ident $with:tt) => {
+        $write! { $with Event "device";
+            0 => Destroyed { serial: Uint32 },
+            1 => Name { name: Text },
+            2 => DeviceType { device_type: Enum },
+            3 => Dimensions { width: Uint32, height: Uint32 },
+            4 => Region {
+                offset_x: Uint32, offset_y: Uint32, width: Uint32, hight: Uint32, scale: Float
+            },
+            5 => Interface { object: new Object },
+            6 => Done,
+            7 => Resumed { serial: Uint32 },
+            8 => Paused { serial: Uint32 },
+            9 => StartEmulating { serial: Uint32, sequence: Uint32 },
+            10 => StopEmulating { serial: Uint32 },
+            11 => Frame { serial: Uint32, timestamp: Uint64 },
+            12 => RegionMappingId { mapping_id: Text },
+        }
+    };
+}
+
 impl Event {
     /// Reads the arguments of an event of that opcode, and announces the object that it bears.
     #[inline(always)]
@@ -157,125 +176,27 @@ impl Event {
         ensures announced { IfOk result (λ m. Announced (announced_of m) objects.old objects.new) }
         ensures err { OnErr result (objects.new ≡ objects.old) }
     {
-        match opcode {
-            0 => Ok(Event::Destroyed {
-                serial: read_one(bytes)?,
-            }),
-            1 => Ok(Event::Name {
-                name: read_one(bytes)?,
-            }),
-            2 => Ok(Event::DeviceType {
-                device_type: read_one(bytes)?,
-            }),
-            3 => {
-                let (width, height) = read_two(bytes)?;
-                Ok(Event::Dimensions { width, height })
-            }
-            4 => {
-                let (offset_x, offset_y, width, hight, scale) = read_five(bytes)?;
-                Ok(Event::Region {
-                    offset_x,
-                    offset_y,
-                    width,
-                    hight,
-                    scale,
-                })
-            }
-            5 => {
+        rows!(read_row(
+            opcode,
+            bytes,
+            {
                 let (id, name, version): (u64, EiText, u32) = read_three(bytes)?;
                 let object = announce_named(alloc, id, name.as_str(), version, objects)?;
                 Ok(Event::Interface { object })
             }
-            6 => Ok(Event::Done),
-            7 => Ok(Event::Resumed {
-                serial: read_one(bytes)?,
-            }),
-            8 => Ok(Event::Paused {
-                serial: read_one(bytes)?,
-            }),
-            9 => {
-                let (serial, sequence) = read_two(bytes)?;
-                Ok(Event::StartEmulating { serial, sequence })
-            }
-            10 => Ok(Event::StopEmulating {
-                serial: read_one(bytes)?,
-            }),
-            11 => {
-                let (serial, timestamp) = read_two(bytes)?;
-                Ok(Event::Frame { serial, timestamp })
-            }
-            12 => Ok(Event::RegionMappingId {
-                mapping_id: read_one(bytes)?,
-            }),
-            _ => Err(ParseError::InvalidOpcode("device", opcode)),
-        }
+        ))
     }
 
     pub(crate) fn opcode(&self) -> u32
         ensures { result ≡ opcode_of self.now }
     {
-        match self {
-            Event::Destroyed { .. } => 0,
-            Event::Name { .. } => 1,
-            Event::DeviceType { .. } => 2,
-            Event::Dimensions { .. } => 3,
-            Event::Region { .. } => 4,
-            Event::Interface { .. } => 5,
-            Event::Done => 6,
-            Event::Resumed { .. } => 7,
-            Event::Paused { .. } => 8,
-            Event::StartEmulating { .. } => 9,
-            Event::StopEmulating { .. } => 10,
-            Event::Frame { .. } => 11,
-            Event::RegionMappingId { .. } => 12,
-        }
+        rows!(opcode_of(self))
     }
 
     /// The arguments in order.
     pub(crate) fn args(&self, alloc: Global) -> Result<Vec<Arg<'_>>, NoMemory>
         ensures { IfOk result (λ args. Shows true known.Device (opcode_of self.now) (values_of self.now) args.items) }
     {
-        Ok(match self {
-            Event::Destroyed { serial }
-            | Event::Resumed { serial }
-            | Event::Paused { serial }
-            | Event::StopEmulating { serial } => Vec::from_array(alloc, [Arg::Uint32(*serial)])?,
-            Event::Name { name } => Vec::from_array(alloc, [Arg::String(Some(name.as_str()))])?,
-            Event::DeviceType { device_type } => {
-                Vec::from_array(alloc, [Arg::Uint32(u32::from(*device_type))])?
-            }
-            Event::Dimensions { width, height } => {
-                Vec::from_array(alloc, [Arg::Uint32(*width), Arg::Uint32(*height)])?
-            }
-            Event::Region {
-                offset_x,
-                offset_y,
-                width,
-                hight,
-                scale,
-            } => {
-                Vec::from_array(
-                    alloc,
-                    [
-                        Arg::Uint32(*offset_x),
-                        Arg::Uint32(*offset_y),
-                        Arg::Uint32(*width),
-                        Arg::Uint32(*hight),
-                        Arg::Float(scale.0),
-                    ],
-                )?
-            }
-            Event::Interface { object } => Vec::from_array(alloc, [object.as_arg()])?,
-            Event::Done => Vec::new(alloc),
-            Event::StartEmulating { serial, sequence } => {
-                Vec::from_array(alloc, [Arg::Uint32(*serial), Arg::Uint32(*sequence)])?
-            }
-            Event::Frame { serial, timestamp } => {
-                Vec::from_array(alloc, [Arg::Uint32(*serial), Arg::Uint64(*timestamp)])?
-            }
-            Event::RegionMappingId { mapping_id } => {
-                Vec::from_array(alloc, [Arg::String(Some(mapping_id.as_str()))])?
-            }
-        })
+        rows!(show_row(self, alloc))
     }
 }

@@ -38,6 +38,57 @@ pub enum Event {
     Text(Text, text::Event),
 }
 
+/// Hands the interfaces to which an event is sent, each with its file, to the macro that a call names: all but the
+/// device, whose events want memory to be read.
+macro_rules! interfaces {
+    ($write:ident $with:tt) => {
+        $write! { $with
+            Handshake handshake,
+            Connection connection,
+            Callback callback,
+            Seat seat,
+            Pointer pointer,
+            PointerAbsolute pointer_absolute,
+            Scroll scroll,
+            Button button,
+            Keyboard keyboard,
+            Touchscreen touchscreen,
+            Text text,
+        }
+    };
+}
+
+/// Reads an event to an object of that interface: a `match` with an arm an interface.
+macro_rules! read_event {
+    (
+        ($known:ident, $alloc:ident, $object:ident, $opcode:ident, $bytes:ident, $table:ident)
+        $($interface:ident $file:ident,)+
+    ) => {
+        match $known {
+            // no event is sent to a ping
+            KnownInterface::Pingpong => Err(ParseError::InvalidOpcode("pingpong", $opcode)),
+            KnownInterface::Device => {
+                let event = device::Event::parse($alloc, $opcode, $bytes, $table)?;
+                Ok(Event::Device(Device::new_unchecked($object), event))
+            }
+            $(KnownInterface::$interface => {
+                let event = $file::Event::parse($opcode, $bytes, $table)?;
+                Ok(Event::$interface($interface::new_unchecked($object), event))
+            })+
+        }
+    };
+}
+
+/// Answers the same of the proxy or the event, whatever the interface: a `match` with an arm an interface.
+macro_rules! each_event {
+    (($of:ident, ($proxy:pat, $event:pat) => $answer:expr) $($interface:ident $file:ident,)+) => {
+        match $of {
+            Event::Device($proxy, $event) => $answer,
+            $(Event::$interface($proxy, $event) => $answer,)+
+        }
+    };
+}
+
 impl MessageEnum for Event {
     ghost events = { true };
 
@@ -64,108 +115,18 @@ impl MessageEnum for Event {
                 return Err(ParseError::InvalidInterface(name));
             }
         };
-        match known {
-            KnownInterface::Handshake => {
-                let event = handshake::Event::parse(opcode, bytes, table)?;
-                Ok(Event::Handshake(Handshake::new_unchecked(object), event))
-            }
-            KnownInterface::Connection => {
-                let event = connection::Event::parse(opcode, bytes, table)?;
-                Ok(Event::Connection(Connection::new_unchecked(object), event))
-            }
-            KnownInterface::Callback => {
-                let event = callback::Event::parse(opcode, bytes, table)?;
-                Ok(Event::Callback(Callback::new_unchecked(object), event))
-            }
-            // no event is sent to a ping
-            KnownInterface::Pingpong => Err(ParseError::InvalidOpcode("pingpong", opcode)),
-            KnownInterface::Seat => {
-                let event = seat::Event::parse(opcode, bytes, table)?;
-                Ok(Event::Seat(Seat::new_unchecked(object), event))
-            }
-            KnownInterface::Device => {
-                let event = device::Event::parse(alloc, opcode, bytes, table)?;
-                Ok(Event::Device(Device::new_unchecked(object), event))
-            }
-            KnownInterface::Pointer => {
-                let event = pointer::Event::parse(opcode, bytes, table)?;
-                Ok(Event::Pointer(Pointer::new_unchecked(object), event))
-            }
-            KnownInterface::PointerAbsolute => {
-                let event = pointer_absolute::Event::parse(opcode, bytes, table)?;
-                Ok(Event::PointerAbsolute(PointerAbsolute::new_unchecked(object), event))
-            }
-            KnownInterface::Scroll => {
-                let event = scroll::Event::parse(opcode, bytes, table)?;
-                Ok(Event::Scroll(Scroll::new_unchecked(object), event))
-            }
-            KnownInterface::Button => {
-                let event = button::Event::parse(opcode, bytes, table)?;
-                Ok(Event::Button(Button::new_unchecked(object), event))
-            }
-            KnownInterface::Keyboard => {
-                let event = keyboard::Event::parse(opcode, bytes, table)?;
-                Ok(Event::Keyboard(Keyboard::new_unchecked(object), event))
-            }
-            KnownInterface::Touchscreen => {
-                let event = touchscreen::Event::parse(opcode, bytes, table)?;
-                Ok(Event::Touchscreen(Touchscreen::new_unchecked(object), event))
-            }
-            KnownInterface::Text => {
-                let event = text::Event::parse(opcode, bytes, table)?;
-                Ok(Event::Text(Text::new_unchecked(object), event))
-            }
-        }
+        interfaces!(read_event(known, alloc, object, opcode, bytes, table))
     }
 
     fn args(&self, alloc: Global) -> Result<Vec<Arg<'_>>, NoMemory> {
-        match self {
-            Event::Handshake(_, event) => event.args(alloc),
-            Event::Connection(_, event) => event.args(alloc),
-            Event::Callback(_, event) => event.args(alloc),
-            Event::Seat(_, event) => event.args(alloc),
-            Event::Device(_, event) => event.args(alloc),
-            Event::Pointer(_, event) => event.args(alloc),
-            Event::PointerAbsolute(_, event) => event.args(alloc),
-            Event::Scroll(_, event) => event.args(alloc),
-            Event::Button(_, event) => event.args(alloc),
-            Event::Keyboard(_, event) => event.args(alloc),
-            Event::Touchscreen(_, event) => event.args(alloc),
-            Event::Text(_, event) => event.args(alloc),
-        }
+        interfaces!(each_event(self, (_, event) => event.args(alloc)))
     }
 
     fn object(&self) -> &Object {
-        match self {
-            Event::Handshake(proxy, _) => proxy.as_object(),
-            Event::Connection(proxy, _) => proxy.as_object(),
-            Event::Callback(proxy, _) => proxy.as_object(),
-            Event::Seat(proxy, _) => proxy.as_object(),
-            Event::Device(proxy, _) => proxy.as_object(),
-            Event::Pointer(proxy, _) => proxy.as_object(),
-            Event::PointerAbsolute(proxy, _) => proxy.as_object(),
-            Event::Scroll(proxy, _) => proxy.as_object(),
-            Event::Button(proxy, _) => proxy.as_object(),
-            Event::Keyboard(proxy, _) => proxy.as_object(),
-            Event::Touchscreen(proxy, _) => proxy.as_object(),
-            Event::Text(proxy, _) => proxy.as_object(),
-        }
+        interfaces!(each_event(self, (proxy, _) => proxy.as_object()))
     }
 
     fn opcode(&self) -> u32 {
-        match self {
-            Event::Handshake(_, event) => event.opcode(),
-            Event::Connection(_, event) => event.opcode(),
-            Event::Callback(_, event) => event.opcode(),
-            Event::Seat(_, event) => event.opcode(),
-            Event::Device(_, event) => event.opcode(),
-            Event::Pointer(_, event) => event.opcode(),
-            Event::PointerAbsolute(_, event) => event.opcode(),
-            Event::Scroll(_, event) => event.opcode(),
-            Event::Button(_, event) => event.opcode(),
-            Event::Keyboard(_, event) => event.opcode(),
-            Event::Touchscreen(_, event) => event.opcode(),
-            Event::Text(_, event) => event.opcode(),
-        }
+        interfaces!(each_event(self, (_, event) => event.opcode()))
     }
 }

@@ -76,6 +76,17 @@ pub enum Event {
     Connection { serial: u32, connection: Connection },
 }
 
+/// The rows, from which the macros of `rows.rt` write the bodies below.
+macro_rules! rows {
+    ($write:ident $with:tt) => {
+        $write! { $with Event "handshake";
+            0 => HandshakeVersion { version: Uint32 },
+            1 => InterfaceVersion { name: Text, version: Uint32 },
+            2 => Connection { serial: Uint32, connection: new Connection },
+        }
+    };
+}
+
 impl Message for Event {
     ghost code = { opcode_of };
 
@@ -87,43 +98,14 @@ impl Message for Event {
 
     #[inline(always)]
     fn parse(opcode: u32, bytes: &mut ByteStream<'_>, objects: &mut Table) -> Parsed<Event> {
-        match opcode {
-            0 => Ok(Event::HandshakeVersion {
-                version: read_one(bytes)?,
-            }),
-            1 => {
-                let (name, version) = read_two(bytes)?;
-                Ok(Event::InterfaceVersion { name, version })
-            }
-            2 => {
-                let (serial, id, version) = read_three(bytes)?;
-                let connection = Connection::announced(objects, id, version)?;
-                Ok(Event::Connection { serial, connection })
-            }
-            _ => Err(ParseError::InvalidOpcode("handshake", opcode)),
-        }
+        rows!(read_row(opcode, bytes, objects))
     }
 
     fn opcode(&self) -> u32 {
-        match self {
-            Event::HandshakeVersion { .. } => 0,
-            Event::InterfaceVersion { .. } => 1,
-            Event::Connection { .. } => 2,
-        }
+        rows!(opcode_of(self))
     }
 
     fn args(&self, alloc: Global) -> Result<Vec<Arg<'_>>, NoMemory> {
-        Ok(match self {
-            Event::HandshakeVersion { version } => Vec::from_array(alloc, [Arg::Uint32(*version)])?,
-            Event::InterfaceVersion { name, version } => {
-                Vec::from_array(
-                    alloc,
-                    [Arg::String(Some(name.as_str())), Arg::Uint32(*version)],
-                )?
-            }
-            Event::Connection { serial, connection } => {
-                Vec::from_array(alloc, [Arg::Uint32(*serial), connection.as_arg()])?
-            }
-        })
+        rows!(show_row(self, alloc))
     }
 }

@@ -1,6 +1,6 @@
 //! `ei_keyboard`: the keys of a device.
 
-ghost use Rattle.std.specs.Prelude.{refl, codes, [], ◌∷◌};
+ghost use Rattle.std.specs.Prelude.{codes, [], ◌∷◌};
 ghost use Rattle.ei_client.specs.Words.{KnownInterface, Word, Sends, key_state_number};
 ghost use Rattle.ei_client.specs.Keyboard.{opcode_of, values_of, request};
 
@@ -9,10 +9,6 @@ use ei_types::{KeyState, KeymapType};
 
 /// The keys of a device.
 pub type Keyboard = Proxy<kinds::Keyboard>;
-
-impl Release for kinds::Keyboard {
-    ghost row = { refl };
-}
 
 impl Keyboard {
     /// Tells the server that a key goes down or up. The key is a code of the keymap, or without one of
@@ -56,6 +52,20 @@ pub enum Event {
     },
 }
 
+/// The rows, from which the macros of `rows.rt` write the bodies below.
+macro_rules! rows {
+    ($write:ident $with:tt) => {
+        $write! { $with Event "keyboard";
+            0 => Destroyed { serial: Uint32 },
+            1 => Keymap { keymap_type: Enum, size: Uint32, keymap: Fd },
+            2 => Key { key: Uint32, state: Enum },
+            3 => Modifiers {
+                serial: Uint32, depressed: Uint32, locked: Uint32, latched: Uint32, group: Uint32
+            },
+        }
+    };
+}
+
 impl Message for Event {
     ghost code = { opcode_of };
 
@@ -64,84 +74,15 @@ impl Message for Event {
     ghost KNOWN = { KnownInterface.Keyboard };
 
     #[inline(always)]
-    fn parse(opcode: u32, bytes: &mut ByteStream<'_>, _: &mut Table) -> Parsed<Event> {
-        match opcode {
-            0 => Ok(Event::Destroyed {
-                serial: read_one(bytes)?,
-            }),
-            1 => {
-                let (keymap_type, size, keymap) = read_three(bytes)?;
-                Ok(Event::Keymap {
-                    keymap_type,
-                    size,
-                    keymap,
-                })
-            }
-            2 => {
-                let (key, state) = read_two(bytes)?;
-                Ok(Event::Key { key, state })
-            }
-            3 => {
-                let (serial, depressed, locked, latched, group) = read_five(bytes)?;
-                Ok(Event::Modifiers {
-                    serial,
-                    depressed,
-                    locked,
-                    latched,
-                    group,
-                })
-            }
-            _ => Err(ParseError::InvalidOpcode("keyboard", opcode)),
-        }
+    fn parse(opcode: u32, bytes: &mut ByteStream<'_>, objects: &mut Table) -> Parsed<Event> {
+        rows!(read_row(opcode, bytes, objects))
     }
 
     fn opcode(&self) -> u32 {
-        match self {
-            Event::Destroyed { .. } => 0,
-            Event::Keymap { .. } => 1,
-            Event::Key { .. } => 2,
-            Event::Modifiers { .. } => 3,
-        }
+        rows!(opcode_of(self))
     }
 
     fn args(&self, alloc: Global) -> Result<Vec<Arg<'_>>, NoMemory> {
-        Ok(match self {
-            Event::Destroyed { serial } => Vec::from_array(alloc, [Arg::Uint32(*serial)])?,
-            Event::Keymap {
-                keymap_type,
-                size,
-                keymap,
-            } => {
-                Vec::from_array(
-                    alloc,
-                    [
-                        Arg::Uint32(u32::from(*keymap_type)),
-                        Arg::Uint32(*size),
-                        Arg::Fd(*keymap),
-                    ],
-                )?
-            }
-            Event::Key { key, state } => {
-                Vec::from_array(alloc, [Arg::Uint32(*key), Arg::Uint32(u32::from(*state))])?
-            }
-            Event::Modifiers {
-                serial,
-                depressed,
-                locked,
-                latched,
-                group,
-            } => {
-                Vec::from_array(
-                    alloc,
-                    [
-                        Arg::Uint32(*serial),
-                        Arg::Uint32(*depressed),
-                        Arg::Uint32(*locked),
-                        Arg::Uint32(*latched),
-                        Arg::Uint32(*group),
-                    ],
-                )?
-            }
-        })
+        rows!(show_row(self, alloc))
     }
 }

@@ -22,6 +22,7 @@ pub mod pointer_absolute;
 mod prelude;
 mod proxy;
 mod release;
+mod rows;
 pub mod scroll;
 pub mod seat;
 pub mod text;

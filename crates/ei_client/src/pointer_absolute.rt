@@ -1,6 +1,6 @@
 //! `ei_pointer_absolute`: the motion of a device to points of its regions.
 
-ghost use Rattle.std.specs.Prelude.{refl, codes, [], ◌∷◌};
+ghost use Rattle.std.specs.Prelude.{codes, [], ◌∷◌};
 ghost use Rattle.ei_client.specs.Words.{KnownInterface, Word, Sends};
 ghost use Rattle.ei_client.specs.PointerAbsolute.{opcode_of, values_of, request};
 
@@ -8,10 +8,6 @@ use crate::prelude::*;
 
 /// The motion of a device to points of its regions.
 pub type PointerAbsolute = Proxy<kinds::PointerAbsolute>;
-
-impl Release for kinds::PointerAbsolute {
-    ghost row = { refl };
-}
 
 impl PointerAbsolute {
     /// Tells the server that the pointer moves to the point at x and y, in logical pixels.
@@ -34,6 +30,16 @@ pub enum Event {
     MotionAbsolute { x: RawFloat, y: RawFloat },
 }
 
+/// The rows, from which the macros of `rows.rt` write the bodies below.
+macro_rules! rows {
+    ($write:ident $with:tt) => {
+        $write! { $with Event "pointer_absolute";
+            0 => Destroyed { serial: Uint32 },
+            1 => MotionAbsolute { x: Float, y: Float },
+        }
+    };
+}
+
 impl Message for Event {
     ghost code = { opcode_of };
 
@@ -42,33 +48,15 @@ impl Message for Event {
     ghost KNOWN = { KnownInterface.PointerAbsolute };
 
     #[inline(always)]
-    fn parse(opcode: u32, bytes: &mut ByteStream<'_>, _: &mut Table) -> Parsed<Event> {
-        match opcode {
-            0 => Ok(Event::Destroyed {
-                serial: read_one(bytes)?,
-            }),
-            1 => {
-                let (x, y) = read_two(bytes)?;
-                Ok(Event::MotionAbsolute { x, y })
-            }
-            _ => Err(ParseError::InvalidOpcode("pointer_absolute", opcode)),
-        }
+    fn parse(opcode: u32, bytes: &mut ByteStream<'_>, objects: &mut Table) -> Parsed<Event> {
+        rows!(read_row(opcode, bytes, objects))
     }
 
     fn opcode(&self) -> u32 {
-        match self {
-            Event::Destroyed { .. } => 0,
-            Event::MotionAbsolute { .. } => 1,
-        }
+        rows!(opcode_of(self))
     }
 
     fn args(&self, alloc: Global) -> Result<Vec<Arg<'_>>, NoMemory> {
-        Ok(match self {
-            Event::Destroyed { serial } => Vec::from_array(alloc, [Arg::Uint32(*serial)])?,
-            Event::MotionAbsolute { x, y } => Vec::from_array(
-                alloc,
-                [Arg::Float(x.0), Arg::Float(y.0)],
-            )?,
-        })
+        rows!(show_row(self, alloc))
     }
 }

@@ -1,6 +1,6 @@
 //! The request by which a client gives an object back.
 
-ghost use Rattle.std.specs.Prelude.{◌≡◌, Some, false, codes, []};
+ghost use Rattle.std.specs.Prelude.{◌≡◌, Some, false, refl, codes, []};
 ghost use Rattle.ei_spec.specs.Rows.{row_named};
 ghost use Rattle.ei_spec.specs.Table.{table, release};
 ghost use Rattle.ei_client.specs.Words.{Sends};
@@ -11,6 +11,42 @@ use ei_backend::Kind;
 /// The kinds whose objects a client gives back by `release`, their request 0.
 pub trait Release: Kind {
     ghost row: { row_named (codes "release") (table false Self.KNOWN) ≡ Some (0, release) };
+}
+
+impl Release for kinds::Seat {
+    ghost row = { refl };
+}
+
+impl Release for kinds::Device {
+    ghost row = { refl };
+}
+
+impl Release for kinds::Pointer {
+    ghost row = { refl };
+}
+
+impl Release for kinds::PointerAbsolute {
+    ghost row = { refl };
+}
+
+impl Release for kinds::Scroll {
+    ghost row = { refl };
+}
+
+impl Release for kinds::Button {
+    ghost row = { refl };
+}
+
+impl Release for kinds::Keyboard {
+    ghost row = { refl };
+}
+
+impl Release for kinds::Touchscreen {
+    ghost row = { refl };
+}
+
+impl Release for kinds::Text {
+    ghost row = { refl };
 }
 
 impl<K: Release> Proxy<K> {

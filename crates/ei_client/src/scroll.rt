@@ -1,6 +1,6 @@
 //! `ei_scroll`: the scrolling of a device.
 
-ghost use Rattle.std.specs.Prelude.{refl, codes, [], ◌∷◌};
+ghost use Rattle.std.specs.Prelude.{codes, [], ◌∷◌};
 ghost use Rattle.ei_client.specs.Words.{KnownInterface, Word, Signed, Sends};
 ghost use Rattle.ei_client.specs.Scroll.{opcode_of, values_of, request};
 
@@ -8,10 +8,6 @@ use crate::prelude::*;
 
 /// The scrolling of a device.
 pub type Scroll = Proxy<kinds::Scroll>;
-
-impl Release for kinds::Scroll {
-    ghost row = { refl };
-}
 
 impl Scroll {
     /// Tells the server that it scrolls by x and y, in logical pixels.
@@ -59,6 +55,18 @@ pub enum Event {
     ScrollStop { x: u32, y: u32, is_cancel: u32 },
 }
 
+/// The rows, from which the macros of `rows.rt` write the bodies below.
+macro_rules! rows {
+    ($write:ident $with:tt) => {
+        $write! { $with Event "scroll";
+            0 => Destroyed { serial: Uint32 },
+            1 => Scroll { x: Float, y: Float },
+            2 => ScrollDiscrete { x: Int32, y: Int32 },
+            3 => ScrollStop { x: Uint32, y: Uint32, is_cancel: Uint32 },
+        }
+    };
+}
+
 impl Message for Event {
     ghost code = { opcode_of };
 
@@ -67,50 +75,15 @@ impl Message for Event {
     ghost KNOWN = { KnownInterface.Scroll };
 
     #[inline(always)]
-    fn parse(opcode: u32, bytes: &mut ByteStream<'_>, _: &mut Table) -> Parsed<Event> {
-        match opcode {
-            0 => Ok(Event::Destroyed {
-                serial: read_one(bytes)?,
-            }),
-            1 => {
-                let (x, y) = read_two(bytes)?;
-                Ok(Event::Scroll { x, y })
-            }
-            2 => {
-                let (x, y) = read_two(bytes)?;
-                Ok(Event::ScrollDiscrete { x, y })
-            }
-            3 => {
-                let (x, y, is_cancel) = read_three(bytes)?;
-                Ok(Event::ScrollStop { x, y, is_cancel })
-            }
-            _ => Err(ParseError::InvalidOpcode("scroll", opcode)),
-        }
+    fn parse(opcode: u32, bytes: &mut ByteStream<'_>, objects: &mut Table) -> Parsed<Event> {
+        rows!(read_row(opcode, bytes, objects))
     }
 
     fn opcode(&self) -> u32 {
-        match self {
-            Event::Destroyed { .. } => 0,
-            Event::Scroll { .. } => 1,
-            Event::ScrollDiscrete { .. } => 2,
-            Event::ScrollStop { .. } => 3,
-        }
+        rows!(opcode_of(self))
     }
 
     fn args(&self, alloc: Global) -> Result<Vec<Arg<'_>>, NoMemory> {
-        Ok(match self {
-            Event::Destroyed { serial } => Vec::from_array(alloc, [Arg::Uint32(*serial)])?,
-            Event::Scroll { x, y } => Vec::from_array(alloc, [Arg::Float(x.0), Arg::Float(y.0)])?,
-            Event::ScrollDiscrete { x, y } => Vec::from_array(
-                alloc,
-                [Arg::Int32(*x), Arg::Int32(*y)],
-            )?,
-            Event::ScrollStop { x, y, is_cancel } => {
-                Vec::from_array(
-                    alloc,
-                    [Arg::Uint32(*x), Arg::Uint32(*y), Arg::Uint32(*is_cancel)],
-                )?
-            }
-        })
+        rows!(show_row(self, alloc))
     }
 }

@@ -1,6 +1,6 @@
 //! `ei_seat`: a seat, which offers capabilities.
 
-ghost use Rattle.std.specs.Prelude.{refl, codes, [], ◌∷◌};
+ghost use Rattle.std.specs.Prelude.{codes, [], ◌∷◌};
 ghost use Rattle.ei_client.specs.Words.{KnownInterface, Long, Sends};
 ghost use Rattle.ei_client.specs.Seat.{opcode_of, values_of, announced_of, request};
 
@@ -9,10 +9,6 @@ use crate::prelude::*;
 
 /// A seat.
 pub type Seat = Proxy<kinds::Seat>;
-
-impl Release for kinds::Seat {
-    ghost row = { refl };
-}
 
 impl Seat {
     /// Asks for devices of these capabilities: a mask of those that the seat offered.
@@ -49,6 +45,19 @@ pub enum Event {
     Device { device: Device },
 }
 
+/// The rows, from which the macros of `rows.rt` write the bodies below.
+macro_rules! rows {
+    ($write:ident $with:tt) => {
+        $write! { $with Event "seat";
+            0 => Destroyed { serial: Uint32 },
+            1 => Name { name: Text },
+            2 => Capability { mask: Uint64, interface: Text },
+            3 => Done,
+            4 => Device { device: new Device },
+        }
+    };
+}
+
 impl Message for Event {
     ghost code = { opcode_of };
 
@@ -60,49 +69,14 @@ impl Message for Event {
 
     #[inline(always)]
     fn parse(opcode: u32, bytes: &mut ByteStream<'_>, objects: &mut Table) -> Parsed<Event> {
-        match opcode {
-            0 => Ok(Event::Destroyed {
-                serial: read_one(bytes)?,
-            }),
-            1 => Ok(Event::Name {
-                name: read_one(bytes)?,
-            }),
-            2 => {
-                let (mask, interface) = read_two(bytes)?;
-                Ok(Event::Capability { mask, interface })
-            }
-            3 => Ok(Event::Done),
-            4 => {
-                let (id, version) = read_two(bytes)?;
-                let device = Device::announced(objects, id, version)?;
-                Ok(Event::Device { device })
-            }
-            _ => Err(ParseError::InvalidOpcode("seat", opcode)),
-        }
+        rows!(read_row(opcode, bytes, objects))
     }
 
     fn opcode(&self) -> u32 {
-        match self {
-            Event::Destroyed { .. } => 0,
-            Event::Name { .. } => 1,
-            Event::Capability { .. } => 2,
-            Event::Done => 3,
-            Event::Device { .. } => 4,
-        }
+        rows!(opcode_of(self))
     }
 
     fn args(&self, alloc: Global) -> Result<Vec<Arg<'_>>, NoMemory> {
-        Ok(match self {
-            Event::Destroyed { serial } => Vec::from_array(alloc, [Arg::Uint32(*serial)])?,
-            Event::Name { name } => Vec::from_array(alloc, [Arg::String(Some(name.as_str()))])?,
-            Event::Capability { mask, interface } => {
-                Vec::from_array(
-                    alloc,
-                    [Arg::Uint64(*mask), Arg::String(Some(interface.as_str()))],
-                )?
-            }
-            Event::Done => Vec::new(alloc),
-            Event::Device { device } => Vec::from_array(alloc, [device.as_arg()])?,
-        })
+        rows!(show_row(self, alloc))
     }
 }

@@ -1,6 +1,6 @@
 //! `ei_text`: the keysyms and the text of a device.
 
-ghost use Rattle.std.specs.Prelude.{refl, codes, [], ◌∷◌};
+ghost use Rattle.std.specs.Prelude.{codes, [], ◌∷◌};
 ghost use Rattle.ei_client.specs.Words.{KnownInterface, Word, Letters, Sends, SendsText, key_state_number};
 ghost use Rattle.ei_client.specs.Text.{opcode_of, values_of, request};
 
@@ -9,10 +9,6 @@ use ei_types::KeyState;
 
 /// The keysyms and the text of a device.
 pub type Text = Proxy<kinds::Text>;
-
-impl Release for kinds::Text {
-    ghost row = { refl };
-}
 
 impl Text {
     /// Tells the server that a keysym, by its number in XKB, goes down or up.
@@ -49,6 +45,17 @@ pub enum Event {
     Utf8 { text: EiText },
 }
 
+/// The rows, from which the macros of `rows.rt` write the bodies below.
+macro_rules! rows {
+    ($write:ident $with:tt) => {
+        $write! { $with Event "text";
+            0 => Destroyed { serial: Uint32 },
+            1 => Keysym { keysym: Uint32, state: Enum },
+            2 => Utf8 { text: Text },
+        }
+    };
+}
+
 impl Message for Event {
     ghost code = { opcode_of };
 
@@ -57,40 +64,15 @@ impl Message for Event {
     ghost KNOWN = { KnownInterface.Text };
 
     #[inline(always)]
-    fn parse(opcode: u32, bytes: &mut ByteStream<'_>, _: &mut Table) -> Parsed<Event> {
-        match opcode {
-            0 => Ok(Event::Destroyed {
-                serial: read_one(bytes)?,
-            }),
-            1 => {
-                let (keysym, state) = read_two(bytes)?;
-                Ok(Event::Keysym { keysym, state })
-            }
-            2 => Ok(Event::Utf8 {
-                text: read_one(bytes)?,
-            }),
-            _ => Err(ParseError::InvalidOpcode("text", opcode)),
-        }
+    fn parse(opcode: u32, bytes: &mut ByteStream<'_>, objects: &mut Table) -> Parsed<Event> {
+        rows!(read_row(opcode, bytes, objects))
     }
 
     fn opcode(&self) -> u32 {
-        match self {
-            Event::Destroyed { .. } => 0,
-            Event::Keysym { .. } => 1,
-            Event::Utf8 { .. } => 2,
-        }
+        rows!(opcode_of(self))
     }
 
     fn args(&self, alloc: Global) -> Result<Vec<Arg<'_>>, NoMemory> {
-        Ok(match self {
-            Event::Destroyed { serial } => Vec::from_array(alloc, [Arg::Uint32(*serial)])?,
-            Event::Keysym { keysym, state } => {
-                Vec::from_array(
-                    alloc,
-                    [Arg::Uint32(*keysym), Arg::Uint32(u32::from(*state))],
-                )?
-            }
-            Event::Utf8 { text } => Vec::from_array(alloc, [Arg::String(Some(text.as_str()))])?,
-        })
+        rows!(show_row(self, alloc))
     }
 }

@@ -1,6 +1,6 @@
 //! `ei_touchscreen`: the touches on a device.
 
-ghost use Rattle.std.specs.Prelude.{refl, codes, [], ◌∷◌};
+ghost use Rattle.std.specs.Prelude.{codes, [], ◌∷◌};
 ghost use Rattle.ei_client.specs.Words.{KnownInterface, Word, Sends};
 ghost use Rattle.ei_client.specs.Touchscreen.{opcode_of, values_of, request};
 
@@ -8,10 +8,6 @@ use crate::prelude::*;
 
 /// The touches on a device.
 pub type Touchscreen = Proxy<kinds::Touchscreen>;
-
-impl Release for kinds::Touchscreen {
-    ghost row = { refl };
-}
 
 impl Touchscreen {
     /// Tells the server that a touch begins at the point at x and y, in logical pixels. The id is its name
@@ -83,6 +79,19 @@ pub enum Event {
     },
 }
 
+/// The rows, from which the macros of `rows.rt` write the bodies below.
+macro_rules! rows {
+    ($write:ident $with:tt) => {
+        $write! { $with Event "touchscreen";
+            0 => Destroyed { serial: Uint32 },
+            1 => Down { touchid: Uint32, x: Float, y: Float },
+            2 => Motion { touchid: Uint32, x: Float, y: Float },
+            3 => Up { touchid: Uint32 },
+            4 => Cancel { touchid: Uint32 },
+        }
+    };
+}
+
 impl Message for Event {
     ghost code = { opcode_of };
 
@@ -91,51 +100,15 @@ impl Message for Event {
     ghost KNOWN = { KnownInterface.Touchscreen };
 
     #[inline(always)]
-    fn parse(opcode: u32, bytes: &mut ByteStream<'_>, _: &mut Table) -> Parsed<Event> {
-        match opcode {
-            0 => Ok(Event::Destroyed {
-                serial: read_one(bytes)?,
-            }),
-            1 => {
-                let (touchid, x, y) = read_three(bytes)?;
-                Ok(Event::Down { touchid, x, y })
-            }
-            2 => {
-                let (touchid, x, y) = read_three(bytes)?;
-                Ok(Event::Motion { touchid, x, y })
-            }
-            3 => Ok(Event::Up {
-                touchid: read_one(bytes)?,
-            }),
-            4 => Ok(Event::Cancel {
-                touchid: read_one(bytes)?,
-            }),
-            _ => Err(ParseError::InvalidOpcode("touchscreen", opcode)),
-        }
+    fn parse(opcode: u32, bytes: &mut ByteStream<'_>, objects: &mut Table) -> Parsed<Event> {
+        rows!(read_row(opcode, bytes, objects))
     }
 
     fn opcode(&self) -> u32 {
-        match self {
-            Event::Destroyed { .. } => 0,
-            Event::Down { .. } => 1,
-            Event::Motion { .. } => 2,
-            Event::Up { .. } => 3,
-            Event::Cancel { .. } => 4,
-        }
+        rows!(opcode_of(self))
     }
 
     fn args(&self, alloc: Global) -> Result<Vec<Arg<'_>>, NoMemory> {
-        Ok(match self {
-            Event::Destroyed { serial } => Vec::from_array(alloc, [Arg::Uint32(*serial)])?,
-            Event::Down { touchid, x, y } | Event::Motion { touchid, x, y } => {
-                Vec::from_array(
-                    alloc,
-                    [Arg::Uint32(*touchid), Arg::Float(x.0), Arg::Float(y.0)],
-                )?
-            }
-            Event::Up { touchid } | Event::Cancel { touchid } => {
-                Vec::from_array(alloc, [Arg::Uint32(*touchid)])?
-            }
-        })
+        rows!(show_row(self, alloc))
     }
 }
