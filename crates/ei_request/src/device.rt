@@ -30,6 +30,18 @@ use std::fmt;
 use std::hash::{Hash, Hasher};
 use std::marker::Model;
 
+// Sends an event that bears the next serial, and answers whether it was sent. If so that serial is the last.
+macro_rules! tell {
+    ($conn:ident, $serial:ident => $sent:expr) => {{
+        let $serial = $conn.last_serial().wrapping_add(1);
+        let sent = $sent;
+        if sent.is_ok() {
+            $conn.next_serial();
+        }
+        sent
+    }};
+}
+
 /// The key of a device: a plain value, told apart from others by its id and that of its seat. Contracts see both
 /// objects.
 #[derive(Drop)]
@@ -154,10 +166,7 @@ impl Device {
         ensures err { OnErr result (conn.new ≡ conn.old) }
         ensures only { IfErr result (λ e. e ≡ send_error.NoMemory) }
     {
-        let serial = conn.last_serial().wrapping_add(1);
-        self.proxy.resumed(conn.context_mut(), serial)?;
-        conn.next_serial();
-        Ok(())
+        tell!(conn, serial => self.proxy.resumed(conn.context_mut(), serial))
     }
 
     /// Tells the client that the device takes no input. No touch of it is down any more; what waits stays. The event
@@ -173,9 +182,7 @@ impl Device {
         ensures err { OnErr result (conn.new ≡ conn.old) }
         ensures only { IfErr result (λ e. e ≡ send_error.NoMemory) }
     {
-        let serial = conn.last_serial().wrapping_add(1);
-        self.proxy.paused(conn.context_mut(), serial)?;
-        conn.next_serial();
+        tell!(conn, serial => self.proxy.paused(conn.context_mut(), serial))?;
         conn.clear_touches(self);
         Ok(())
     }
@@ -190,11 +197,7 @@ impl Device {
         ensures err { OnErr result (conn.new ≡ conn.old) }
         ensures only { IfErr result (λ e. e ≡ send_error.NoMemory) }
     {
-        let serial = conn.last_serial().wrapping_add(1);
-        self.proxy
-            .start_emulating(conn.context_mut(), serial, sequence)?;
-        conn.next_serial();
-        Ok(())
+        tell!(conn, serial => self.proxy.start_emulating(conn.context_mut(), serial, sequence))
     }
 
     /// Tells a receiver that the server sends no more input. The event has the next serial. The connection holds the device.
@@ -206,10 +209,7 @@ impl Device {
         ensures err { OnErr result (conn.new ≡ conn.old) }
         ensures only { IfErr result (λ e. e ≡ send_error.NoMemory) }
     {
-        let serial = conn.last_serial().wrapping_add(1);
-        self.proxy.stop_emulating(conn.context_mut(), serial)?;
-        conn.next_serial();
-        Ok(())
+        tell!(conn, serial => self.proxy.stop_emulating(conn.context_mut(), serial))
     }
 
     /// Tells a receiver that the input since the last frame belongs together. The time is in microseconds. The event
@@ -222,10 +222,7 @@ impl Device {
         ensures err { OnErr result (conn.new ≡ conn.old) }
         ensures only { IfErr result (λ e. e ≡ send_error.NoMemory) }
     {
-        let serial = conn.last_serial().wrapping_add(1);
-        self.proxy.frame(conn.context_mut(), serial, time)?;
-        conn.next_serial();
-        Ok(())
+        tell!(conn, serial => self.proxy.frame(conn.context_mut(), serial, time))
     }
 }
 
