@@ -1,6 +1,6 @@
 //! The connection of a server.
 
-ghost use Rattle.std.specs.Prelude.{◌≡◌, ◌≤◌, ◌<◌, ◌+◌, ◌↔◌, ◌++◌, ℕ, Some, None, IsSome, IfSome, IfOk, IfErr, IsOk, IsErrOf, OnOk, OnErr, is_some};
+ghost use Rattle.std.specs.Prelude.{◌≡◌, ◌≤◌, ◌<◌, ◌+◌, ◌↔◌, ◌++◌, ℕ, Some, None, IfSome, IfOk, IfErr, IsOk, IsErrOf, OnOk, OnErr, is_some};
 ghost use Rattle.std.specs.Prelude.{true, [], ◌∷◌, find, length};
 ghost use Rattle.std.specs.Option.{option_copied, option_map};
 ghost use Rattle.std.specs.FinMap as finite;
@@ -24,7 +24,7 @@ ghost use Rattle.ei_request.specs.Connection.{new_connection, next_serial, holds
 ghost use Rattle.ei_request.specs.Sending.{disconnected_event, no_object_event, says};
 ghost use Rattle.ei_request.specs.Removing.{RemovesDevice, RemovesSeat, Disconnects};
 ghost use Rattle.ei_request.specs.Making.{new_seat, AddsSeat, AddsDevice, is_long_name, is_long_description};
-ghost use Rattle.ei_request.specs.Making.{granted_by, granted, has_keyboard, new_device, NeedsKeyboard, IsGiven};
+ghost use Rattle.ei_request.specs.Making.{granted, has_keyboard, new_device, NeedsKeyboard};
 ghost use Rattle.std.specs.List.{Any};
 ghost use Rattle.ei_request.specs.Reading.{name_in, interface_in};
 ghost use Rattle.ei_request.specs.Refusing.{asked_refusal, Tells};
@@ -433,39 +433,8 @@ impl Connection {
         }
     }
 
-    /// Announces a device of the seat.
-    pub(crate) fn add_device(
-        &mut self,
-        seat: &Seat,
-        name: Option<&str>,
-        device_type: DeviceType,
-        capabilities: DeviceCapabilities,
-        setup: &[DeviceSetup<'_>],
-    ) -> Result<Device, SendError>
-        requires held { IsSome (find (is_seat seat.now.id) self.old.seats) }
-        requires keyboard { Any NeedsKeyboard setup.now → IsGiven self.old seat.now.id capabilities }
-        ensures device { IfOk result (λ d. d ≡ (new_device (endpoint_of self.old.ctx) self.old.negotiated seat.now (option_copied name.entry)
-            (granted_by (find (is_seat seat.now.id) self.old.seats) capabilities)).device) }
-        ensures ok { OnOk result (AddsDevice self.old seat.now (option_copied name.entry) device_type (granted_by (find (is_seat seat.now.id)
-            self.old.seats) capabilities) setup.now self.new) }
-        ensures err { OnErr result (Unchanged self.old self.new) }
-        ensures ring { self.new.ctx.capacity ≡ self.old.ctx.capacity }
-        ensures exhausted { IsErrOf result send_error.IdsExhausted ↔
-            (own_end self.old.ctx.table < self.old.ctx.table.next_own + (length (granted_by (find (is_seat seat.now.id) self.old.seats) capabilities) + 1)) }
-        ensures long { IsErrOf result send_error.MessageTooLong ↔
-            ((self.old.ctx.table.next_own + (length (granted_by (find (is_seat seat.now.id) self.old.seats) capabilities) + 1) ≤ own_end self.old.ctx.table)
-            × (is_long_description self.old.ctx.table.next_own (option_copied name.entry) setup.now ≡ true)) }
-    {
-        let given = self.capabilities_of(seat.id()).unwrap();
-        let allowed = Allowed {
-            given,
-            wanted: capabilities,
-        };
-        self.add_allowed(seat, name, device_type, allowed, setup)
-    }
-
     /// Announces a device of the seat that has these capabilities.
-    fn add_allowed(
+    pub(crate) fn add_allowed(
         &mut self,
         seat: &Seat,
         name: Option<&str>,

@@ -18,7 +18,7 @@ ghost use Rattle.ei_request.specs.Keys.{same_seat, same_seat_equiv, seat_text};
 
 use crate::connection::Connection;
 use crate::device::Device;
-use crate::making::DeviceSetup;
+use crate::making::{Allowed, DeviceSetup};
 use ei_backend::Interface;
 use ei_server::Seat as Proxy;
 use ei_types::{DeviceCapabilities, DeviceType};
@@ -110,7 +110,12 @@ impl Seat {
             ((conn.old.ctx.table.next_own + (length (granted_by (find (is_seat self.now.id) conn.old.seats) capabilities) + 1) ≤ own_end conn.old.ctx.table)
             × (is_long_description conn.old.ctx.table.next_own (option_copied name.entry) setup.now ≡ true)) }
     {
-        conn.add_device(self, name, device_type, capabilities, setup)
+        let given = conn.capabilities_of(self.id()).unwrap();
+        let allowed = Allowed {
+            given,
+            wanted: capabilities,
+        };
+        conn.add_allowed(self, name, device_type, allowed, setup)
     }
 
     /// Takes the seat away: its devices by rising ids, then `destroyed` of the seat, unless the client had released it.
