@@ -18,7 +18,7 @@ use crate::event::{self, EisRequest};
 use crate::input::{self, Input};
 use crate::queue::Queue;
 use crate::seat::Seat;
-use ei_backend::{Clock, Interface, Object};
+use ei_backend::{Clock, Interface, MessageEnum};
 use ei_handshake::EisHandshakeResp;
 use ei_server::{Context, Request, connection, device, seat};
 use ei_types::{DeviceCapabilities, Error, RequestError};
@@ -117,47 +117,34 @@ impl EisRequestConverter {
         ensures kept { OnErr result (clock.new ≡ clock.old) }
         ensures clock { LentClock C.later clock.old clock.new }
     {
-        match request {
-            Request::Handshake(_, _) => Err(Error::UnexpectedHandshakeEvent),
-            Request::Connection(_, request) => self.handle_connection(request),
-            Request::Pingpong(_, _) => Ok(()),
-            Request::Seat(seat, request) => self.handle_seat(seat.as_object().id(), request),
-            Request::Device(device, request) => {
-                self.handle_device(clock, device.as_object().id(), request)
-            }
-            Request::Pointer(target, request) => {
-                self.obey(target.as_object(), input::of_pointer(request))
-            }
-            Request::PointerAbsolute(target, request) => {
-                self.obey(target.as_object(), input::of_pointer_absolute(request))
-            }
-            Request::Scroll(target, request) => {
-                self.obey(target.as_object(), input::of_scroll(request))
-            }
-            Request::Button(target, request) => {
-                self.obey(target.as_object(), input::of_button(request))
-            }
-            Request::Keyboard(target, request) => {
-                self.obey(target.as_object(), input::of_keyboard(request))
-            }
-            Request::Touchscreen(target, request) => {
-                self.obey(target.as_object(), input::of_touchscreen(request))
-            }
-            Request::Text(target, request) => {
-                self.obey(target.as_object(), input::of_text(request))
-            }
-        }
+        let id = request.object().id();
+        let version = request.object().version();
+        let asked = match request {
+            Request::Handshake(_target, _request) => return Err(Error::UnexpectedHandshakeEvent),
+            Request::Connection(_target, request) => return self.handle_connection(request),
+            Request::Pingpong(_target, _request) => return Ok(()),
+            Request::Seat(_target, request) => return self.handle_seat(id, request),
+            Request::Device(_target, request) => return self.handle_device(clock, id, request),
+            Request::Pointer(_target, request) => input::of_pointer(request),
+            Request::PointerAbsolute(_target, request) => input::of_pointer_absolute(request),
+            Request::Scroll(_target, request) => input::of_scroll(request),
+            Request::Button(_target, request) => input::of_button(request),
+            Request::Keyboard(_target, request) => input::of_keyboard(request),
+            Request::Touchscreen(_target, request) => input::of_touchscreen(request),
+            Request::Text(_target, request) => input::of_text(request),
+        };
+        self.obey(id, version, asked)
     }
 
     /// A request to an interface of a device: an input, or else the release.
     #[inline(always)]
-    fn obey(&mut self, target: &Object, asked: Option<Input>) -> Result<(), Error>
-        ensures accepted { OnOk result (asked_refusal target.now.version asked (find (has_interface target.now.id) self.old.handle.devices) ≡ None) }
-        ensures ok { OnOk result (self.new ≡ record self.old { handle = obeys self.old.handle target.now.id asked }) }
-        ensures why { IfErr result (Tells (asked_refusal target.now.version asked (find (has_interface target.now.id) self.old.handle.devices))) }
+    fn obey(&mut self, id: u64, version: u32, asked: Option<Input>) -> Result<(), Error>
+        ensures accepted { OnOk result (asked_refusal version asked (find (has_interface id) self.old.handle.devices) ≡ None) }
+        ensures ok { OnOk result (self.new ≡ record self.old { handle = obeys self.old.handle id asked }) }
+        ensures why { IfErr result (Tells (asked_refusal version asked (find (has_interface id) self.old.handle.devices))) }
         ensures err { OnErr result (self.new ≡ self.old) }
     {
-        self.handle.obey(target.id(), target.version(), asked)
+        self.handle.obey(id, version, asked)
     }
 
     /// A request to the connection.
