@@ -5,7 +5,10 @@ use Rattle.std.proofs.lemmas.Bool.Decides.{nat_tests}
 use Rattle.ei_types.specs.declared.error.Error.{Error}
 use Rattle.ei_types.specs.declared.error.Error.TheVariants as error
 use Rattle.ei_backend.specs.Outside.{ReadsClock}
-use Rattle.ei_session.specs.Meaning.{Meaning}
+use Rattle.ei_session.specs.Meaning.{Meaning, Closes, Starts, Stops, Readies}
+use Rattle.ei_server.specs.declared.device.Request.{Request}
+use Rattle.ei_server.specs.declared.device.Request.TheVariants as request
+use Rattle.ei_request.specs.Typed.{device_meaning}
 use Rattle.ei_request.specs.Keys.{DeviceKey}
 use Rattle.ei_request.specs.declared.event.EisRequest.{EisRequest}
 use Rattle.ei_request.specs.Held.{DeviceView, group_of, waiting_of}
@@ -13,6 +16,7 @@ use Rattle.ei_request.specs.Connection.{ConnectionView}
 use Rattle.ei_request.specs.Converter.{ConverterView}
 use Rattle.ei_request.specs.Refusing.{refusal, Tells}
 use Rattle.ei_request.specs.Handling.{Times, is_some_waiting, device_in, emptied_at, closes, closes_group, handled, ClosesWith, HandlesTo}
+use Rattle.ei_request.specs.Handling.{queued_of, closed_of, start_of, stop_of, ready_of}
 
 -- ---- when the clock is asked
 
@@ -79,3 +83,19 @@ closes_as readings old id version meaning make request d (Err e) before after ne
   same = err;
   unread = ap readings unread;
 }
+
+-- any request to a device that is held but a frame
+pub closes_device : {X : Type 0} (readings : X → Option (List ℕ)) (old : ConverterView) (id version : ℕ) (asked : Request) (queued : EisRequest) (d : DeviceView)
+    (result : Result (Unit {0}) Error) (before after : X) (new : ConverterView) →
+    closes_group (device_meaning asked) ≡ true → device_in old id ≡ Some d → queued ≡ queued_of asked d.device →
+    OnOk result (ClosesWith old id queued (readings before) (readings after) new) → OnErr result (new ≡ old) → OnErr result (after ≡ before) → IfErr result (λ e. e ≡ error.NoMemory) →
+    HandlesTo old id version (device_meaning asked) (readings before) result (readings after) new
+closes_device readings old id version request.Release queued d result before after new group found is ok err unread only =
+    closes_as readings old id version Closes closed_of queued d result before after new refl refl (λ time. refl) found is ok err unread only
+closes_device readings old id version (request.StartEmulating serial sequence) queued d result before after new group found is ok err unread only =
+    closes_as readings old id version (Starts serial sequence) (start_of serial sequence) queued d result before after new refl refl (λ time. refl) found is ok err unread only
+closes_device readings old id version (request.StopEmulating serial) queued d result before after new group found is ok err unread only =
+    closes_as readings old id version (Stops serial) (stop_of serial) queued d result before after new refl refl (λ time. refl) found is ok err unread only
+closes_device readings old id version request.Ready queued d result before after new group found is ok err unread only =
+    closes_as readings old id version Readies ready_of queued d result before after new refl refl (λ time. refl) found is ok err unread only
+closes_device readings old id version (request.Frame serial time) queued d result before after new group found is ok err unread only = absurd cc

@@ -3,6 +3,8 @@ use Rattle.std.specs.Prelude.{◌≡◌, ℕ, Bool, true, false, List, [], ◌�
 use Rattle.ei_spec.specs.Interface.{ObjectView}
 use Rattle.ei_server.specs.declared.request.Request.{Request}
 use Rattle.ei_server.specs.Request.{target_of}
+use Rattle.ei_server.specs.declared.device.Request.{Request as Device}
+use Rattle.ei_server.specs.declared.device.Request.TheVariants as device
 use Rattle.ei_types.specs.declared.capability.DeviceCapabilities.{DeviceCapabilities}
 use Rattle.ei_types.specs.declared.error.Error.{Error}
 use Rattle.ei_request.specs.declared.input.Input.{Input}
@@ -102,6 +104,17 @@ start_of serial sequence device = asked.DeviceStartEmulating (record { device = 
 
 abbrev pub stop_of : ℕ → DeviceKey → EisRequest
 stop_of serial device = asked.DeviceStopEmulating (record { device = device; last_serial = serial })
+
+abbrev pub frame_of : ℕ → ℕ → DeviceKey → EisRequest
+frame_of serial time device = asked.Frame (record { device = device; last_serial = serial; time = time })
+
+-- what a request to a device becomes where it is queued
+abbrev pub queued_of : Device → DeviceKey → EisRequest
+queued_of device.Release = closed_of
+queued_of (device.StartEmulating serial sequence) = start_of serial sequence
+queued_of (device.StopEmulating serial) = stop_of serial
+queued_of (device.Frame serial time) = frame_of serial time
+queued_of device.Ready = ready_of
 
 -- ---- any request
 

@@ -10,10 +10,11 @@ ghost use Rattle.ei_request.specs.Converter.{first_of, rest_of};
 ghost use Rattle.ei_request.specs.Typed.{connection_meaning, seat_meaning, device_meaning};
 ghost use Rattle.ei_request.specs.Held.{is_seat, has_interface};
 ghost use Rattle.ei_request.specs.Refusing.{asked_refusal, mask_refusal, Tells};
-ghost use Rattle.ei_request.specs.Handling.{Handles, HandlesTo, obeys, hands_out, ClosesWith, device_in, set_of};
+ghost use Rattle.ei_request.specs.Handling.{Handles, HandlesTo, obeys, hands_out, closes_group, queued_of, ClosesWith, device_in, set_of};
 ghost use Rattle.ei_request.specs.Lending.{LendsHandle};
 
 use crate::connection::Connection;
+use crate::device::Device;
 use crate::event::{self, EisRequest};
 use crate::input::{self, Input};
 use crate::queue::Queue;
@@ -230,7 +231,7 @@ impl EisRequestConverter {
         }
     }
 
-    /// A request to the device of that id, which closes an open group, if it isn't a frame.
+    /// A request to the device of that id that isn't a frame. It closes an open group, if the device is held.
     #[inline(never)]
     fn handle_closing<C: Clock>(
         &mut self,
@@ -238,6 +239,7 @@ impl EisRequestConverter {
         id: u64,
         request: device::Request,
     ) -> Result<(), Error>
+        requires { closes_group (device_meaning request) ≡ true }
         ensures handles { (version : ℕ) → HandlesTo self.old id version (device_meaning request) (C.readings clock.old) result (C.readings clock.new) self.new }
         ensures kept { OnErr result (clock.new ≡ clock.old) }
         ensures later { C.later clock.old clock.new }
@@ -245,41 +247,8 @@ impl EisRequestConverter {
         let Some(held) = self.handle.find_device(id) else {
             return Ok(());
         };
-        let device = held.device().copy();
-        match request {
-            device::Request::Frame {
-                last_serial,
-                timestamp,
-            } => self.frame(id, last_serial, timestamp),
-            device::Request::Release => {
-                self.close(
-                    clock,
-                    id,
-                    EisRequest::DeviceClosed(event::DeviceClosed { device }),
-                )
-            }
-            device::Request::StartEmulating {
-                last_serial,
-                sequence,
-            } => {
-                let request = event::DeviceStartEmulating {
-                    device,
-                    last_serial,
-                    sequence,
-                };
-                self.close(clock, id, EisRequest::DeviceStartEmulating(request))
-            }
-            device::Request::StopEmulating { last_serial } => {
-                let request = event::DeviceStopEmulating {
-                    device,
-                    last_serial,
-                };
-                self.close(clock, id, EisRequest::DeviceStopEmulating(request))
-            }
-            device::Request::Ready => {
-                self.close(clock, id, EisRequest::Ready(event::Ready { device }))
-            }
-        }
+        let queued = queued_of(held.device().copy(), request);
+        self.close(clock, id, queued)
     }
 
     /// Hands out what waits on the device of that id with a frame, if it is held.
@@ -311,5 +280,37 @@ impl EisRequestConverter {
         self.handle.hand_out(&mut self.queue, id, serial, time);
         self.queue.push_reserved(request);
         Ok(())
+    }
+}
+
+/// What a request to the device becomes in the queue.
+fn queued_of(device: Device, request: device::Request) -> EisRequest
+    ensures { result ≡ queued_of request device }
+{
+    match request {
+        device::Request::Release => EisRequest::DeviceClosed(event::DeviceClosed { device }),
+        device::Request::StartEmulating {
+            last_serial,
+            sequence,
+        } => EisRequest::DeviceStartEmulating(event::DeviceStartEmulating {
+            device,
+            last_serial,
+            sequence,
+        }),
+        device::Request::StopEmulating { last_serial } => {
+            EisRequest::DeviceStopEmulating(event::DeviceStopEmulating {
+                device,
+                last_serial,
+            })
+        }
+        device::Request::Frame {
+            last_serial,
+            timestamp,
+        } => EisRequest::Frame(event::Frame {
+            device,
+            last_serial,
+            time: timestamp,
+        }),
+        device::Request::Ready => EisRequest::Ready(event::Ready { device }),
     }
 }
