@@ -12,6 +12,8 @@ use Rattle.ei_types.specs.declared.error.RequestError.TheVariants as request_err
 use Rattle.ei_session.specs.Meaning.{Meaning, Shakes, Syncs, Binds, RequestsDevice, Inputs}
 use Rattle.ei_request.specs.declared.input.Input.{Input}
 use Rattle.ei_request.specs.declared.input.Input.TheVariants.{TouchDown, TouchCancel, TextUtf8}
+use Rattle.ei_request.specs.declared.input_error.InputError.{InputError}
+use Rattle.ei_request.specs.declared.input_error.InputError.TheVariants as input_error
 use Rattle.ei_request.specs.Coded.{input_in_code}
 use Rattle.ei_request.specs.Held.{SeatView, DeviceView, is_seat, has_interface}
 use Rattle.ei_request.specs.Connection.{ConnectionView}
@@ -73,3 +75,16 @@ refusal c id version other = None
 abbrev pub Tells : Option Reason → Error → Type 0
 Tells reason error.NoMemory = Unit {0}
 Tells reason e = IsSome reason × (reason_of e ≡ reason)
+
+-- the reason that an input's error tells of an interface of that version
+abbrev pub input_reason : ℕ → InputError → Option Reason
+input_reason version input_error.OldTouchscreen = Some (BadVersion (name_of known.Touchscreen) version)
+input_reason version input_error.TooManyTouches = Some (Bad request_error.TooManyTouches)
+input_reason version input_error.DuplicatedTouchDown = Some (Bad request_error.DuplicatedTouchDown)
+input_reason version input_error.InvalidTextLength = Some (Bad request_error.InvalidTextLength)
+input_reason version input_error.NoMemory = None
+
+-- an input's error is want of memory, or it tells the reason, where there is one
+abbrev pub TellsOfInput : ℕ → Option Reason → InputError → Type 0
+TellsOfInput version reason input_error.NoMemory = Unit {0}
+TellsOfInput version reason e = IsSome reason × (input_reason version e ≡ reason)

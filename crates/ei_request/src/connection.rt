@@ -10,7 +10,6 @@ ghost use Rattle.ei_spec.specs.Interface.{Known};
 ghost use Rattle.ei_spec.specs.Message.{size};
 ghost use Rattle.ei_wire.specs.declared.error.SendError.TheVariants as send_error;
 ghost use Rattle.ei_wire.specs.declared.error.FlushError.TheVariants as flush_error;
-ghost use Rattle.ei_types.specs.declared.error.Error.TheVariants as error;
 ghost use Rattle.ei_types.specs.Enums.{disconnect_reason_number};
 ghost use Rattle.ei_backend.specs.Backend.{unsent_of, with_unsent};
 ghost use Rattle.ei_backend.specs.Outside.{Piece};
@@ -27,7 +26,7 @@ ghost use Rattle.ei_request.specs.Making.{new_seat, AddsSeat, AddsDevice, is_lon
 ghost use Rattle.ei_request.specs.Making.{granted, has_keyboard, new_device, NeedsKeyboard};
 ghost use Rattle.std.specs.List.{Any};
 ghost use Rattle.ei_request.specs.Reading.{name_in, interface_in};
-ghost use Rattle.ei_request.specs.Refusing.{asked_refusal, Tells};
+ghost use Rattle.ei_request.specs.Refusing.{asked_refusal, TellsOfInput};
 ghost use Rattle.ei_request.specs.Handling.{calls_back, releases_seat, obeys, emptied_at};
 ghost use Rattle.ei_request.specs.Lending.{LendsContext};
 
@@ -35,6 +34,7 @@ use crate::device::Device;
 use crate::devices::Devices;
 use crate::held::{HeldDevice, HeldSeat};
 use crate::input::Input;
+use crate::input_error::InputError;
 use crate::making::{self, Allowed, DeviceSetup};
 use crate::queue::Queue;
 use crate::seat::Seat;
@@ -44,9 +44,7 @@ use ei_handshake::{EisHandshakeResp, Versions};
 use ei_server::{Callback, Connection as Proxy, Context};
 use ei_spec::KnownInterface;
 use ei_spec::limits::MOST_MESSAGE_BYTES;
-use ei_types::{
-    ContextType, DeviceCapabilities, DeviceCapability, DeviceType, DisconnectReason, Error,
-};
+use ei_types::{ContextType, DeviceCapabilities, DeviceCapability, DeviceType, DisconnectReason};
 use ei_wire::{EiText, FlushError, SendError};
 use std::alloc::Global;
 use std::marker::Model;
@@ -517,18 +515,23 @@ impl Connection {
 
     /// Does what a request to the interface of that id and version asks: an input, or else the release.
     #[inline(always)]
-    pub(crate) fn obey(&mut self, id: u64, version: u32, asked: Option<Input>) -> Result<(), Error>
+    pub(crate) fn obey(
+        &mut self,
+        id: u64,
+        version: u32,
+        asked: Option<Input>,
+    ) -> Result<(), InputError>
         ensures accepted { OnOk result (asked_refusal version asked (find (has_interface id) self.old.devices) ≡ None) }
         ensures ok { OnOk result (self.new ≡ obeys self.old id asked) }
-        ensures why { IfErr result (Tells (asked_refusal version asked (find (has_interface id) self.old.devices))) }
+        ensures why { IfErr result (TellsOfInput version (asked_refusal version asked (find (has_interface id) self.old.devices))) }
         ensures err { OnErr result (self.new ≡ self.old) }
     {
         match asked {
             Some(input) => self.devices.hear(id, version, input),
-            None => {
-                self.give_up(id)?;
-                Ok(())
-            }
+            None => match self.give_up(id) {
+                Ok(()) => Ok(()),
+                Err(_) => Err(InputError::NoMemory),
+            },
         }
     }
 

@@ -145,7 +145,10 @@ impl EisRequestConverter {
         ensures why { IfErr result (Tells (asked_refusal version asked (find (has_interface id) self.old.handle.devices))) }
         ensures err { OnErr result (self.new ≡ self.old) }
     {
-        self.handle.obey(id, version, asked)
+        if let Err(refused) = self.handle.obey(id, version, asked) {
+            return Err(refused.error(version));
+        }
+        Ok(())
     }
 
     /// A request to the connection.

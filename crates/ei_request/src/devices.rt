@@ -6,14 +6,14 @@ ghost use Rattle.std.specs.List.{filter};
 ghost use Rattle.ei_wire.specs.declared.error.SendError.TheVariants as send_error;
 ghost use Rattle.ei_request.specs.Held.{is_device, is_of_key, is_of_seat, has_interface, changed_first, without_first, emptied, untouched};
 ghost use Rattle.ei_request.specs.Held.{without_interface, takes_input, group_of, waiting_of, gone_ids};
-ghost use Rattle.ei_request.specs.Refusing.{input_refusal, Tells};
+ghost use Rattle.ei_request.specs.Refusing.{input_refusal, TellsOfInput};
 
 use crate::device::Device;
 use crate::held::HeldDevice;
 use crate::holding;
 use crate::input::Input;
+use crate::input_error::InputError;
 use crate::queue::Queue;
-use ei_types::Error;
 use ei_wire::SendError;
 use std::alloc::{AllocError, Global};
 use std::marker::Model;
@@ -154,10 +154,10 @@ impl Devices {
 impl Devices {
     /// The device that has the interface of that id and version takes an input, if one has it.
     #[inline(always)]
-    pub(crate) fn hear(&mut self, id: u64, version: u32, input: Input) -> Result<(), Error>
+    pub(crate) fn hear(&mut self, id: u64, version: u32, input: Input) -> Result<(), InputError>
         ensures accepted { OnOk result (input_refusal version input (find (has_interface id) self.old.items) ≡ None) }
         ensures ok { OnOk result (self.new.items ≡ changed_first (has_interface id) (takes_input input) self.old.items) }
-        ensures why { IfErr result (Tells (input_refusal version input (find (has_interface id) self.old.items))) }
+        ensures why { IfErr result (TellsOfInput version (input_refusal version input (find (has_interface id) self.old.items))) }
         ensures err { OnErr result (self.new.items ≡ self.old.items) }
     {
         holding::hear(&mut self.held, self.rising, id, version, input)

@@ -1,7 +1,7 @@
 //! What a connection keeps of a seat and of a device.
 
 ghost use Rattle.std.specs.Prelude.{◌≡◌, ◌<◌, ◌≤◌, ◌+◌, ◌∷◌, [], ◌++◌, OnOk, OnErr, IfErr, Some, None, length, false};
-ghost use Rattle.std.specs.Prelude.{IfSome, nat_eq, position, if◌then◌else◌};
+ghost use Rattle.std.specs.Prelude.{ℕ, IfSome, nat_eq, position, if◌then◌else◌};
 ghost use Rattle.std.specs.Option.{option_copied};
 ghost use Rattle.std.specs.Vec.{vec_len};
 ghost use Rattle.std.specs.List.{list_any};
@@ -12,18 +12,19 @@ ghost use Rattle.ei_request.specs.Held.{released, is_of_key, is_of_seat, has_int
 ghost use Rattle.ei_request.specs.Held.{takes_input, emptied, group_requests, device_ids, with_input};
 ghost use Rattle.ei_request.specs.Rising.{ObjectsRise};
 ghost use Rattle.ei_request.specs.Making.{is_one_of, object_of};
-ghost use Rattle.ei_request.specs.Refusing.{input_refusal, press_refusal, Tells};
-ghost use Rattle.ei_types.specs.declared.error.Error.TheVariants as error;
+ghost use Rattle.ei_request.specs.Refusing.{input_refusal, press_refusal, TellsOfInput};
+ghost use Rattle.ei_request.specs.declared.input_error.InputError.TheVariants as input_error;
 
 use crate::device::Device;
 use crate::event::{self, EisRequest};
 use crate::input::Input;
+use crate::input_error::InputError;
 use crate::queue::Queue;
 use ei_backend::{Interface, InterfaceName, Object};
 use ei_server::Seat as SeatProxy;
 use ei_spec::KnownInterface;
 use ei_spec::limits::{MOST_TEXT_BYTES, MOST_TOUCHES};
-use ei_types::{DeviceCapabilities, Error, RequestError};
+use ei_types::DeviceCapabilities;
 use ei_wire::{EiText, RawFloat, SendError};
 use std::alloc::Global;
 use std::collections::VecDeque;
@@ -216,10 +217,10 @@ impl HeldDevice {
     /// `InvalidInterfaceVersion` where a touchscreen of a version below 2 cancels one; `InvalidTextLength` for a
     /// text of no bytes or of more than 254; `NoMemory`. Then nothing changes.
     #[inline(always)]
-    pub(crate) fn take(&mut self, version: u32, input: Input) -> Result<(), Error>
+    pub(crate) fn take(&mut self, version: u32, input: Input) -> Result<(), InputError>
         ensures accepted { OnOk result (input_refusal version input (Some self.old) ≡ None) }
         ensures ok { OnOk result (self.new ≡ takes_input input self.old) }
-        ensures why { IfErr result (Tells (input_refusal version input (Some self.old))) }
+        ensures why { IfErr result (TellsOfInput version (input_refusal version input (Some self.old))) }
         ensures err { OnErr result (self.new ≡ self.old) }
     {
         match input {
@@ -242,7 +243,7 @@ impl HeldDevice {
             }
             Input::TouchCancel { touch_id } => {
                 if version < 2 {
-                    return Err(Error::InvalidInterfaceVersion("ei_touchscreen", version));
+                    return Err(InputError::OldTouchscreen);
                 }
                 lift(
                     &mut self.touches,
@@ -253,7 +254,7 @@ impl HeldDevice {
             }
             Input::TextUtf8 { text } => {
                 if text.len() == 0 || text.len() > MOST_TEXT_BYTES {
-                    return Err(Error::Request(RequestError::InvalidTextLength));
+                    return Err(InputError::InvalidTextLength);
                 }
                 push_input(&mut self.waiting, Input::TextUtf8 { text })
             }
@@ -352,12 +353,14 @@ fn touch_place(touches: &[u32], touch: u32) -> Option<usize>
 
 /// An input waits.
 #[inline(always)]
-fn push_input(waiting: &mut Vec<Input>, input: Input) -> Result<(), Error>
+fn push_input(waiting: &mut Vec<Input>, input: Input) -> Result<(), InputError>
     ensures ok { OnOk result (waiting.new.items ≡ waiting.old.items ++ input ∷ []) }
     ensures err { OnErr result (waiting.new.items ≡ waiting.old.items) }
-    ensures only { IfErr result (λ e. e ≡ error.NoMemory) }
+    ensures only { IfErr result (λ e. e ≡ input_error.NoMemory) }
 {
-    waiting.reserve(1)?;
+    if waiting.reserve(1).is_err() {
+        return Err(InputError::NoMemory);
+    }
     waiting.push_reserved(input);
     Ok(())
 }
@@ -370,21 +373,23 @@ fn press(
     touch_id: u32,
     x: RawFloat,
     y: RawFloat,
-) -> Result<(), Error>
+) -> Result<(), InputError>
     ensures ok { OnOk result (touches.new.items ≡ touches.old.items ++ touch_id ∷ []) }
     ensures waits { OnOk result (waiting.new.items ≡ waiting.old.items ++ input.TouchDown touch_id x y ∷ []) }
     ensures accepted { OnOk result (press_refusal touch_id touches.old.items ≡ None) }
-    ensures why { IfErr result (Tells (press_refusal touch_id touches.old.items)) }
+    ensures why { (version : ℕ) → IfErr result (TellsOfInput version (press_refusal touch_id touches.old.items)) }
     ensures err { OnErr result (touches.new.items ≡ touches.old.items) }
     ensures err_waiting { OnErr result (waiting.new.items ≡ waiting.old.items) }
 {
     if touches.len() >= MOST_TOUCHES {
-        return Err(Error::Request(RequestError::TooManyTouches));
+        return Err(InputError::TooManyTouches);
     }
     if has_touch(touches, touch_id) {
-        return Err(Error::Request(RequestError::DuplicatedTouchDown));
+        return Err(InputError::DuplicatedTouchDown);
     }
-    touches.reserve(1)?;
+    if touches.reserve(1).is_err() {
+        return Err(InputError::NoMemory);
+    }
     push_input(waiting, Input::TouchDown { touch_id, x, y })?;
     touches.push_reserved(touch_id);
     Ok(())
@@ -397,13 +402,13 @@ fn lift(
     waiting: &mut Vec<Input>,
     touch_id: u32,
     input: Input,
-) -> Result<(), Error>
+) -> Result<(), InputError>
     ensures ok { OnOk result (touches.new.items ≡ without_first (nat_eq touch_id) touches.old.items) }
     ensures waits { OnOk result (waiting.new.items ≡ (if list_any (nat_eq touch_id) touches.old.items then waiting.old.items ++ input ∷ [] else
         waiting.old.items)) }
     ensures err { OnErr result (touches.new.items ≡ touches.old.items) }
     ensures err_waiting { OnErr result (waiting.new.items ≡ waiting.old.items) }
-    ensures only { IfErr result (λ e. e ≡ error.NoMemory) }
+    ensures only { IfErr result (λ e. e ≡ input_error.NoMemory) }
 {
     let Some(at) = touch_place(touches, touch_id) else {
         return Ok(());

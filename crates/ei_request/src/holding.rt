@@ -5,19 +5,18 @@
 ghost use Rattle.std.specs.Prelude.{◌≡◌, ◌≤◌, ◌<◌, ◌+◌, ◌++◌, ◌∷◌, [], OnOk, OnErr, IfErr, Some, None, not, true, length, position, find};
 ghost use Rattle.std.specs.Option.{option_copied};
 ghost use Rattle.std.specs.List.{filter, list_any};
-ghost use Rattle.ei_types.specs.declared.error.Error.TheVariants as error;
 ghost use Rattle.ei_wire.specs.declared.error.SendError.TheVariants as send_error;
 ghost use Rattle.ei_request.specs.Held.{is_seat, is_device, is_of_key, is_of_seat, has_interface, changed_first, without_first, released, emptied, untouched};
 ghost use Rattle.ei_request.specs.Held.{without_interface, takes_input, group_of, waiting_of, gone_ids, all_device_ids, seat_ids, gone_with_seat, all_seat_ids};
 ghost use Rattle.ei_request.specs.Keys.{DeviceKey};
 ghost use Rattle.ei_request.specs.Rising.{Rise, IsOnlyPlace};
-ghost use Rattle.ei_request.specs.Refusing.{input_refusal, Tells};
+ghost use Rattle.ei_request.specs.Refusing.{input_refusal, TellsOfInput};
 
 use crate::device::Device;
 use crate::held::{HeldDevice, HeldSeat};
 use crate::input::Input;
+use crate::input_error::InputError;
 use crate::queue::Queue;
-use ei_types::Error;
 use ei_wire::SendError;
 
 /// Where the seat of that id stands.
@@ -157,11 +156,11 @@ pub(crate) fn hear(
     id: u64,
     version: u32,
     input: Input,
-) -> Result<(), Error>
+) -> Result<(), InputError>
     requires { rising ≡ true → Rise devices.old.items }
     ensures accepted { OnOk result (input_refusal version input (find (has_interface id) devices.old.items) ≡ None) }
     ensures ok { OnOk result (devices.new.items ≡ changed_first (has_interface id) (takes_input input) devices.old.items) }
-    ensures why { IfErr result (Tells (input_refusal version input (find (has_interface id) devices.old.items))) }
+    ensures why { IfErr result (TellsOfInput version (input_refusal version input (find (has_interface id) devices.old.items))) }
     ensures err { OnErr result (devices.new.items ≡ devices.old.items) }
 {
     match owner_place(devices, rising, id) {

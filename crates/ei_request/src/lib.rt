@@ -13,6 +13,7 @@ mod event;
 mod held;
 mod holding;
 mod input;
+mod input_error;
 mod making;
 mod queue;
 mod seat;

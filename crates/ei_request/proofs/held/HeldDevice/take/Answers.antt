@@ -1,7 +1,7 @@
 use Rattle.std.proofs.Common.{◌≡◌, ℕ, Bool, true, false, cond, List, [], ◌∷◌, ◌++◌, Result, Ok, Err, refl, sym, ap, ◌∙◌, subst, nat_eq}
 use Rattle.std.specs.Prelude.{OnOk, if◌then◌else◌}
 use Rattle.std.specs.List.{list_any}
-use Rattle.ei_types.specs.declared.error.Error.{Error}
+use Rattle.ei_request.specs.declared.input_error.InputError.{InputError}
 use Rattle.ei_request.specs.declared.input.Input.{Input}
 use Rattle.ei_request.specs.declared.input.Input.TheVariants as input
 use Rattle.ei_request.specs.Held.{DeviceView, has_touch, with_input, without_touch, without_first, takes_input}
@@ -15,7 +15,7 @@ lifted_at : (touch : ℕ) (i : Input) (d : DeviceView) (touches : List ℕ) (wai
 lifted_at touch i d touches waiting true e t w = rw (t, w) refl
 lifted_at touch i d touches waiting false e t w = rw (t, w, without_any (nat_eq touch) d.touches e) refl
 
-lifted : (result : Result (Unit {0}) Error) (touch : ℕ) (i : Input) (d : DeviceView) (touches : List ℕ) (waiting : List Input) →
+lifted : (result : Result (Unit {0}) InputError) (touch : ℕ) (i : Input) (d : DeviceView) (touches : List ℕ) (waiting : List Input) →
     OnOk result (touches ≡ without_first (nat_eq touch) d.touches) →
     OnOk result (waiting ≡ (if list_any (nat_eq touch) d.touches then d.waiting ++ i ∷ [] else d.waiting)) →
     OnOk result (record d { waiting = waiting; touches = touches } ≡ (if has_touch touch d then with_input i (without_touch touch d) else d))
@@ -33,3 +33,6 @@ returns-else-version-lt2-clause-ok c =
     let old : DeviceView = record { device = c.self.inside.device; name = c.self.inside.name; interfaces = c.self.inside.interfaces.items; waiting = c.self.inside.waiting.items; touches = c.self.inside.touches.items } in
     let touch = c.in-TouchCancel.touch_id in
     rw (c.in-TouchCancel.is, ← c.self.view_is) (lifted c.lift-in-TouchCancel.result touch (input.TouchCancel touch) old c.lift-in-TouchCancel.new.touches.items c.lift-in-TouchCancel.new.waiting.items c.lift-in-TouchCancel.ensures.ok c.lift-in-TouchCancel.ensures.waits)
+
+pub returns-in-TouchDown-clause-why : goal.returns-in-TouchDown-clause-why
+returns-in-TouchDown-clause-why c = rw (c.in-TouchDown.is, ← c.self.view_is) (c.press.ensures.why c.args.version)
