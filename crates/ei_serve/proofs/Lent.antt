@@ -1,5 +1,5 @@
 -- What an answer says of a sink that was lent on, by what the call that it was lent to answered.
-use Rattle.std.proofs.Common.{◌≡◌, ℕ, Result, Ok, Err, ap, sym, ◌∙◌}
+use Rattle.std.proofs.Common.{◌≡◌, ℕ, Result, Ok, Err, ap, sym, subst, ◌∙◌}
 use Rattle.std.specs.Prelude.{IsErrOf}
 use Rattle.ei_backend.specs.Lent.{LentSink}
 use Rattle.ei_backend.proofs.Lending.{sink_as, untouched_sink}
@@ -8,6 +8,7 @@ use Rattle.ei_wire.specs.declared.error.SendError.TheVariants as send_error
 use Rattle.ei_types.specs.Errors.{error_of_send}
 use Rattle.ei_types.specs.declared.error.Error.{Error}
 use Rattle.ei_types.specs.declared.error.Error.TheVariants as error
+use Rattle.ei_serve.specs.Causes.{IsInner}
 use Rattle.ei_serve.proofs.Causes.{err_as, no_risen}
 
 -- the error that comes out is this one where the one that came in is
@@ -28,6 +29,14 @@ sends_no_fault send_error.NoMemory h = absurd cc
 pub sink_unsent : {K U : Type 0} {faults : K → ℕ} {later : K → K → Type 0} {x : K} (r : Result U Error) (a : Error) (f : SendError) → r ≡ Err a → a ≡ error_of_send f →
     later x x → LentSink faults later (IsErrOf r error.WriteFault) x x
 sink_unsent r a f same is l = sink_as (λ q. absurd q) (λ q. sends_no_fault f (sym is ∙ as_err r a error.WriteFault same q)) (untouched_sink l)
+
+-- nor where what comes out says nothing of the outside
+pub inner_not : (a e fault : Error) → a ≡ e → IsInner e → (IsInner fault → ⊥) → a ≡ fault → ⊥
+inner_not a e fault is inner off q = off (subst (λ (x : Error). IsInner x) (sym is ∙ q) inner)
+
+pub sink_inner : {K U : Type 0} {faults : K → ℕ} {later : K → K → Type 0} {x : K} (r : Result U Error) (a e : Error) → r ≡ Err a → a ≡ e → IsInner e →
+    later x x → LentSink faults later (IsErrOf r error.WriteFault) x x
+sink_inner r a e same is inner l = sink_as (λ q. absurd q) (λ q. inner_not a e error.WriteFault is inner (λ w. w) (as_err r a error.WriteFault same q)) (untouched_sink l)
 
 -- the call failed, and its error comes out
 pub sink_passed : {K T U E : Type 0} {faults : K → ℕ} {later : K → K → Type 0} {x y : K} (r : Result U E) (a e : E) → r ≡ Err a →

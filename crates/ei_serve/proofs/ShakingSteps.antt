@@ -1,14 +1,13 @@
 -- What becomes of the message at the front during the handshake.
-use Rattle.std.proofs.Common.{◌≡◌, ◌==◌, ◌≤◌, ℕ, Bool, true, false, ◌||◌, List, [], ◌∷◌, ◌++◌, Option, Some, None, Result, Ok, Err, refl, sym, ap, ◌∙◌, subst}
+use Rattle.std.proofs.Common.{◌≡◌, ◌==◌, ◌≤◌, ℕ, Bool, true, false, ◌||◌, List, [], ◌∷◌, ◌++◌, Option, Some, None, Ok, Err, refl, sym, ap, ◌∙◌, subst}
 use Rattle.std.proofs.Common.{arith}
 use Rattle.std.specs.Prelude.{is_some, codes}
 use Rattle.ei_spec.specs.declared.handle.Handle.{Handle}
 use Rattle.ei_spec.specs.declared.interface.KnownInterface.TheVariants as known
-use Rattle.ei_spec.specs.Interface.{Known}
+use Rattle.ei_spec.specs.Interface.{Known, ObjectView}
 use Rattle.ei_spec.specs.Message.{Raw, Short, Whole, front}
 use Rattle.ei_spec.specs.Reading.{EndOfMessage, Utf8, InvalidId, NoFd, InvalidOpcode, InvalidVariant, InvalidInterface, MessageLength, InvalidNull}
 use Rattle.ei_spec.specs.Stream.{Accepted}
-use Rattle.ei_types.specs.Errors.{error_of_parse}
 use Rattle.ei_types.specs.declared.error.Error.{Error}
 use Rattle.ei_types.specs.declared.error.Error.TheVariants as error
 use Rattle.ei_types.specs.declared.error.HandshakeError.TheVariants as handshake_error
@@ -29,21 +28,21 @@ use Rattle.ei_server.specs.Request.{target_of, opcode_of, values_of}
 use Rattle.ei_session.specs.Setup.{Setup, connection_id}
 use Rattle.ei_session.specs.Handshake.{connected, is_finish, settled, all_settled}
 use Rattle.ei_session.specs.SettledMap.{settled_map}
-use Rattle.ei_session.specs.Refusals.{Refusal, Handshake, came, judge}
+use Rattle.ei_session.specs.Refusals.{Refusal, Handshake, came, judge, verdict}
+use Rattle.ei_session.specs.Meaning.{Finishes}
 use Rattle.ei_session.specs.ByMeaning.{shake_refusal}
 use Rattle.ei_session.specs.Replies.{connection_event, settled_events}
 use Rattle.ei_session.proofs.OneMore.{connected_more}
 use Rattle.ei_session.proofs.SettledMapLaws.{other_map}
-use Rattle.ei_handshake.specs.Handshaker.{Handles, HandshakerView, IsSecond, RefusesFinish, RefusesTold, told, is_repeated, with_version, has_required, hands_over, kept_events, sends}
+use Rattle.ei_handshake.specs.Handshaker.{Completes, Handles, HandshakerView, KeepsButFinish, IsSecond, RefusesFinish, RefusesOther, RefusesTold, told, is_repeated, with_version, has_required, hands_over, kept_events, sends}
 use Rattle.ei_handshake.specs.Versions.{VersionMap}
-use Rattle.ei_handshake.specs.Pending.{ResultOf}
 use Rattle.ei_handshake.specs.declared.server.EisHandshakeResp.{EisHandshakeResp}
 use Rattle.ei_handshake.proofs.Sending.{sends-append}
 use Rattle.ei_handshake.proofs.SettledLaws.{announced_kept, required_kept, events_kept}
-use Rattle.ei_serve.specs.declared.handshaking.Shaken.{Shaken}
 use Rattle.ei_serve.specs.AtFront.{SaysOfFront, SaysWhy}
+use Rattle.ei_serve.specs.Causes.{IsInner}
 use Rattle.ei_serve.specs.Standing.{ShakesHands, connection_table, handshake_table, most_capacity, quiet}
-use Rattle.ei_serve.specs.Steps.{HandsOver, Refuses, RefusesFront, Shakes}
+use Rattle.ei_serve.specs.Steps.{AsksToFinish, HandsOver, Refuses, RefusesFront}
 use Rattle.ei_serve.proofs.ShakingAsked.{says_of_front}
 use Rattle.ei_serve.proofs.Endpoints.{Memory, memory_of, quiet_with, backend_is}
 use Rattle.ei_serve.proofs.ShakingFront.{Front, all_known, announced_none, announced_this, context_came, finishes, front_of, gone_refused, judged, name_came, only_shaking, shake_of}
@@ -63,10 +62,15 @@ waits setup past rest handles b new h answer s none a =
     let same : new ≡ b = w.1 ∙ sym (backend_is b (quiet handshake_table rest handles) s.endpoint) in
     (w.0, subst (λ (x : BackendView). ShakesHands setup past rest handles x h) (sym same) s)
 
+-- what it answers, where that is this
+said_of : (setup : Setup) (past : List Raw) (rest : List ℕ) (handles : List Handle) (b new : BackendView) (h : HandshakerView) (answer : Option (PendingRequestResult Request)) (p said : PendingRequestResult Request) → ShakesHands setup past rest handles b h → answer ≡ Some p → p ≡ said → Answers target_of opcode_of values_of answer new (next false b) → SaysOfFront (quiet_with handshake_table rest handles (memory_of b)) (Some said) new
+said_of setup past rest handles b new h answer p said s some is a =
+    subst (λ (x : Option (PendingRequestResult Request)). SaysOfFront (quiet_with handshake_table rest handles (memory_of b)) x new) (some ∙ ap (λ (x : PendingRequestResult Request). Some x) is) (said_here setup past rest handles b new h answer s a)
+
 -- ---- why there is no request
 
-parse_refused : (setup : Setup) (past : List Raw) (rest : List ℕ) (handles : List Handle) (memory : Memory) (e : ParseError) → connected past ≡ false → SaysWhy (quiet_with handshake_table rest handles memory) (fault_of e) → Refuses setup past rest (error_of_parse e)
-parse_refused setup past rest handles memory parse_error.NoMemory off u = tt
+parse_refused : (setup : Setup) (past : List Raw) (rest : List ℕ) (handles : List Handle) (memory : Memory) (e : ParseError) → connected past ≡ false → SaysWhy (quiet_with handshake_table rest handles memory) (fault_of e) → Refuses setup past rest (error.Parse e)
+parse_refused setup past rest handles memory parse_error.NoMemory off u = absurd u
 parse_refused setup past rest handles memory (parse_error.HeaderLength n) off u = u
 parse_refused setup past rest handles memory parse_error.EndOfMessage off u = unread_refused setup past rest handles memory EndOfMessage off u
 parse_refused setup past rest handles memory (parse_error.Utf8 n) off u = unread_refused setup past rest handles memory (Utf8 n) off u
@@ -78,25 +82,11 @@ parse_refused setup past rest handles memory (parse_error.InvalidInterface name)
 parse_refused setup past rest handles memory (parse_error.MessageLength n k) off u = unread_refused setup past rest handles memory (MessageLength n k) off u
 parse_refused setup past rest handles memory parse_error.InvalidNull off u = unread_refused setup past rest handles memory InvalidNull off u
 
-abbrev refused_as : Error → Result Request Error
-refused_as e = Err e
+pub unreadable : (setup : Setup) (past : List Raw) (rest : List ℕ) (handles : List Handle) (b new : BackendView) (h : HandshakerView) (answer : Option (PendingRequestResult Request)) (p : PendingRequestResult Request) (e : ParseError) → ShakesHands setup past rest handles b h → answer ≡ Some p → p ≡ pending.ParseError e → Answers target_of opcode_of values_of answer new (next false b) → Refuses setup past rest (error.Parse e)
+unreadable setup past rest handles b new h answer p e s some is a = parse_refused setup past rest handles (memory_of b) e s.unfinished (said_of setup past rest handles b new h answer p (pending.ParseError e) s some is a)
 
-err_is : (a b : Error) → refused_as a ≡ refused_as b → a ≡ b
-err_is a b e = cc
-
-no_ok : (e : Error) (x : Request) → refused_as e ≡ Ok x → ⊥
-no_ok e x h = absurd cc
-
-refused_by : (setup : Setup) (past : List Raw) (rest : List ℕ) (handles : List Handle) (memory : Memory) (p : PendingRequestResult Request) (e : Error) (new : BackendView) → connected past ≡ false → ResultOf p (Err e) → SaysOfFront (quiet_with handshake_table rest handles memory) (Some p) new → Refuses setup past rest e
-refused_by setup past rest handles memory (pending.Request r) e new off is a = absurd (no_ok e r is)
-refused_by setup past rest handles memory (pending.ParseError f) e new off is a = subst (Refuses setup past rest) (sym (err_is e (error_of_parse f) is)) (parse_refused setup past rest handles memory f off a)
-refused_by setup past rest handles memory (pending.InvalidObject id) e new off is a =
-    subst (Refuses setup past rest) (sym (err_is e (error.Handshake (handshake_error.InvalidObject id)) is)) (gone_refused setup past rest handles memory id new off a)
-
-pub refuses_asked : (setup : Setup) (past : List Raw) (rest : List ℕ) (handles : List Handle) (b new : BackendView) (h : HandshakerView) (answer : Option (PendingRequestResult Request)) (p : PendingRequestResult Request) (e : Error) → ShakesHands setup past rest handles b h → answer ≡ Some p → Answers target_of opcode_of values_of answer new (next false b) → ResultOf p (Err e) → Refuses setup past rest e
-refuses_asked setup past rest handles b new h answer p e s some a is =
-    refused_by setup past rest handles (memory_of b) p e new s.unfinished is
-    (subst (λ (x : Option (PendingRequestResult Request)). SaysOfFront (quiet_with handshake_table rest handles (memory_of b)) x new) some (said_here setup past rest handles b new h answer s a))
+pub gone : (setup : Setup) (past : List Raw) (rest : List ℕ) (handles : List Handle) (b new : BackendView) (h : HandshakerView) (answer : Option (PendingRequestResult Request)) (p : PendingRequestResult Request) (id : ℕ) → ShakesHands setup past rest handles b h → answer ≡ Some p → p ≡ pending.InvalidObject id → Answers target_of opcode_of values_of answer new (next false b) → Refuses setup past rest (error.Handshake (handshake_error.InvalidObject id))
+gone setup past rest handles b new h answer p id s some is a = gone_refused setup past rest handles (memory_of b) id new s.unfinished (said_of setup past rest handles b new h answer p (pending.InvalidObject id) s some is a)
 
 -- ---- the request
 
@@ -109,15 +99,95 @@ is_front : (r : Request) (rest : List ℕ) (handles : List Handle) (memory : Mem
 is_front (request.Handshake proxy m) rest handles memory new a = front_of rest handles memory proxy m new a
 is_front other rest handles memory new a = absurd (only_shaking rest handles memory other new a)
 
-given_by : (p : PendingRequestResult Request) (r : Request) (rest : List ℕ) (handles : List Handle) (memory : Memory) (new : BackendView) → ResultOf p (Ok r) → SaysOfFront (quiet_with handshake_table rest handles memory) (Some p) new → IsFront rest handles memory new r
-given_by (pending.Request q) r rest handles memory new is a = let same : q ≡ r = cc in subst (IsFront rest handles memory new) same (is_front q rest handles memory new a)
-given_by (pending.ParseError f) r rest handles memory new is a = absurd (no_ok (error_of_parse f) r (sym is))
-given_by (pending.InvalidObject id) r rest handles memory new is a = absurd (no_ok (error.Handshake (handshake_error.InvalidObject id)) r (sym is))
+pub brings_request : (setup : Setup) (past : List Raw) (rest : List ℕ) (handles : List Handle) (b new : BackendView) (h : HandshakerView) (answer : Option (PendingRequestResult Request)) (p : PendingRequestResult Request) (r : Request) → ShakesHands setup past rest handles b h → answer ≡ Some p → p ≡ pending.Request r → Answers target_of opcode_of values_of answer new (next false b) → IsFront rest handles (memory_of b) new r
+brings_request setup past rest handles b new h answer p r s some is a = is_front r rest handles (memory_of b) new (said_of setup past rest handles b new h answer p (pending.Request r) s some is a)
 
-pub given : (setup : Setup) (past : List Raw) (rest : List ℕ) (handles : List Handle) (b new : BackendView) (h : HandshakerView) (answer : Option (PendingRequestResult Request)) (p : PendingRequestResult Request) (r : Request) → ShakesHands setup past rest handles b h → answer ≡ Some p → Answers target_of opcode_of values_of answer new (next false b) → ResultOf p (Ok r) → IsFront rest handles (memory_of b) new r
-given setup past rest handles b new h answer p r s some a is =
-    given_by p r rest handles (memory_of b) new is
-    (subst (λ (x : Option (PendingRequestResult Request)). SaysOfFront (quiet_with handshake_table rest handles (memory_of b)) x new) some (said_here setup past rest handles b new h answer s a))
+-- ---- what keeping is refused with says nothing of the outside
+
+module _ (h : HandshakerView) (b : BackendView) (new : HandshakerView) where
+  second_inner : (e : Error) (came : Bool) → IsSecond came e → IsInner e
+  second_inner (error.Handshake handshake_error.DuplicateEvent) came d = tt
+  second_inner e came d = absurd d
+
+  told_inner : (e : Error) (a : Asked) → RefusesTold e h b a new b → IsInner e
+  told_inner error.NoMemory a d = tt
+  told_inner e a d = second_inner e (is_repeated h a) d.0
+
+  pub finish_inner : (sent : BackendView) (e : Error) (id : ℕ) → RefusesFinish e id h b new sent → IsInner e
+  finish_inner sent error.NoMemory id d = tt
+  finish_inner sent (error.Handshake handshake_error.MissingInterface) id d = tt
+  finish_inner sent error.IdsExhausted id d = tt
+  finish_inner sent e id d = absurd d
+
+  other_inner : (e : Error) → RefusesOther e h b new b → IsInner e
+  other_inner (error.Handshake handshake_error.NonHandshakeEvent) d = tt
+  other_inner e d = absurd d
+
+  handles_inner : (r : Request) (e : Error) → Handles h b r (Err e) new b → IsInner e
+  handles_inner (request.Handshake proxy asked.Finish) e d = finish_inner b e proxy.id d
+  handles_inner (request.Handshake proxy (asked.HandshakeVersion version)) e d = told_inner e (asked.HandshakeVersion version) d
+  handles_inner (request.Handshake proxy (asked.ContextType kind)) e d = told_inner e (asked.ContextType kind) d
+  handles_inner (request.Handshake proxy (asked.Name name)) e d = told_inner e (asked.Name name) d
+  handles_inner (request.Handshake proxy (asked.InterfaceVersion name version)) e d = told_inner e (asked.InterfaceVersion name version) d
+  handles_inner other e d = other_inner e d
+
+pub keeps_inner : (h : HandshakerView) (b : BackendView) (new : HandshakerView) (r : Request) (e : Error) → KeepsButFinish h r (Err e) new → IsInner e
+keeps_inner h b new r e k = handles_inner h b new r e (k b)
+
+-- ---- the finish
+
+module _ (setup : Setup) (past : List Raw) (rest : List ℕ) (handles : List Handle) (proxy : ObjectView) (b : BackendView) (h : HandshakerView) (a : AsksToFinish setup past rest handles proxy b h) where
+  here : b ≡ quiet_with handshake_table a.after handles (memory_of b)
+  here = backend_is b (quiet handshake_table a.after handles) a.stands.endpoint
+
+  handed_over : (serial : ℕ) (events : List Raw) →
+      hands_over (sends (quiet_with handshake_table a.after handles (memory_of b)) events) 0 serial ≡ sends (quiet_with connection_table a.after handles (memory_of b)) (events ++ connection_event 0 serial connection_id ∷ [])
+  handed_over serial events = sends-append (quiet_with connection_table a.after handles (memory_of b)) events (connection_event 0 serial connection_id ∷ [])
+
+  sent_is : hands_over (sends b (kept_events proxy.id h.versions)) proxy.id h.serial ≡ sends (quiet_with connection_table a.after handles (memory_of b)) (settled_events 0 (settled past) ++ connection_event 0 setup.serial connection_id ∷ [])
+  sent_is =
+      ap (λ (c : BackendView). hands_over (sends c (kept_events proxy.id h.versions)) proxy.id h.serial) here
+      ∙ ap (λ (n : ℕ). hands_over (sends (quiet_with handshake_table a.after handles (memory_of b)) (kept_events n h.versions)) n h.serial) a.id_is
+      ∙ ap (λ (n : ℕ). hands_over (sends (quiet_with handshake_table a.after handles (memory_of b)) (kept_events 0 h.versions)) 0 n) a.stands.serial
+      ∙ ap (λ (events : List Raw). hands_over (sends (quiet_with handshake_table a.after handles (memory_of b)) events) 0 setup.serial) (ap (kept_events 0) a.stands.versions ∙ events_kept past 0)
+      ∙ handed_over setup.serial (settled_events 0 (settled past))
+
+  all_there : all_settled past ≡ has_required h.versions
+  all_there = sym (required_kept past) ∙ ap has_required (sym a.stands.versions)
+
+  -- it is complete, and the connection can be handed over
+  pub completed : (resp : EisHandshakeResp) (new : HandshakerView) (sent : BackendView) → sent.capacity ≡ b.capacity → Completes proxy.id h b resp new sent → (judge setup past a.m ≡ Accepted) × HandsOver setup past a.after handles resp sent
+  completed resp new sent same d =
+      let whole : shake_refusal past Finishes ≡ None = rw (all_there ∙ d.complete) refl in (
+        a.judged ∙ ap (λ (o : Option Refusal). verdict o false) whole,
+        record {
+          connection = d.connection ∙ ap (λ (x : BackendView). own x.table (Known known.Connection) 1) here;
+          name = ap is_some d.name ∙ a.stands.name;
+          versions = d.versions ∙ a.stands.versions;
+          lawful = a.stands.lawful;
+          in_range = a.stands.in_range;
+          ring = subst (λ (n : ℕ). n ≤ most_capacity) (sym same) a.stands.ring;
+          endpoint = d.events ∙ ap endpoint_of sent_is;
+        },
+      )
+
+  -- an id is left for the connection
+  id_left : own_end b.table ≤ b.table.next_own → ⊥
+  id_left le =
+      let full : 18446744073709551615 ≤ 18374686479671623680 = subst (λ (x : BackendView). own_end x.table ≤ x.table.next_own) here le in
+      absurd (omega (arith, full))
+
+  missing : has_required h.versions ≡ false → RefusesFront setup past rest (Some (Handshake handshake_error.MissingInterface))
+  missing d =
+      let why : shake_refusal past Finishes ≡ Some (Handshake handshake_error.MissingInterface) = rw (all_there ∙ d) refl in
+      (a.m, a.after, a.front_is, a.judged ∙ ap (λ (o : Option Refusal). verdict o false) why)
+
+  -- or it is refused
+  pub refused_finish : (e : Error) (new : HandshakerView) (sent : BackendView) → RefusesFinish e proxy.id h b new sent → Refuses setup past rest e
+  refused_finish error.NoMemory new sent d = tt
+  refused_finish (error.Handshake handshake_error.MissingInterface) new sent d = missing d.0
+  refused_finish error.IdsExhausted new sent d = absurd (id_left d.1)
+  refused_finish e new sent d = absurd d
 
 -- ---- what is told
 
@@ -202,56 +272,38 @@ module _ (setup : Setup) (past : List Raw) (rest : List ℕ) (handles : List Han
   handled (request.Handshake proxy (asked.InterfaceVersion name version)) sent new f d = told_so (asked.InterfaceVersion name version) f.1 sent new refl d
   handled other sent new f d = absurd f
 
-  pub handled_at : (r : Request) (answer : Option EisHandshakeResp) (sent : BackendView) (new : HandshakerView) → IsFront rest handles (memory_of first) b r → answer ≡ None → Handles h b r (Ok answer) new sent → Handled sent new
-  handled_at r answer sent new f e d = handled r sent new f (subst (λ (x : Option EisHandshakeResp). Handles h b r (Ok x) new sent) e d)
+  pub handled_at : (r : Request) (answer : Option ObjectView) (new : HandshakerView) → IsFront rest handles (memory_of first) b r → answer ≡ None → KeepsButFinish h r (Ok answer) new → Handled b new
+  handled_at r answer new f e k = handled r b new f (subst (λ (x : Option ObjectView). KeepsButFinish h r (Ok x) new) e k b)
 
   -- ---- a finish
 
-  handed_over : (after : List ℕ) (memory : Memory) (serial : ℕ) (events : List Raw) →
-      hands_over (sends (quiet_with handshake_table after handles memory) events) 0 serial ≡ sends (quiet_with connection_table after handles memory) (events ++ connection_event 0 serial connection_id ∷ [])
-  handed_over after memory serial events = sends-append (quiet_with connection_table after handles memory) events (connection_event 0 serial connection_id ∷ [])
+  -- of which nothing is done yet
+  asks : (proxy : ObjectView) → proxy.id ≡ 0 → Front rest handles (memory_of first) asked.Finish b → AsksToFinish setup past rest handles proxy b h
+  asks proxy zero f = record {
+    m = f.m;
+    after = f.after;
+    front_is = f.front_is;
+    finish_is = finishes asked.Finish f;
+    judged = judged past s.unfinished asked.Finish f setup (shake_refusal past (shake_of asked.Finish)) refl;
+    id_is = zero;
+    stands = record {
+      unfinished = s.unfinished;
+      lawful = s.lawful;
+      in_range = s.in_range;
+      ring = subst (λ (x : BackendView). x.capacity ≤ most_capacity) (sym f.new_is) s.ring;
+      endpoint = ap endpoint_of f.new_is;
+      serial = s.serial;
+      versions = s.versions;
+      name = s.name;
+      context_type = s.context_type;
+    };
+  }
 
-  sent_is : (after : List ℕ) (memory : Memory) (id : ℕ) → b ≡ quiet_with handshake_table after handles memory → id ≡ 0 →
-      hands_over (sends b (kept_events id h.versions)) id h.serial ≡ sends (quiet_with connection_table after handles memory) (settled_events 0 (settled past) ++ connection_event 0 setup.serial connection_id ∷ [])
-  sent_is after memory id e i =
-      ap (λ (c : BackendView). hands_over (sends c (kept_events id h.versions)) id h.serial) e
-      ∙ ap (λ (n : ℕ). hands_over (sends (quiet_with handshake_table after handles memory) (kept_events n h.versions)) n h.serial) i
-      ∙ ap (λ (n : ℕ). hands_over (sends (quiet_with handshake_table after handles memory) (kept_events 0 h.versions)) 0 n) s.serial
-      ∙ ap (λ (events : List Raw). hands_over (sends (quiet_with handshake_table after handles memory) events) 0 setup.serial) (ap (kept_events 0) s.versions ∙ events_kept past 0)
-      ∙ handed_over after memory setup.serial (settled_events 0 (settled past))
-
-  all_there : all_settled past ≡ has_required h.versions
-  all_there = sym (required_kept past) ∙ ap has_required (sym s.versions)
-
-  abbrev Completed : EisHandshakeResp → BackendView → Type 0
-  Completed resp sent = (m : Raw) × (after : List ℕ) × (front rest ≡ Whole m after) × (judge setup past m ≡ Accepted) × (is_finish m ≡ true) × HandsOver setup past after handles resp sent
-
-  completed : (r : Request) (sent : BackendView) (new : HandshakerView) (resp : EisHandshakeResp) → IsFront rest handles (memory_of first) b r → sent.capacity ≡ b.capacity → Handles h b r (Ok (Some resp)) new sent → Completed resp sent
-  completed (request.Handshake proxy asked.Finish) sent new resp f same d =
-      let front_here = f.1 in (
-        front_here.m,
-        front_here.after,
-        front_here.front_is,
-        judged past s.unfinished asked.Finish front_here setup None (rw (all_there ∙ d.complete) refl),
-        finishes asked.Finish front_here,
-        record {
-          connection = d.connection ∙ ap (λ (x : BackendView). own x.table (Known known.Connection) 1) front_here.new_is;
-          name = ap is_some d.name ∙ s.name;
-          versions = d.versions ∙ s.versions;
-          lawful = s.lawful;
-          in_range = s.in_range;
-          ring = subst (λ (n : ℕ). n ≤ most_capacity) (sym (same ∙ ap (λ (x : BackendView). x.capacity) front_here.new_is)) s.ring;
-          endpoint = d.events ∙ ap endpoint_of (sent_is front_here.after (memory_of first) proxy.id front_here.new_is f.0);
-        },
-      )
-  completed (request.Handshake proxy (asked.HandshakeVersion version)) sent new resp f same d = absurd d
-  completed (request.Handshake proxy (asked.ContextType kind)) sent new resp f same d = absurd d
-  completed (request.Handshake proxy (asked.Name name)) sent new resp f same d = absurd d
-  completed (request.Handshake proxy (asked.InterfaceVersion name version)) sent new resp f same d = absurd d
-  completed other sent new resp f same d = absurd f
-
-  pub completed_at : (r : Request) (answer : Option EisHandshakeResp) (sent : BackendView) (new : HandshakerView) (resp : EisHandshakeResp) → IsFront rest handles (memory_of first) b r → answer ≡ Some resp → sent.capacity ≡ b.capacity → Handles h b r (Ok answer) new sent → Completed resp sent
-  completed_at r answer sent new resp f e same d = completed r sent new resp f same (subst (λ (x : Option EisHandshakeResp). Handles h b r (Ok x) new sent) e d)
+  pub finish_at : (r : Request) (answer : Option ObjectView) (proxy : ObjectView) (new : HandshakerView) → IsFront rest handles (memory_of first) b r → answer ≡ Some proxy → KeepsButFinish h r (Ok answer) new → AsksToFinish setup past rest handles proxy b new
+  finish_at r answer proxy new f e k =
+      let d : (r ≡ request.Handshake proxy asked.Finish) × (new ≡ h) = subst (λ (x : Option ObjectView). KeepsButFinish h r (Ok x) new) e k in
+      let here = subst (IsFront rest handles (memory_of first) b) d.0 f in
+      subst (λ (x : HandshakerView). AsksToFinish setup past rest handles proxy b x) (sym d.1) (asks proxy here.0 here.1)
 
   -- ---- how handling is refused
 
@@ -266,26 +318,13 @@ module _ (setup : Setup) (past : List Raw) (rest : List ℕ) (handles : List Han
   refused_told error.NoMemory a f sent new d = tt
   refused_told e a f sent new d = refused_second e a f d.0
 
-  -- an id is left for the connection
-  id_left : (after : List ℕ) (memory : Memory) → b ≡ quiet_with handshake_table after handles memory → own_end b.table ≤ b.table.next_own → ⊥
-  id_left after memory e le =
-      let full : 18446744073709551615 ≤ 18374686479671623680 = subst (λ (x : BackendView). own_end x.table ≤ x.table.next_own) e le in
-      absurd (omega (arith, full))
-
-  refused_finish : (e : Error) (id : ℕ) (f : Front rest handles (memory_of first) asked.Finish b) (sent : BackendView) (new : HandshakerView) → RefusesFinish e id h b new sent → Refuses setup past rest e
-  refused_finish error.NoMemory id f sent new d = tt
-  refused_finish (error.Handshake handshake_error.MissingInterface) id f sent new d = refused_so asked.Finish f (Handshake handshake_error.MissingInterface) (rw (all_there ∙ d.0) refl)
-  refused_finish error.IdsExhausted id f sent new d = absurd (id_left f.after (memory_of first) f.new_is d.1)
-  refused_finish e id f sent new d = absurd d
-
-  pub refused_handling : (r : Request) (e : Error) (sent : BackendView) (new : HandshakerView) → IsFront rest handles (memory_of first) b r → Handles h b r (Err e) new sent → Refuses setup past rest e
-  refused_handling (request.Handshake proxy asked.Finish) e sent new f d = refused_finish e proxy.id f.1 sent new d
+  refused_handling : (r : Request) (e : Error) (sent : BackendView) (new : HandshakerView) → IsFront rest handles (memory_of first) b r → Handles h b r (Err e) new sent → Refuses setup past rest e
+  refused_handling (request.Handshake proxy asked.Finish) e sent new f d = refused_finish setup past rest handles proxy b h (asks proxy f.0 f.1) e new sent d
   refused_handling (request.Handshake proxy (asked.HandshakeVersion version)) e sent new f d = refused_told e (asked.HandshakeVersion version) f.1 sent new d
   refused_handling (request.Handshake proxy (asked.ContextType kind)) e sent new f d = refused_told e (asked.ContextType kind) f.1 sent new d
   refused_handling (request.Handshake proxy (asked.Name name)) e sent new f d = refused_told e (asked.Name name) f.1 sent new d
   refused_handling (request.Handshake proxy (asked.InterfaceVersion name version)) e sent new f d = refused_told e (asked.InterfaceVersion name version) f.1 sent new d
   refused_handling other e sent new f d = absurd f
 
--- the error that comes out is the one that came in
-pub at_err : (r : Result Shaken Error) (given e : Error) (setup : Setup) (past : List Raw) (rest : List ℕ) (handles : List Handle) (b : BackendView) (h : HandshakerView) → r ≡ Err given → given ≡ e → Refuses setup past rest e → Shakes setup past rest handles r b h
-at_err r given e setup past rest handles b h is same d = subst (λ (x : Result Shaken Error). Shakes setup past rest handles x b h) (sym (is ∙ ap (λ (x : Error). Err x) same)) d
+  pub refused_keeping : (r : Request) (e : Error) (new : HandshakerView) → IsFront rest handles (memory_of first) b r → KeepsButFinish h r (Err e) new → Refuses setup past rest e
+  refused_keeping r e new f k = refused_handling r e b new f (k b)

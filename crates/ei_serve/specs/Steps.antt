@@ -1,6 +1,7 @@
 -- What becomes of the message at the front.
 use Rattle.std.specs.Prelude.{◌≡◌, ℕ, ◌+◌, Bool, true, false, ◌<◌, ◌≤◌, ◌^◌, List, [], ◌∷◌, ◌++◌, take, map, length, codes, is_some, Option, Some, None, Result, Ok, Err}
 use Rattle.ei_spec.specs.declared.handle.Handle.{Handle}
+use Rattle.ei_spec.specs.Interface.{ObjectView}
 use Rattle.ei_spec.specs.Message.{Raw, Short, Unlawful, Whole, front, all_bytes}
 use Rattle.ei_types.specs.Capability.{all_bits}
 use Rattle.ei_spec.specs.Piece.{Piece}
@@ -12,7 +13,9 @@ use Rattle.ei_session.specs.Setup.{Setup, connection_id}
 use Rattle.ei_session.specs.Handshake.{connected, version, is_finish, settled}
 use Rattle.ei_session.specs.Devices.{exhausts}
 use Rattle.ei_session.specs.SettledMap.{settled_map}
-use Rattle.ei_session.specs.Refusals.{Refusal, came, judge}
+use Rattle.ei_session.specs.Refusals.{Refusal, came, judge, verdict}
+use Rattle.ei_session.specs.Meaning.{Finishes}
+use Rattle.ei_session.specs.ByMeaning.{shake_refusal}
 use Rattle.ei_session.specs.Requests.{framed, slot, Request as Asked}
 use Rattle.ei_session.specs.Replies.{finish_events, settled_events, connection_event}
 use Rattle.ei_session.specs.Events.{replies}
@@ -92,6 +95,11 @@ Breaks setup before times rest old new = GoesInPart setup before (read (judge se
 
 -- ---- one message
 
+-- what was answered, where why the message is refused stands beside the answer
+abbrev pub told : {T : Type 0} → Result T Rejected → Error → Result T Error
+told (Ok x) why = Ok x
+told (Err r) why = Err why
+
 -- the message at the front is whole, and refused so
 abbrev pub RefusesFront : Setup → List Raw → List ℕ → Option Refusal → Type 0
 RefusesFront setup past rest None = ⊥
@@ -117,11 +125,22 @@ pub record HandsOver (setup : Setup) (before : List Raw) (after : List ℕ) (han
   pub ring : b.capacity ≤ most_capacity
   pub endpoint : endpoint_of b ≡ with_unsent (settled_events 0 (settled before) ++ connection_event 0 setup.serial connection_id ∷ []) (quiet connection_table after handles)
 
+-- The message at the front was the finish: it was taken out, and nothing is done of it yet. What was announced before says
+-- whether it is accepted.
+pub record AsksToFinish (setup : Setup) (past : List Raw) (rest : List ℕ) (handles : List Handle) (proxy : ObjectView) (b : BackendView) (h : HandshakerView) : Type 0 where
+  pub m : Raw
+  pub after : List ℕ
+  pub front_is : front rest ≡ Whole m after
+  pub finish_is : is_finish m ≡ true
+  pub judged : judge setup past m ≡ verdict (shake_refusal past Finishes) false
+  pub id_is : proxy.id ≡ 0
+  pub stands : ShakesHands setup past after handles b h
+
 -- what becomes of the message at the front during the handshake
 abbrev pub Shakes : Setup → List Raw → List ℕ → List Handle → Result Shaken Error → BackendView → HandshakerView → Type 0
 Shakes setup past rest handles (Ok shaken.Waiting) b h = (front rest ≡ Short) × ShakesHands setup past rest handles b h
 Shakes setup past rest handles (Ok shaken.Handled) b h = (m : Raw) × (after : List ℕ) × (front rest ≡ Whole m after) × (judge setup past m ≡ Accepted) × (is_finish m ≡ false) × ShakesHands setup (m ∷ past) after handles b h
-Shakes setup past rest handles (Ok (shaken.Complete resp)) b h = (m : Raw) × (after : List ℕ) × (front rest ≡ Whole m after) × (judge setup past m ≡ Accepted) × (is_finish m ≡ true) × HandsOver setup past after handles resp b
+Shakes setup past rest handles (Ok (shaken.Finish proxy)) b h = AsksToFinish setup past rest handles proxy b h
 Shakes setup past rest handles (Err e) b h = Refuses setup past rest e
 
 -- the sink took all the events that answer the finish, or a front of them
@@ -151,6 +170,12 @@ HandsOverIn setup before after handles resp phase.Over = ⊥
 abbrev pub ConnectsPhase : Setup → List Raw → Raw → List ℕ → List Handle → Result Unit Error → Phase → Option Piece → Option Piece → Type 0
 ConnectsPhase setup before finish after handles (Ok x) p old new = StandsAt setup (finish ∷ before) [] after handles p × TellsFinish setup before old new
 ConnectsPhase setup before finish after handles (Err e) p old new = IsCutOff e × TellsFinishInPart setup before old new
+
+-- the finish was at the front of a phase that shakes hands still, before which no reading is used
+abbrev pub AsksToFinishIn : Setup → List Raw → List ℕ → List ℕ → List Handle → ObjectView → Phase → Type 0
+AsksToFinishIn setup past times rest handles proxy (phase.Handshake b h) = (times ≡ []) × AsksToFinish setup past rest handles proxy b h
+AsksToFinishIn setup past times rest handles proxy (phase.Connected c) = ⊥
+AsksToFinishIn setup past times rest handles proxy phase.Over = ⊥
 
 -- ---- a step, in either phase
 
@@ -185,11 +210,6 @@ RefusesStep setup past times rest error.WriteFault old new = Breaks setup past t
 RefusesStep setup past times rest error.NoMemory old new = Breaks setup past times rest old new
 RefusesStep setup past times rest error.IdsExhausted old new = EndsWith setup past times rest true old new
 RefusesStep setup past times rest e old new = Refuses setup past rest e × Goes setup past past times [] old new
-
--- what a step answered, where why it was refused stands beside the answer
-abbrev pub told : Result Step Rejected → Error → Result Step Error
-told (Ok s) why = Ok s
-told (Err r) why = Err why
 
 -- what becomes of the message at the front
 abbrev pub Steps : Setup → List Raw → List ℕ → List ℕ → List Handle → Result Step Error → Phase → Around → Around → Type 0

@@ -6,6 +6,7 @@ ghost use Rattle.ei_spec.specs.Message.{Raw};
 ghost use Rattle.ei_types.specs.Capability.{all_bits};
 ghost use Rattle.ei_types.specs.Errors.{error_of_flush, error_of_send};
 ghost use Rattle.ei_types.specs.declared.error.Error.TheVariants as error;
+ghost use Rattle.ei_types.specs.declared.error.HandshakeError.TheVariants as handshake_error;
 ghost use Rattle.ei_wire.specs.declared.error.ReadError.TheVariants as read_error;
 ghost use Rattle.ei_backend.specs.Outside.{Piece};
 ghost use Rattle.ei_backend.specs.Lent.{LentSource, LentSink, LentClock};
@@ -15,7 +16,7 @@ ghost use Rattle.ei_serve.specs.declared.phase.Phase.TheVariants as phases;
 ghost use Rattle.ei_serve.specs.Around.{around};
 ghost use Rattle.ei_serve.specs.Causes.{Greeted, GreetedInPart, RefusesToStart};
 ghost use Rattle.ei_serve.specs.Standing.{unsent_in, capacity_in, IsOpenIn, IsShaking, StandsAt, setup_of};
-ghost use Rattle.ei_serve.specs.Steps.{Steps, HandsOverIn, ConnectsPhase, told};
+ghost use Rattle.ei_serve.specs.Steps.{Steps, AsksToFinishIn, HandsOverIn, ConnectsPhase, told};
 ghost use Rattle.ei_serve.specs.Taking.{ReadsPhase};
 ghost use Rattle.ei_serve.specs.Turning.{HandlesAll};
 
@@ -25,8 +26,8 @@ use crate::session::{Setup, Turn};
 use ei_backend::{Clock, Sink, Source};
 use ei_handshake::{EisHandshakeResp, EisHandshaker};
 use ei_request::{EisRequest, EisRequestConverter};
-use ei_server::Context;
-use ei_types::Error;
+use ei_server::{Context, Handshake};
+use ei_types::{Error, HandshakeError};
 use ei_wire::{FlushError, ParseError, ReadError, SendError};
 use std::alloc::Global;
 use std::mem;
@@ -73,6 +74,14 @@ pub(crate) fn refuse_parse(why: &mut Error, fault: ParseError) -> Rejected
     ensures { why.new ≡ error.Parse fault }
 {
     refuse(why, Error::Parse(fault))
+}
+
+/// The same: no object has the id that it is to.
+#[inline(never)]
+pub(crate) fn refuse_object(why: &mut Error, id: u64) -> Rejected
+    ensures { why.new ≡ error.Handshake (handshake_error.InvalidObject id) }
+{
+    refuse(why, Error::Handshake(HandshakeError::InvalidObject(id)))
 }
 
 /// The same: what it asks for can't be sent.
@@ -226,37 +235,45 @@ impl Phase {
         ensures sink { LentSink K.faults K.later (IsErrOf (told result why.new) error.WriteFault) sink.old sink.new }
         ensures no_read_fault { IsErrOf (told result why.new) error.ReadFault → ⊥ }
     {
-        match self.shake_on(alloc, setup, sink) {
-            Ok(step) => Ok(step),
-            Err(error) => Err(refuse(why, error)),
+        let Phase::Handshake(context, handshaker) = self else {
+            unreachable!();
+        };
+        match shake(context, handshaker, why) {
+            Ok(Shaken::Waiting) => Ok(Step::Waiting),
+            Ok(Shaken::Handled) => Ok(Step::Handled),
+            Ok(Shaken::Finish(handshake)) => self.finish(&handshake, alloc, setup, sink, why),
+            Err(rejected) => Err(rejected),
         }
     }
 
-    /// The same, with the error in the answer.
-    fn shake_on<K: Sink>(
+    /// Ends the handshake, as the finish that was at the front asks, and goes over to the connection.
+    // What it makes on the way is large, and it is called once a session.
+    #[inline(never)]
+    fn finish<K: Sink>(
         &mut self,
+        handshake: &Handshake,
         alloc: Global,
         setup: Setup,
         sink: &mut K,
-    ) -> Result<Step, Error>
+        why: &mut Error,
+    ) -> Result<Step, Rejected>
         requires { IsShaking self.old }
         ensures steps { (past : List Raw) (times rest : List ℕ) (handles : List Handle) (out : List EisRequest) (readings : Option (List ℕ)) →
-            StandsAt (setup_of setup) past times rest handles self.old →
-            Steps (setup_of setup) past times rest handles result self.new
+            AsksToFinishIn (setup_of setup) past times rest handles handshake.now self.old →
+            Steps (setup_of setup) past times rest handles (told result why.new) self.new
             (around None out (K.taken sink.old) readings) (around None out (K.taken sink.new) readings) }
-        ensures sink { LentSink K.faults K.later (IsErrOf result error.WriteFault) sink.old sink.new }
-        ensures no_read_fault { IsErrOf result error.ReadFault → ⊥ }
+        ensures sink { LentSink K.faults K.later (IsErrOf (told result why.new) error.WriteFault) sink.old sink.new }
+        ensures no_read_fault { IsErrOf (told result why.new) error.ReadFault → ⊥ }
     {
         let Phase::Handshake(context, handshaker) = self else {
             unreachable!();
         };
-        match shake(context, handshaker)? {
-            Shaken::Waiting => Ok(Step::Waiting),
-            Shaken::Handled => Ok(Step::Handled),
-            Shaken::Complete(resp) => {
-                self.connect(alloc, resp, setup, sink)?;
-                Ok(Step::Handled)
-            }
+        match handshaker.finish(context, handshake) {
+            Ok(resp) => match self.connect(alloc, resp, setup, sink) {
+                Ok(()) => Ok(Step::Handled),
+                Err(error) => Err(refuse(why, error)),
+            },
+            Err(error) => Err(refuse(why, error)),
         }
     }
 

@@ -1,35 +1,28 @@
-use Rattle.std.proofs.lemmas.Result.{err_from_is_err_and}
-use Rattle.ei_serve.proofs.ShakingSteps.{at_err, completed_at, given, handled_at, refused_handling, refuses_asked, waits}
+use Rattle.ei_serve.proofs.ShakingSteps.{brings_request, finish_at, gone, handled_at, keeps_inner, refused_keeping, unreadable}
 use Rattle.ei_serve.proofs.handshaking.shake.Goals as goal
 
-pub returns-in_err-pending-clause-shakes : goal.returns-in_err-pending-clause-shakes
-returns-in_err-pending-clause-shakes c = λ setup past rest handles s.
-    let p = err_from_is_err_and c.from_residual.result c.from_residual.ensures.1 in
-    at_err c.from_residual.result p.0 _ setup past rest handles _ _ p.1 p.2 tt
+pub returns-in-Ok-None-keep-clause-shakes : goal.returns-in-Ok-None-keep-clause-shakes
+returns-in-Ok-None-keep-clause-shakes c = λ setup past rest handles s.
+    let f = brings_request setup past rest handles c.args.context.now c.pending_request.new.self c.args.handshaker.now c.in-Ok-Some-Request.field-0 c.in-Ok-Some-Request.field-0-0 c.in-Ok-Some-Request.request s c.in-Ok-Some-Request.field-0-is c.in-Ok-Some-Request.field-0-0-is c.in-Ok-Some-Request.ensures.ok in
+    handled_at setup past rest handles c.args.context.now c.args.handshaker.now s c.pending_request.new.self c.in-Ok-Some-Request.request c.in-Ok-None-keep.field-0 c.keep.new.self f c.in-Ok-None-keep.field-0-is c.in-Ok-None-keep.ensures
 
-pub returns-in_default-clause-shakes : goal.returns-in_default-clause-shakes
-returns-in_default-clause-shakes c = λ setup past rest handles s.
-    waits setup past rest handles c.args.context.now c.pending_request.new.self c.args.handshaker.now c.in_ok-pending.field-0 s c.in_default.is c.in_ok-pending.ensures.ok
+pub returns-in-Ok-Some-clause-shakes : goal.returns-in-Ok-Some-clause-shakes
+returns-in-Ok-Some-clause-shakes c = λ setup past rest handles s.
+    let f = brings_request setup past rest handles c.args.context.now c.pending_request.new.self c.args.handshaker.now c.in-Ok-Some-Request.field-0 c.in-Ok-Some-Request.field-0-0 c.in-Ok-Some-Request.request s c.in-Ok-Some-Request.field-0-is c.in-Ok-Some-Request.field-0-0-is c.in-Ok-Some-Request.ensures.ok in
+    finish_at setup past rest handles c.args.context.now c.args.handshaker.now s c.pending_request.new.self c.in-Ok-Some-Request.request c.in-Ok-Some.field-0 c.in-Ok-Some.handshake c.keep.new.self f c.in-Ok-Some.field-0-is c.in-Ok-Some.ensures
 
-pub returns-in_err-request-clause-shakes : goal.returns-in_err-request-clause-shakes
-returns-in_err-request-clause-shakes c = λ setup past rest handles s.
-    let p = err_from_is_err_and c.from_residual-in_err-request.result c.from_residual-in_err-request.ensures.1 in
-    at_err c.from_residual-in_err-request.result p.0 c.in_err-request.field-0.0 setup past rest handles _ _ p.1 p.2
-    (refuses_asked setup past rest handles c.args.context.now c.pending_request.new.self c.args.handshaker.now c.in_ok-pending.field-0 c.in-Some.pending _ s c.in-Some.is c.in_ok-pending.ensures.ok c.in_err-request.ensures)
+pub returns-in-Err-keep-clause-no_fault : goal.returns-in-Err-keep-clause-no_fault
+returns-in-Err-keep-clause-no_fault c = rw c.refuse.ensures (keeps_inner c.args.handshaker.now c.pending_request.new.self c.keep.new.self c.in-Ok-Some-Request.request c.in-Err-keep.error c.in-Err-keep.ensures)
 
-pub returns-in_err-handle_request-clause-shakes : goal.returns-in_err-handle_request-clause-shakes
-returns-in_err-handle_request-clause-shakes c = λ setup past rest handles s.
-    let p = err_from_is_err_and c.from_residual-in_err-handle_request.result c.from_residual-in_err-handle_request.ensures.1 in
-    let f = given setup past rest handles c.args.context.now c.pending_request.new.self c.args.handshaker.now c.in_ok-pending.field-0 c.in-Some.pending c.in_ok-request.request s c.in-Some.is c.in_ok-pending.ensures.ok c.in_ok-request.ensures in
-    at_err c.from_residual-in_err-handle_request.result p.0 c.in_err-handle_request.field-0.0 setup past rest handles _ _ p.1 p.2
-    (refused_handling setup past rest handles c.args.context.now c.args.handshaker.now s c.pending_request.new.self c.in_ok-request.request _ c.handle_request.new.ctx c.handle_request.new.self f c.in_err-handle_request.ensures.handles)
+pub returns-in-Err-keep-clause-shakes : goal.returns-in-Err-keep-clause-shakes
+returns-in-Err-keep-clause-shakes c = λ setup past rest handles s.
+    let f = brings_request setup past rest handles c.args.context.now c.pending_request.new.self c.args.handshaker.now c.in-Ok-Some-Request.field-0 c.in-Ok-Some-Request.field-0-0 c.in-Ok-Some-Request.request s c.in-Ok-Some-Request.field-0-is c.in-Ok-Some-Request.field-0-0-is c.in-Ok-Some-Request.ensures.ok in
+    rw c.refuse.ensures (refused_keeping setup past rest handles c.args.context.now c.args.handshaker.now s c.pending_request.new.self c.in-Ok-Some-Request.request c.in-Err-keep.error c.keep.new.self f c.in-Err-keep.ensures)
 
-pub returns-in-None-clause-shakes : goal.returns-in-None-clause-shakes
-returns-in-None-clause-shakes c = λ setup past rest handles s.
-    let f = given setup past rest handles c.args.context.now c.pending_request.new.self c.args.handshaker.now c.in_ok-pending.field-0 c.in-Some.pending c.in_ok-request.request s c.in-Some.is c.in_ok-pending.ensures.ok c.in_ok-request.ensures in
-    handled_at setup past rest handles c.args.context.now c.args.handshaker.now s c.pending_request.new.self c.in_ok-request.request c.in_ok-handle_request.field-0 c.handle_request.new.ctx c.handle_request.new.self f c.in-None.is c.in_ok-handle_request.ensures.handles
+pub returns-in-Ok-Some-ParseError-clause-shakes : goal.returns-in-Ok-Some-ParseError-clause-shakes
+returns-in-Ok-Some-ParseError-clause-shakes c = λ setup past rest handles s.
+    rw c.refuse_parse.ensures (unreadable setup past rest handles c.args.context.now c.pending_request.new.self c.args.handshaker.now c.in-Ok-Some-ParseError.field-0 c.in-Ok-Some-ParseError.field-0-0 c.in-Ok-Some-ParseError.error s c.in-Ok-Some-ParseError.field-0-is c.in-Ok-Some-ParseError.field-0-0-is c.in-Ok-Some-ParseError.ensures.ok)
 
-pub returns-in-Some-2-clause-shakes : goal.returns-in-Some-2-clause-shakes
-returns-in-Some-2-clause-shakes c = λ setup past rest handles s.
-    let f = given setup past rest handles c.args.context.now c.pending_request.new.self c.args.handshaker.now c.in_ok-pending.field-0 c.in-Some.pending c.in_ok-request.request s c.in-Some.is c.in_ok-pending.ensures.ok c.in_ok-request.ensures in
-    completed_at setup past rest handles c.args.context.now c.args.handshaker.now s c.pending_request.new.self c.in_ok-request.request c.in_ok-handle_request.field-0 c.handle_request.new.ctx c.handle_request.new.self c.in-Some-2.resp f c.in-Some-2.is c.in_ok-handle_request.ensures.ring c.in_ok-handle_request.ensures.handles
+pub returns-in-Ok-Some-InvalidObject-clause-shakes : goal.returns-in-Ok-Some-InvalidObject-clause-shakes
+returns-in-Ok-Some-InvalidObject-clause-shakes c = λ setup past rest handles s.
+    rw c.refuse_object.ensures (gone setup past rest handles c.args.context.now c.pending_request.new.self c.args.handshaker.now c.in-Ok-Some-InvalidObject.field-0 c.in-Ok-Some-InvalidObject.field-0-0 c.in-Ok-Some-InvalidObject.id s c.in-Ok-Some-InvalidObject.field-0-is c.in-Ok-Some-InvalidObject.field-0-0-is c.in-Ok-Some-InvalidObject.ensures.ok)
