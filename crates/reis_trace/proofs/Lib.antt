@@ -1,3 +1,4 @@
+pub mod Between
 pub mod GoingOn
 pub mod Shows
 pub mod OnePieces

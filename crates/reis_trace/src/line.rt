@@ -5,7 +5,7 @@ ghost use Rattle.std.specs.Option.{option_map};
 ghost use Rattle.std.specs.String.{string_bytes};
 ghost use Rattle.ei_spec.specs.Interface.{bytes_of};
 ghost use Rattle.ei_wire.specs.ArgText.{arg_text};
-ghost use Rattle.reis_trace.specs.TraceLine.{trace_text, comma_before_each, commas, name_shown, arrow, operation};
+ghost use Rattle.reis_trace.specs.TraceLine.{trace_text, commas, name_shown, arrow, operation};
 
 use ei_backend::Object;
 use ei_types::op_name;
@@ -91,29 +91,12 @@ impl fmt::Display for Commas<'_> {
 
     ghost output = { λ args. Some (commas arg_text args.0.now) };
 
+    #[tactic(auto, using(crate::proofs::Between::commas_more))]
     fn fmt<W: fmt::Write>(&self, f: &mut fmt::Formatter<W>) -> fmt::Result {
-        match self.0.split_first() {
-            None => Ok(()),
-            Some((first, others)) => {
-                let others = Behind(others);
-                write!(f, "{first}{others}")
-            }
-        }
-    }
-}
-
-/// Arguments, each with a comma and a blank before it.
-#[derive(Drop)]
-struct Behind<'a>(&'a [Arg<'a>]);
-
-impl fmt::Display for Behind<'_> {
-    ghost use Rattle.std.specs.Prelude.{Some};
-
-    ghost output = { λ args. Some (comma_before_each arg_text args.0.now) };
-
-    fn fmt<W: fmt::Write>(&self, f: &mut fmt::Formatter<W>) -> fmt::Result {
+        let mut between = "";
         for arg in self.0 {
-            write!(f, ", {arg}")?;
+            write!(f, "{between}{arg}")?;
+            between = ", ";
         }
         Ok(())
     }
