@@ -1,3 +1,4 @@
+pub mod Announcing
 pub mod CutLaws
 pub mod StreamLength
 pub mod Saying

@@ -15,29 +15,25 @@ use Rattle.reis_demo.specs.declared.script.Script.{Script}
 -- ---- the opening
 
 -- its parts, one after another
-pub opening_parts : all_bytes opening ≡ all_bytes introduction ++ (all_bytes objects_announced ++ (all_bytes capabilities_announced ++ all_bytes (finish_message ∷ begins_to_send)))
+pub opening_parts : all_bytes opening ≡ all_bytes introduction ++ (all_bytes (objects_announced ++ capabilities_announced) ++ all_bytes (finish_message ∷ begins_to_send))
 unfolding opening
 opening_parts =
     flat_map-append bytes_of introduction (objects_announced ++ (capabilities_announced ++ (finish_message ∷ begins_to_send)))
-    ∙ ap (λ (x : List ℕ). all_bytes introduction ++ x)
-    (flat_map-append bytes_of objects_announced (capabilities_announced ++ (finish_message ∷ begins_to_send))
-    ∙ ap (λ (x : List ℕ). all_bytes objects_announced ++ x) (flat_map-append bytes_of capabilities_announced (finish_message ∷ begins_to_send)))
+    ∙ ap (λ (m : List Raw). all_bytes introduction ++ all_bytes m) (sym (append_assoc objects_announced capabilities_announced (finish_message ∷ begins_to_send)))
+    ∙ ap (λ (x : List ℕ). all_bytes introduction ++ x) (flat_map-append bytes_of (objects_announced ++ capabilities_announced) (finish_message ∷ begins_to_send))
 
 -- they are said
-pub opening_said : (a b c d e : List ℕ) → a ≡ [] → b ≡ a ++ all_bytes introduction → c ≡ b ++ all_bytes objects_announced → d ≡ c ++ all_bytes capabilities_announced →
-    e ≡ d ++ all_bytes (finish_message ∷ begins_to_send) → e ≡ all_bytes opening
-opening_said a b c d e none first second third last =
+pub opening_said : (a b c d : List ℕ) → a ≡ [] → b ≡ a ++ all_bytes introduction → c ≡ b ++ all_bytes (objects_announced ++ capabilities_announced) →
+    d ≡ c ++ all_bytes (finish_message ∷ begins_to_send) → d ≡ all_bytes opening
+opening_said a b c d none first second last =
     let i = all_bytes introduction in
-    let o = all_bytes objects_announced in
-    let k = all_bytes capabilities_announced in
+    let o = all_bytes (objects_announced ++ capabilities_announced) in
     let l = all_bytes (finish_message ∷ begins_to_send) in
     let to_b : b ≡ i = first ∙ ap (λ (x : List ℕ). x ++ i) none in
     let to_c : c ≡ i ++ o = second ∙ ap (λ (x : List ℕ). x ++ o) to_b in
-    let to_d : d ≡ (i ++ o) ++ k = third ∙ ap (λ (x : List ℕ). x ++ k) to_c in
     last
-    ∙ ap (λ (x : List ℕ). x ++ l) to_d
-    ∙ append_assoc (i ++ o) k l
-    ∙ append_assoc i o (k ++ l)
+    ∙ ap (λ (x : List ℕ). x ++ l) to_c
+    ∙ append_assoc i o l
     ∙ sym opening_parts
 
 -- one message behind others
@@ -91,15 +87,14 @@ unfolding drawn_inputs
 last_input count i x items le = let none : count - i ≡ 0 = omega arith in ap (λ (n : ℕ). items ++ all_bytes (drawn_inputs n x)) none ∙ append-nil items
 
 -- a frame, by its three parts
-pub frame_said : (a b c d h w l : List ℕ) (time : ℕ) → h ≡ header device_id 28 3 → w ≡ to_le_bytes w32 2 → l ≡ to_le_bytes w64 time → b ≡ a ++ h → c ≡ b ++ w → d ≡ c ++ l →
+pub frame_said : (a b c d w l : List ℕ) (time : ℕ) → w ≡ to_le_bytes w32 2 → l ≡ to_le_bytes w64 time → b ≡ a ++ header device_id 28 3 → c ≡ b ++ w → d ≡ c ++ l →
     d ≡ a ++ bytes_of (frame_at time)
 unfolding bytes_of frame_at
-frame_said a b c d h w l time eh ew el first second third =
+frame_said a b c d w l time ew el first second third =
     third
     ∙ ap (λ (x : List ℕ). x ++ l) (second ∙ ap (λ (x : List ℕ). x ++ w) first)
-    ∙ append_assoc (a ++ h) w l
-    ∙ append_assoc a h (w ++ l)
-    ∙ ap (λ (x : List ℕ). a ++ (x ++ (w ++ l))) eh
+    ∙ append_assoc (a ++ header device_id 28 3) w l
+    ∙ append_assoc a (header device_id 28 3) (w ++ l)
     ∙ ap (λ (x : List ℕ). a ++ (header device_id 28 3 ++ (x ++ l))) ew
     ∙ ap (λ (x : List ℕ). a ++ (header device_id 28 3 ++ (to_le_bytes w32 2 ++ x))) (el ∙ sym (append-nil (to_le_bytes w64 time)))
 

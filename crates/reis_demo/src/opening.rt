@@ -6,6 +6,7 @@ ghost use Rattle.ei_wire.specs.Gives.{value_of_arg};
 ghost use Rattle.ei_backend.specs.Outgoing.{args_body};
 ghost use Rattle.reis_demo.specs.Generated.{announcement, introduction, objects_announced, capabilities_announced, finish_message, begins_to_send, opening};
 
+use ei_types::interfaces;
 use ei_wire::{Arg, Header, NoMemory};
 use std::alloc::Global;
 
@@ -100,33 +101,15 @@ fn push_introduction(alloc: Global, out: &mut Vec<u8>) -> Result<(), NoMemory>
     Ok(())
 }
 
-/// Appends the announcements of the interfaces of a connection.
-#[tactic(auto, unfolding(crate::specs::Generated::objects_announced))]
-fn push_objects(alloc: Global, out: &mut Vec<u8>) -> Result<(), NoMemory>
-    ensures ok { OnOk result (out.new.items ≡ out.old.items ++ all_bytes objects_announced) }
+/// Appends the announcements of all interfaces: those of a connection, and then those of a device.
+fn push_announcements(alloc: Global, out: &mut Vec<u8>) -> Result<(), NoMemory>
+    ensures ok { OnOk result (out.new.items ≡ out.old.items ++ all_bytes (objects_announced ++ capabilities_announced)) }
     ensures capacity { vec_capacity out.old ≤ vec_capacity out.new }
 {
-    push_announcement(alloc, out, "ei_connection", 1)?;
-    push_announcement(alloc, out, "ei_callback", 1)?;
-    push_announcement(alloc, out, "ei_pingpong", 1)?;
-    push_announcement(alloc, out, "ei_seat", 2)?;
-    push_announcement(alloc, out, "ei_device", 3)?;
-    Ok(())
-}
-
-/// Appends the announcements of the interfaces of a device.
-#[tactic(auto, unfolding(crate::specs::Generated::capabilities_announced))]
-fn push_capabilities(alloc: Global, out: &mut Vec<u8>) -> Result<(), NoMemory>
-    ensures ok { OnOk result (out.new.items ≡ out.old.items ++ all_bytes capabilities_announced) }
-    ensures capacity { vec_capacity out.old ≤ vec_capacity out.new }
-{
-    push_announcement(alloc, out, "ei_pointer", 1)?;
-    push_announcement(alloc, out, "ei_pointer_absolute", 1)?;
-    push_announcement(alloc, out, "ei_scroll", 1)?;
-    push_announcement(alloc, out, "ei_button", 1)?;
-    push_announcement(alloc, out, "ei_keyboard", 1)?;
-    push_announcement(alloc, out, "ei_touchscreen", 2)?;
-    push_announcement(alloc, out, "ei_text", 1)?;
+    let interfaces = interfaces();
+    for (name, version) in &interfaces {
+        push_announcement(alloc, out, name, *version)?;
+    }
     Ok(())
 }
 
@@ -150,8 +133,7 @@ pub(crate) fn opening(alloc: Global, room: usize) -> Result<Vec<u8>, NoMemory>
 {
     let mut out = Vec::with_capacity(alloc, room)?;
     push_introduction(alloc, &mut out)?;
-    push_objects(alloc, &mut out)?;
-    push_capabilities(alloc, &mut out)?;
+    push_announcements(alloc, &mut out)?;
     push_device(alloc, &mut out)?;
     Ok(out)
 }

@@ -2,7 +2,7 @@
 
 ghost use Rattle.std.specs.Prelude.{◌≡◌, ◌≤◌, ◌<◌, ◌+◌, ◌*◌, ◌%◌, ◌^◌, ◌⊎◌, ◌++◌, ◌∷◌, [], true, false, length, vec_len, vec_capacity};
 ghost use Rattle.ei_spec.specs.Value.{Word};
-ghost use Rattle.ei_spec.specs.Message.{message, bytes_of, all_bytes};
+ghost use Rattle.ei_spec.specs.Message.{header, message, bytes_of, all_bytes};
 ghost use Rattle.reis_demo.specs.Generated.{drawn, after_draws, chooser, drawn_state, drawn_input, drawn_inputs, group_size, drawn_group, after_group};
 ghost use Rattle.reis_demo.specs.Generated.{groups_from, frame_at, disconnect_message};
 ghost use Rattle.reis_demo.specs.Script.{unsaid, IsTimed};
@@ -81,6 +81,21 @@ fn after_draws(count: u32, start: u32) -> u32
     number
 }
 
+/// Appends the header of a message of so many bytes.
+fn push_header(out: &mut Vec<u8>, object_id: u64, length: u32, opcode: u32)
+    requires { vec_len out.old + 16 ≤ vec_capacity out.old }
+    ensures bytes { out.new.items ≡ out.old.items ++ header object_id length opcode }
+    ensures len { vec_len out.new ≡ vec_len out.old + 16 }
+    ensures capacity { vec_capacity out.old ≤ vec_capacity out.new }
+{
+    let header = Header {
+        object_id,
+        length,
+        opcode,
+    };
+    out.extend_from_slice(&header.as_bytes()).unwrap();
+}
+
 /// Appends a message of two words.
 #[tactic(auto, unfolding(ei_spec::specs::Message::bytes_of))]
 fn push_words(out: &mut Vec<u8>, object_id: u64, opcode: u32, first: u32, second: u32)
@@ -89,12 +104,7 @@ fn push_words(out: &mut Vec<u8>, object_id: u64, opcode: u32, first: u32, second
     ensures len { vec_len out.new ≡ vec_len out.old + 24 }
     ensures capacity { vec_capacity out.old ≤ vec_capacity out.new }
 {
-    let header = Header {
-        object_id,
-        length: INPUT_BYTES,
-        opcode,
-    };
-    out.extend_from_slice(&header.as_bytes()).unwrap();
+    push_header(out, object_id, INPUT_BYTES, opcode);
     out.extend_from_slice(&first.to_le_bytes()).unwrap();
     out.extend_from_slice(&second.to_le_bytes()).unwrap();
 }
@@ -122,12 +132,7 @@ fn push_frame(out: &mut Vec<u8>, time: u64)
     ensures len { vec_len out.new ≡ vec_len out.old + 28 }
     ensures capacity { vec_capacity out.old ≤ vec_capacity out.new }
 {
-    let header = Header {
-        object_id: DEVICE,
-        length: FRAME_BYTES,
-        opcode: 3,
-    };
-    out.extend_from_slice(&header.as_bytes()).unwrap();
+    push_header(out, DEVICE, FRAME_BYTES, 3);
     out.extend_from_slice(&2u32.to_le_bytes()).unwrap();
     out.extend_from_slice(&time.to_le_bytes()).unwrap();
 }
@@ -140,12 +145,7 @@ fn push_disconnect(out: &mut Vec<u8>)
     ensures len { vec_len out.new ≡ vec_len out.old + 16 }
     ensures capacity { vec_capacity out.old ≤ vec_capacity out.new }
 {
-    let header = Header {
-        object_id: CONNECTION,
-        length: END_BYTES,
-        opcode: 1,
-    };
-    out.extend_from_slice(&header.as_bytes()).unwrap();
+    push_header(out, CONNECTION, END_BYTES, 1);
 }
 
 /// Appends the inputs of so many draws after a number. It answers the number after them.
