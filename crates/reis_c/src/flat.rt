@@ -95,6 +95,13 @@ fn truth(is: bool) -> u64
     if is { 1 } else { 0 }
 }
 
+/// A request with a time: its kind, its device and its time, and behind these what else it says.
+macro_rules! timed {
+    ($of:ident, $kind:ident, $request:ident: $($said:expr),+) => {
+        $of(kind::$kind, &$request.device, $request.time, $($said),+)
+    };
+}
+
 /// The request as C reads it.
 pub(crate) fn flat(request: &EisRequest) -> ReisRequest
     ensures { result ≡ flat request.now }
@@ -110,7 +117,7 @@ pub(crate) fn flat(request: &EisRequest) -> ReisRequest
         EisRequest::Bind(r) => of_seat(kind::BIND, &r.seat, &r.capabilities),
         EisRequest::DeviceClosed(r) => change(kind::DEVICE_CLOSED, &r.device, 0, 0, 0),
         EisRequest::RequestDevice(r) => of_seat(kind::REQUEST_DEVICE, &r.seat, &r.capabilities),
-        EisRequest::Frame(r) => change(kind::FRAME, &r.device, r.time, r.last_serial, 0),
+        EisRequest::Frame(r) => timed!(change, FRAME, r: r.last_serial, 0),
         EisRequest::Ready(r) => change(kind::READY, &r.device, 0, 0, 0),
         EisRequest::DeviceStartEmulating(r) => change(
             kind::START_EMULATING,
@@ -122,66 +129,27 @@ pub(crate) fn flat(request: &EisRequest) -> ReisRequest
         EisRequest::DeviceStopEmulating(r) => {
             change(kind::STOP_EMULATING, &r.device, 0, r.last_serial, 0)
         }
-        EisRequest::PointerMotion(r) => point(kind::POINTER_MOTION, &r.device, r.time, r.dx, r.dy),
-        EisRequest::PointerMotionAbsolute(r) => point(
-            kind::POINTER_MOTION_ABSOLUTE,
-            &r.device,
-            r.time,
-            r.dx_absolute,
-            r.dy_absolute,
-        ),
-        EisRequest::Button(r) => change(
-            kind::BUTTON,
-            &r.device,
-            r.time,
-            r.button,
-            u32::from(r.state),
-        ),
-        EisRequest::ScrollDelta(r) => point(kind::SCROLL_DELTA, &r.device, r.time, r.dx, r.dy),
-        EisRequest::ScrollStop(r) => axes(kind::SCROLL_STOP, &r.device, r.time, r.x, r.y),
-        EisRequest::ScrollCancel(r) => axes(kind::SCROLL_CANCEL, &r.device, r.time, r.x, r.y),
-        EisRequest::ScrollDiscrete(r) => change(
-            kind::SCROLL_DISCRETE,
-            &r.device,
-            r.time,
-            r.discrete_dx.cast_unsigned(),
-            r.discrete_dy.cast_unsigned(),
-        ),
-        EisRequest::KeyboardKey(r) => change(
-            kind::KEY,
-            &r.device,
-            r.time,
-            r.key,
-            u32::from(r.state),
-        ),
-        EisRequest::TouchDown(r) => touch(
-            kind::TOUCH_DOWN,
-            &r.device,
-            r.time,
-            r.touch_id,
-            r.x,
-            r.y,
-        ),
-        EisRequest::TouchMotion(r) => touch(
-            kind::TOUCH_MOTION,
-            &r.device,
-            r.time,
-            r.touch_id,
-            r.x,
-            r.y,
-        ),
-        EisRequest::TouchUp(r) => change(kind::TOUCH_UP, &r.device, r.time, r.touch_id, 0),
-        EisRequest::TouchCancel(r) => change(kind::TOUCH_CANCEL, &r.device, r.time, r.touch_id, 0),
-        EisRequest::TextKeysym(r) => change(
-            kind::TEXT_KEYSYM,
-            &r.device,
-            r.time,
-            r.keysym,
-            u32::from(r.state),
-        ),
+        EisRequest::PointerMotion(r) => timed!(point, POINTER_MOTION, r: r.dx, r.dy),
+        EisRequest::PointerMotionAbsolute(r) => {
+            timed!(point, POINTER_MOTION_ABSOLUTE, r: r.dx_absolute, r.dy_absolute)
+        }
+        EisRequest::Button(r) => timed!(change, BUTTON, r: r.button, u32::from(r.state)),
+        EisRequest::ScrollDelta(r) => timed!(point, SCROLL_DELTA, r: r.dx, r.dy),
+        EisRequest::ScrollStop(r) => timed!(axes, SCROLL_STOP, r: r.x, r.y),
+        EisRequest::ScrollCancel(r) => timed!(axes, SCROLL_CANCEL, r: r.x, r.y),
+        EisRequest::ScrollDiscrete(r) => {
+            let (x, y) = (r.discrete_dx.cast_unsigned(), r.discrete_dy.cast_unsigned());
+            timed!(change, SCROLL_DISCRETE, r: x, y)
+        }
+        EisRequest::KeyboardKey(r) => timed!(change, KEY, r: r.key, u32::from(r.state)),
+        EisRequest::TouchDown(r) => timed!(touch, TOUCH_DOWN, r: r.touch_id, r.x, r.y),
+        EisRequest::TouchMotion(r) => timed!(touch, TOUCH_MOTION, r: r.touch_id, r.x, r.y),
+        EisRequest::TouchUp(r) => timed!(change, TOUCH_UP, r: r.touch_id, 0),
+        EisRequest::TouchCancel(r) => timed!(change, TOUCH_CANCEL, r: r.touch_id, 0),
+        EisRequest::TextKeysym(r) => timed!(change, TEXT_KEYSYM, r: r.keysym, u32::from(r.state)),
         EisRequest::TextUtf8(r) => {
             let length = r.text.len() as u64;
-            of_device(kind::TEXT_UTF8, &r.device, r.time, [length, 0, 0, 0])
+            timed!(of_device, TEXT_UTF8, r: [length, 0, 0, 0])
         }
     }
 }
