@@ -19,6 +19,18 @@ use ei_serve::Setup;
 use ei_types::{DeviceCapabilities, Error};
 use std::alloc::Global;
 
+/// What a call answers on the session that is there, which stays in its place; `NO_SESSION` where there is none.
+macro_rules! on_session {
+    ($session:ident, $alloc:ident, |$held:ident| $answer:expr) => {{
+        let Some(mut $held) = $session.take($alloc) else {
+            return NO_SESSION;
+        };
+        let answer = $answer;
+        $session.put($held);
+        answer
+    }};
+}
+
 /// Starts a session where there is none.
 ///
 /// `HAS_SESSION` where there is one; `CAPABILITIES` where a bit stands for none; `NO_MEMORY`.
@@ -72,12 +84,7 @@ pub extern "C" fn reis_c_feed(
 ) -> u32
     ensures { OnSession session.old.held result session.new.held (Feeds bytes.now handles.now time result) }
 {
-    let Some(mut held) = session.take(alloc) else {
-        return NO_SESSION;
-    };
-    let answer = held.feed(bytes, handles, time);
-    session.put(held);
-    answer
+    on_session!(session, alloc, |held| held.feed(bytes, handles, time))
 }
 
 /// Says that no more comes from the client.
@@ -87,12 +94,7 @@ pub extern "C" fn reis_c_feed(
 pub extern "C" fn reis_c_end_of_input(alloc: Global, session: &mut ReisSession) -> u32
     ensures { OnSession session.old.held result session.new.held (TakesEnd result) }
 {
-    let Some(mut held) = session.take(alloc) else {
-        return NO_SESSION;
-    };
-    let answer = held.end_of_input();
-    session.put(held);
-    answer
+    on_session!(session, alloc, |held| held.end_of_input())
 }
 
 /// Hands out the replies that wait, as many as there is room for, and tells how many bytes and handles these are.
@@ -111,16 +113,14 @@ pub extern "C" fn reis_c_replies(
         × HandsReplies bytes.old handles.old count.new handle_count.new bytes.new handles.new old new) }
     ensures none { result ≢ OK → (count.new ≡ 0) × (handle_count.new ≡ 0) × (bytes.new ≡ bytes.old) × (handles.new ≡ handles.old) }
 {
-    let Some(mut held) = session.take(alloc) else {
-        *count = 0;
-        *handle_count = 0;
-        return NO_SESSION;
-    };
-    let (bytes_taken, handles_taken) = held.replies(bytes, handles);
-    *count = bytes_taken;
-    *handle_count = handles_taken;
-    session.put(held);
-    OK
+    *count = 0;
+    *handle_count = 0;
+    on_session!(session, alloc, |held| {
+        let (bytes_taken, handles_taken) = held.replies(bytes, handles);
+        *count = bytes_taken;
+        *handle_count = handles_taken;
+        OK
+    })
 }
 
 /// Hands out the next request.
@@ -135,12 +135,7 @@ pub extern "C" fn reis_c_next_request(
     ensures handed { OnSession session.old.held result session.new.held (HandsRequest request.old result request.new) }
     ensures none { result ≢ OK → request.new ≡ request.old }
 {
-    let Some(mut held) = session.take(alloc) else {
-        return NO_SESSION;
-    };
-    let answer = held.next_request(request);
-    session.put(held);
-    answer
+    on_session!(session, alloc, |held| held.next_request(request))
 }
 
 /// Writes the text of the request that was handed out last, and its length.
@@ -158,12 +153,7 @@ pub extern "C" fn reis_c_request_text(
     ensures none { result ≡ NO_SESSION → (length.new ≡ 0) × (text.new ≡ text.old) }
 {
     *length = 0;
-    let Some(held) = session.take(alloc) else {
-        return NO_SESSION;
-    };
-    let answer = held.request_text(text, length);
-    session.put(held);
-    answer
+    on_session!(session, alloc, |held| held.request_text(text, length))
 }
 
 /// Tells how the session ended.
@@ -175,13 +165,11 @@ pub extern "C" fn reis_c_end(alloc: Global, session: &mut ReisSession, end: &mut
         × (end.new ≡ end_number old.server.answer)) }
     ensures none { result ≢ OK → end.new ≡ end_number None }
 {
-    let Some(held) = session.take(alloc) else {
-        *end = end_number(None);
-        return NO_SESSION;
-    };
-    *end = end_number(held.server.answer());
-    session.put(held);
-    OK
+    *end = end_number(None);
+    on_session!(session, alloc, |held| {
+        *end = end_number(held.server.answer());
+        OK
+    })
 }
 
 /// Writes the text of the error that ended the session, and its length.
@@ -200,12 +188,7 @@ pub extern "C" fn reis_c_end_text(
     ensures none { (result ≡ NO_SESSION) ⊎ (result ≡ NO_MEMORY) → (length.new ≡ 0) × (text.new ≡ text.old) }
 {
     *length = 0;
-    let Some(held) = session.take(alloc) else {
-        return NO_SESSION;
-    };
-    let answer = held.end_text(alloc, text, length);
-    session.put(held);
-    answer
+    on_session!(session, alloc, |held| held.end_text(alloc, text, length))
 }
 
 /// Frees a session: there is none behind it.
