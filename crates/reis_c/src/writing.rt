@@ -17,16 +17,24 @@ pub(crate) fn copy_bytes(from: &[u8], room: &mut [u8]) -> usize
     count
 }
 
+/// Copies what each of the first items becomes, as many as there is room for, and tells how many these are.
+macro_rules! copy_each {
+    ($from:ident, $room:ident, |$item:ident| $becomes:expr) => {{
+        let count = $from.len().min($room.len());
+        for i in 0..count {
+            let $item = $from[i];
+            $room[i] = $becomes;
+        }
+        count
+    }};
+}
+
 /// Copies the numbers of the first handles, as many as there is room for, and tells how many these are.
 pub(crate) fn copy_numbers(from: &[Handle], room: &mut [u32]) -> usize
     ensures count { result ≡ min (length from.now) (length room.old) }
     ensures copied { room.new ≡ map number_of (take result from.now) ++ drop result room.old }
 {
-    let count = from.len().min(room.len());
-    for i in 0..count {
-        room[i] = from[i].0;
-    }
-    count
+    copy_each!(from, room, |handle| handle.0)
 }
 
 /// Copies the handles of the first numbers, as many as there is room for, and tells how many these are.
@@ -34,11 +42,7 @@ pub(crate) fn copy_handles(from: &[u32], room: &mut [Handle]) -> usize
     ensures count { result ≡ min (length from.now) (length room.old) }
     ensures copied { room.new ≡ map handle_of (take result from.now) ++ drop result room.old }
 {
-    let count = from.len().min(room.len());
-    for i in 0..count {
-        room[i] = Handle(from[i]);
-    }
-    count
+    copy_each!(from, room, |number| Handle(number))
 }
 
 /// Writes a text whole, or nothing where there is no room for it, and its length.
