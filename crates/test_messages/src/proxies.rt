@@ -3,7 +3,8 @@
 use crate::end::End;
 use crate::stop::Stop;
 use crate::targets::{Target, targets, with_targets};
-use ei_backend::{HasBackend, Interface, Object};
+use ei_backend::{HasBackend, Interface, Object, kinds};
+use ei_spec::KnownInterface;
 use std::alloc::{AllocError, Global};
 use std::fmt;
 use std::fmt::Write;
@@ -31,7 +32,33 @@ fn show_all<E: End, R: Print + AllocGlobal>(rt: &R) -> Result<(), Stop> {
 /// The proxy over that object of an end.
 fn text_of<E: End>(alloc: Global, end: &E, target: &Target) -> Result<String, Stop> {
     let object = end.backend().object_for_id(target.id).ok_or(Stop::Object)?;
-    end.proxy_text(alloc, object.clone()?)?.ok_or(Stop::Object)
+    proxy_text(alloc, end, object.clone()?)?.ok_or(Stop::Object)
+}
+
+/// The proxy over the object as a text: `None` where the object has none.
+pub(crate) fn proxy_text<E: End>(
+    alloc: Global,
+    end: &E,
+    object: Object,
+) -> Result<Option<String>, AllocError> {
+    match KnownInterface::from_name(object.interface()) {
+        Some(KnownInterface::Handshake) => end.text_of::<kinds::Handshake>(alloc, object),
+        Some(KnownInterface::Connection) => end.text_of::<kinds::Connection>(alloc, object),
+        Some(KnownInterface::Callback) => end.text_of::<kinds::Callback>(alloc, object),
+        Some(KnownInterface::Pingpong) => end.text_of::<kinds::Pingpong>(alloc, object),
+        Some(KnownInterface::Seat) => end.text_of::<kinds::Seat>(alloc, object),
+        Some(KnownInterface::Device) => end.text_of::<kinds::Device>(alloc, object),
+        Some(KnownInterface::Pointer) => end.text_of::<kinds::Pointer>(alloc, object),
+        Some(KnownInterface::PointerAbsolute) => {
+            end.text_of::<kinds::PointerAbsolute>(alloc, object)
+        }
+        Some(KnownInterface::Scroll) => end.text_of::<kinds::Scroll>(alloc, object),
+        Some(KnownInterface::Button) => end.text_of::<kinds::Button>(alloc, object),
+        Some(KnownInterface::Keyboard) => end.text_of::<kinds::Keyboard>(alloc, object),
+        Some(KnownInterface::Touchscreen) => end.text_of::<kinds::Touchscreen>(alloc, object),
+        Some(KnownInterface::Text) => end.text_of::<kinds::Text>(alloc, object),
+        None => Ok(None),
+    }
 }
 
 /// The proxy of that type over the object, if it has one: what it is shown as, and as an argument; the name of its

@@ -1,6 +1,7 @@
 //! What an end reads, as texts.
 
 use crate::end::End;
+use crate::proxies::proxy_text;
 use crate::stop::Stop;
 use ei_backend::{HasBackend, MessageEnum, Object, PendingRequestResult};
 use std::alloc::Global;
@@ -118,6 +119,6 @@ fn has_same_proxy<E: End>(
     object: &Object,
     other: &Object,
 ) -> Result<bool, Stop> {
-    let text = end.proxy_text(alloc, object.clone()?)?;
-    Ok(text == end.proxy_text(alloc, other.clone()?)?)
+    let text = proxy_text(alloc, end, object.clone()?)?;
+    Ok(text == proxy_text(alloc, end, other.clone()?)?)
 }

@@ -1,9 +1,9 @@
 //! The server's end: its proxies, and its events, each with the arguments that the table has.
 
-use crate::end::{End, HALF, MINUS_ONE, ONE, TWO};
+use crate::end::{End, HALF, MINUS_ONE, ONE, TWO, send_by, send_to};
 use crate::proxies::shown;
 use crate::targets::proxy;
-use ei_backend::{Interface, Kind, Object, PendingRequestResult, Pieces, Tray, kinds};
+use ei_backend::{Interface, Kind, Object, PendingRequestResult, Pieces, Tray};
 use ei_server::{
     Button, Callback, Connection, Context, Device, Handshake, Keyboard, Pointer, PointerAbsolute,
     Proxy, Request, Scroll, Seat, Text, Touchscreen, connection,
@@ -39,21 +39,7 @@ impl End for Context {
     }
 
     fn send(&mut self, interface: KnownInterface, opcode: u32) -> Result<(), SendError> {
-        match interface {
-            KnownInterface::Handshake => send_handshake(self, opcode),
-            KnownInterface::Connection => send_connection(self, opcode),
-            KnownInterface::Callback => send_callback(self, opcode),
-            KnownInterface::Pingpong => Ok(()),
-            KnownInterface::Seat => send_seat(self, opcode),
-            KnownInterface::Device => send_device(self, opcode),
-            KnownInterface::Pointer => send_pointer(self, opcode),
-            KnownInterface::PointerAbsolute => send_absolute(self, opcode),
-            KnownInterface::Scroll => send_scroll(self, opcode),
-            KnownInterface::Button => send_button(self, opcode),
-            KnownInterface::Keyboard => send_keyboard(self, opcode),
-            KnownInterface::Touchscreen => send_touchscreen(self, opcode),
-            KnownInterface::Text => send_text(self, opcode),
-        }
+        send_to!(self, interface, opcode)
     }
 
     fn announced(message: &Request) -> Option<&Object> {
@@ -65,88 +51,54 @@ impl End for Context {
         }
     }
 
-    fn proxy_text(&self, alloc: Global, object: Object) -> Result<Option<String>, AllocError> {
-        match KnownInterface::from_name(object.interface()) {
-            Some(KnownInterface::Handshake) => text_of::<kinds::Handshake>(alloc, self, object),
-            Some(KnownInterface::Connection) => text_of::<kinds::Connection>(alloc, self, object),
-            Some(KnownInterface::Callback) => text_of::<kinds::Callback>(alloc, self, object),
-            Some(KnownInterface::Pingpong) => text_of::<kinds::Pingpong>(alloc, self, object),
-            Some(KnownInterface::Seat) => text_of::<kinds::Seat>(alloc, self, object),
-            Some(KnownInterface::Device) => text_of::<kinds::Device>(alloc, self, object),
-            Some(KnownInterface::Pointer) => text_of::<kinds::Pointer>(alloc, self, object),
-            Some(KnownInterface::PointerAbsolute) => {
-                text_of::<kinds::PointerAbsolute>(alloc, self, object)
-            }
-            Some(KnownInterface::Scroll) => text_of::<kinds::Scroll>(alloc, self, object),
-            Some(KnownInterface::Button) => text_of::<kinds::Button>(alloc, self, object),
-            Some(KnownInterface::Keyboard) => text_of::<kinds::Keyboard>(alloc, self, object),
-            Some(KnownInterface::Touchscreen) => {
-                text_of::<kinds::Touchscreen>(alloc, self, object)
-            }
-            Some(KnownInterface::Text) => text_of::<kinds::Text>(alloc, self, object),
-            None => Ok(None),
-        }
+    fn text_of<K: Kind + Drop>(
+        &self,
+        alloc: Global,
+        object: Object,
+    ) -> Result<Option<String>, AllocError> {
+        shown::<Proxy<K>, Context>(alloc, self, object)
     }
 }
 
-/// The proxy of that kind over the object as a text.
-fn text_of<K: Kind + Drop>(
-    alloc: Global,
-    context: &Context,
-    object: Object,
-) -> Result<Option<String>, AllocError> {
-    shown::<Proxy<K>, Context>(alloc, context, object)
-}
-
 fn send_handshake(context: &mut Context, opcode: u32) -> Result<(), SendError> {
-    let Some(handshake) = proxy::<Handshake, Context>(context) else {
-        return Ok(());
-    };
-    match opcode {
+    send_by! { context, opcode, handshake: Handshake,
         0 => handshake.handshake_version(context, 3),
         1 => handshake.interface_version(context, "ab", 7),
         2 => {
             handshake.connection(context, 9, 4)?;
             Ok(())
-        }
-        _ => Ok(()),
+        },
     }
 }
 
 fn send_connection(context: &mut Context, opcode: u32) -> Result<(), SendError> {
-    let Some(connection) = proxy::<Connection, Context>(context) else {
-        return Ok(());
-    };
-    match opcode {
+    send_by! { context, opcode, connection: Connection,
         0 => connection.disconnected(context, 6, DisconnectReason::Protocol, Some("abcd")),
         1 => {
             connection.seat(context, 2)?;
             Ok(())
-        }
+        },
         2 => connection.invalid_object(context, 5, 0x0102_0304_0506_0708),
         3 => {
             connection.ping(context, 6)?;
             Ok(())
-        }
-        _ => Ok(()),
+        },
     }
 }
 
 fn send_callback(context: &mut Context, opcode: u32) -> Result<(), SendError> {
-    let Some(callback) = proxy::<Callback, Context>(context) else {
-        return Ok(());
-    };
-    match opcode {
+    send_by! { context, opcode, callback: Callback,
         0 => callback.done(context, 0x0102_0304_0506_0708),
-        _ => Ok(()),
     }
 }
 
+/// A server sends nothing to a ping-pong.
+fn send_ping(_context: &mut Context, _opcode: u32) -> Result<(), SendError> {
+    Ok(())
+}
+
 fn send_seat(context: &mut Context, opcode: u32) -> Result<(), SendError> {
-    let Some(seat) = proxy::<Seat, Context>(context) else {
-        return Ok(());
-    };
-    match opcode {
+    send_by! { context, opcode, seat: Seat,
         0 => seat.destroyed(context, 4),
         1 => seat.name(context, "a"),
         2 => seat.capability(context, 32, "ab"),
@@ -154,16 +106,12 @@ fn send_seat(context: &mut Context, opcode: u32) -> Result<(), SendError> {
         4 => {
             seat.device(context, 3)?;
             Ok(())
-        }
-        _ => Ok(()),
+        },
     }
 }
 
 fn send_device(context: &mut Context, opcode: u32) -> Result<(), SendError> {
-    let Some(device) = proxy::<Device, Context>(context) else {
-        return Ok(());
-    };
-    match opcode {
+    send_by! { context, opcode, device: Device,
         0 => device.destroyed(context, 14),
         1 => device.name(context, "abc"),
         2 => device.device_type(context, DeviceType::Virtual),
@@ -172,7 +120,7 @@ fn send_device(context: &mut Context, opcode: u32) -> Result<(), SendError> {
         5 => {
             device.interface::<Pointer>(context, 8)?;
             Ok(())
-        }
+        },
         _ => emulate(context, &device, opcode),
     }
 }
@@ -193,86 +141,58 @@ fn emulate(context: &mut Context, device: &Device, opcode: u32) -> Result<(), Se
 }
 
 fn send_pointer(context: &mut Context, opcode: u32) -> Result<(), SendError> {
-    let Some(pointer) = proxy::<Pointer, Context>(context) else {
-        return Ok(());
-    };
-    match opcode {
+    send_by! { context, opcode, pointer: Pointer,
         0 => pointer.destroyed(context, 15),
         1 => pointer.motion_relative(context, ONE, MINUS_ONE),
-        _ => Ok(()),
     }
 }
 
 fn send_absolute(context: &mut Context, opcode: u32) -> Result<(), SendError> {
-    let Some(pointer) = proxy::<PointerAbsolute, Context>(context) else {
-        return Ok(());
-    };
-    match opcode {
+    send_by! { context, opcode, pointer: PointerAbsolute,
         0 => pointer.destroyed(context, 16),
         1 => pointer.motion_absolute(context, TWO, HALF),
-        _ => Ok(()),
     }
 }
 
 fn send_scroll(context: &mut Context, opcode: u32) -> Result<(), SendError> {
-    let Some(scroll) = proxy::<Scroll, Context>(context) else {
-        return Ok(());
-    };
-    match opcode {
+    send_by! { context, opcode, scroll: Scroll,
         0 => scroll.destroyed(context, 17),
         1 => scroll.scroll(context, MINUS_ONE, TWO),
         2 => scroll.scroll_discrete(context, 120, -120),
         3 => scroll.scroll_stop(context, 1, 0, 2),
-        _ => Ok(()),
     }
 }
 
 fn send_button(context: &mut Context, opcode: u32) -> Result<(), SendError> {
-    let Some(button) = proxy::<Button, Context>(context) else {
-        return Ok(());
-    };
-    match opcode {
+    send_by! { context, opcode, button: Button,
         0 => button.destroyed(context, 18),
         1 => button.button(context, 272, ButtonState::Press),
-        _ => Ok(()),
     }
 }
 
 fn send_keyboard(context: &mut Context, opcode: u32) -> Result<(), SendError> {
-    let Some(keyboard) = proxy::<Keyboard, Context>(context) else {
-        return Ok(());
-    };
-    match opcode {
+    send_by! { context, opcode, keyboard: Keyboard,
         0 => keyboard.destroyed(context, 21),
         1 => keyboard.keymap(context, KeymapType::Xkb, 19, Handle(7)),
         2 => keyboard.key(context, 30, KeyState::Released),
         3 => keyboard.modifiers(context, 20, 1, 2, 4, 6),
-        _ => Ok(()),
     }
 }
 
 fn send_touchscreen(context: &mut Context, opcode: u32) -> Result<(), SendError> {
-    let Some(touchscreen) = proxy::<Touchscreen, Context>(context) else {
-        return Ok(());
-    };
-    match opcode {
+    send_by! { context, opcode, touchscreen: Touchscreen,
         0 => touchscreen.destroyed(context, 26),
         1 => touchscreen.down(context, 22, ONE, MINUS_ONE),
         2 => touchscreen.motion(context, 23, TWO, HALF),
         3 => touchscreen.up(context, 24),
         4 => touchscreen.cancel(context, 25),
-        _ => Ok(()),
     }
 }
 
 fn send_text(context: &mut Context, opcode: u32) -> Result<(), SendError> {
-    let Some(text) = proxy::<Text, Context>(context) else {
-        return Ok(());
-    };
-    match opcode {
+    send_by! { context, opcode, text: Text,
         0 => text.destroyed(context, 27),
         1 => text.keysym(context, 97, KeyState::Press),
         2 => text.utf8(context, "é"),
-        _ => Ok(()),
     }
 }
