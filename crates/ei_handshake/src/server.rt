@@ -144,7 +144,7 @@ impl EisHandshaker {
                 self.keep_context_type(context_type)
             }
             handshake::Request::InterfaceVersion { name, version } => {
-                self.announce(name.as_str(), version);
+                self.announce(&name, version);
                 Ok(())
             }
         }
@@ -188,10 +188,10 @@ impl EisHandshaker {
     }
 
     /// Keeps the smaller of the client's and the server's version. An unknown name is ignored.
-    fn announce(&mut self, name: &str, version: u32)
+    fn announce(&mut self, name: &EiText, version: u32)
         ensures { self.new ≡ record self.old { versions = with_version self.old.versions name.now version } }
     {
-        let Some(interface) = KnownInterface::from_name(name) else {
+        let Some(interface) = name.interface() else {
             return;
         };
         let Some(own) = server_version(interface) else {

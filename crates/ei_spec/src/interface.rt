@@ -66,6 +66,13 @@ impl KnownInterface {
     pub fn from_name(name: &str) -> Option<KnownInterface>
         ensures { result ≡ known_of name.now }
     {
+        KnownInterface::from_bytes(name.as_bytes())
+    }
+
+    /// The interface whose name these bytes are; `None` for all others.
+    pub fn from_bytes(name: &[u8]) -> Option<KnownInterface>
+        ensures { result ≡ known_of name.now }
+    {
         first_named(of_length(name.len()), name).copied()
     }
 }
@@ -96,8 +103,10 @@ fn of_length(len: usize) -> &'static [KnownInterface]
 }
 
 /// The first interface of that name.
-fn first_named<'a>(interfaces: &'a [KnownInterface], name: &str) -> Option<&'a KnownInterface>
+fn first_named<'a>(interfaces: &'a [KnownInterface], name: &[u8]) -> Option<&'a KnownInterface>
     ensures { option_copied result ≡ find (is_called name.now) interfaces.now }
 {
-    interfaces.iter().find(|interface| name == interface.name())
+    interfaces
+        .iter()
+        .find(|interface| name == interface.name().as_bytes())
 }

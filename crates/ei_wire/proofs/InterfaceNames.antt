@@ -1,11 +1,14 @@
 -- The thirteen names, both ways.
-use Rattle.std.proofs.Common.{◌≡◌, ℕ, Bool, true, false, cond, List, [], ◌∷◌, Option, Some, None, refl, ap, ◌∙◌}
+use Rattle.std.proofs.Common.{◌≡◌, ℕ, Bool, true, false, cond, List, [], ◌∷◌, Option, Some, None, Ok, refl, ap, ◌∙◌}
 use Rattle.std.specs.List.{find}
 use Rattle.std.specs.Str.{bytes_eq}
 use Rattle.std.proofs.lemmas.Slice.Eq.{bytes_eq-Decides}
 use Rattle.ei_spec.specs.declared.interface.KnownInterface.{KnownInterface}
 use Rattle.ei_spec.specs.declared.interface.KnownInterface.TheVariants.{Handshake, Connection, Callback, Pingpong, Seat, Device, Pointer, PointerAbsolute}
 use Rattle.ei_spec.specs.declared.interface.KnownInterface.TheVariants.{Scroll, Button, Keyboard, Touchscreen, Text}
+use Rattle.std.specs.Str.{is_utf8, chars}
+use lib.Utf8.{encode}
+use Rattle.ei_spec.specs.Reading.{utf8}
 use Rattle.ei_spec.specs.Interface.{name_of, known_of, is_called, the_thirteen}
 
 pub named : (k : KnownInterface) → known_of (name_of k) ≡ Some k
@@ -37,3 +40,24 @@ finds n (j ∷ interfaces) k e = step_at (bytes_eq n (name_of j)) n j k (find (i
 pub found : (n : List ℕ) (k : KnownInterface) → known_of n ≡ Some k → n ≡ name_of k
 unfolding known_of
 found n k e = finds n the_thirteen k e
+
+-- the name of an interface is a text
+pub text_name : (k : KnownInterface) → utf8 (name_of k) ≡ Ok (name_of k)
+unfolding is_utf8 chars encode
+text_name Handshake = refl
+text_name Connection = refl
+text_name Callback = refl
+text_name Pingpong = refl
+text_name Seat = refl
+text_name Device = refl
+text_name Pointer = refl
+text_name PointerAbsolute = refl
+text_name Scroll = refl
+text_name Button = refl
+text_name Keyboard = refl
+text_name Touchscreen = refl
+text_name Text = refl
+
+-- letters that name an interface are that name, and a text
+pub name_at_front : (n : List ℕ) (k : KnownInterface) → known_of n ≡ Some k → (n ≡ name_of k) × (utf8 n ≡ Ok (name_of k))
+name_at_front n k is = let same = found n k is in (same, rw (same) (text_name k))

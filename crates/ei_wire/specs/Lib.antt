@@ -2,6 +2,7 @@ pub mod ArgText
 pub mod Gives
 pub mod Header
 pub mod Kinds
+pub mod Letters
 pub mod Rows
 pub mod Spellings
 pub mod Texts

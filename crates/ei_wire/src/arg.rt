@@ -153,7 +153,7 @@ impl OwnedArg for u32 {
 
     ghost names = { λ _. None };
 
-    #[inline(always)]
+    #[inline]
     fn parse(stream: &mut ByteStream<'_>) -> Result<u32, ParseError> {
         stream.word()
     }
@@ -174,7 +174,7 @@ impl OwnedArg for i32 {
 
     ghost names = { λ _. None };
 
-    #[inline(always)]
+    #[inline]
     fn parse(stream: &mut ByteStream<'_>) -> Result<i32, ParseError> {
         Ok(stream.word()?.cast_signed())
     }
@@ -195,7 +195,7 @@ impl OwnedArg for u64 {
 
     ghost names = { λ _. None };
 
-    #[inline(always)]
+    #[inline]
     fn parse(stream: &mut ByteStream<'_>) -> Result<u64, ParseError> {
         stream.long()
     }
@@ -216,7 +216,7 @@ impl OwnedArg for i64 {
 
     ghost names = { λ _. None };
 
-    #[inline(always)]
+    #[inline]
     fn parse(stream: &mut ByteStream<'_>) -> Result<i64, ParseError> {
         Ok(stream.long()?.cast_signed())
     }
@@ -237,7 +237,7 @@ impl OwnedArg for RawFloat {
 
     ghost names = { λ _. None };
 
-    #[inline(always)]
+    #[inline]
     fn parse(stream: &mut ByteStream<'_>) -> Result<RawFloat, ParseError> {
         Ok(RawFloat(stream.word()?))
     }
@@ -258,7 +258,7 @@ impl OwnedArg for Handle {
 
     ghost names = { λ _. None };
 
-    #[inline(always)]
+    #[inline]
     fn parse(stream: &mut ByteStream<'_>) -> Result<Handle, ParseError> {
         stream.handle()
     }
@@ -279,7 +279,7 @@ impl OwnedArg for Option<EiText> {
 
     ghost names = { λ _. None };
 
-    #[inline(always)]
+    #[inline]
     fn parse(stream: &mut ByteStream<'_>) -> Result<Option<EiText>, ParseError> {
         stream.text()
     }
@@ -304,7 +304,7 @@ impl OwnedArg for EiText {
 
     ghost names = { λ _. None };
 
-    #[inline(always)]
+    #[inline]
     fn parse(stream: &mut ByteStream<'_>) -> Result<EiText, ParseError> {
         stream.whole_text()
     }

@@ -9,7 +9,7 @@ use crate::error::ParseError;
 use crate::stream::ByteStream;
 
 /// Takes the one argument of a row.
-#[inline(always)]
+#[inline]
 pub fn read_one<A: OwnedArg + Drop>(bytes: &mut ByteStream<'_>) -> Result<A, ParseError>
     ensures read { ReadsArguments (λ x. (A.value x ∷ [], bytes.new)) bytes.new.taken result (all_at (A.kind ∷ []) bytes.old) }
 {
@@ -17,7 +17,7 @@ pub fn read_one<A: OwnedArg + Drop>(bytes: &mut ByteStream<'_>) -> Result<A, Par
 }
 
 /// Takes the two arguments of a row.
-#[inline(always)]
+#[inline]
 pub fn read_two<A: OwnedArg + Drop, B: OwnedArg + Drop>(
     bytes: &mut ByteStream<'_>,
 ) -> Result<(A, B), ParseError>
@@ -30,7 +30,7 @@ pub fn read_two<A: OwnedArg + Drop, B: OwnedArg + Drop>(
 }
 
 /// Takes the three arguments of a row.
-#[inline(always)]
+#[inline]
 pub fn read_three<A: OwnedArg + Drop, B: OwnedArg + Drop, C: OwnedArg + Drop>(
     bytes: &mut ByteStream<'_>,
 ) -> Result<(A, B, C), ParseError>
@@ -44,7 +44,7 @@ pub fn read_three<A: OwnedArg + Drop, B: OwnedArg + Drop, C: OwnedArg + Drop>(
 }
 
 /// Takes the five arguments of a row.
-#[inline(always)]
+#[inline]
 pub fn read_five<A, B, C, D, E>(bytes: &mut ByteStream<'_>) -> Result<(A, B, C, D, E), ParseError>
 where
     A: OwnedArg + Drop,

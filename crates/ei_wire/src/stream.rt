@@ -4,6 +4,7 @@ ghost use Rattle.std.specs.Prelude.{◌≡◌, ℕ, List, length, IfOk, IfErr, O
 ghost use Rattle.std.specs.List.{list_any};
 ghost use Rattle.std.specs.Int.{w32, w64};
 ghost use Rattle.ei_wire.specs.Gives.{Gives, IsFault, MayStop};
+ghost use Rattle.ei_wire.specs.Letters.{behind_letters};
 ghost use Rattle.ei_spec.specs.Reading.{Unread, number_at, text_at, letters_at, utf8, read, Read};
 ghost use Rattle.ei_spec.specs.Value.{Word, Long, Letters, Fd, U32, U64, Handle as HandleKind, Nullable, Text as TextKind, Choice};
 ghost use Rattle.ei_spec.specs.Reading.{or_null};
@@ -11,7 +12,7 @@ ghost use Rattle.ei_spec.specs.Reading.{or_null};
 use crate::arg::OwnedArg;
 use crate::error::ParseError;
 use crate::text::EiText;
-use ei_spec::Handle;
+use ei_spec::{Handle, KnownInterface};
 use std::alloc::Global;
 use std::marker::Model;
 
@@ -44,14 +45,43 @@ impl<'a> ByteStream<'a> {
         }
     }
 
+    /// The memory that texts are put in.
+    #[inline]
+    pub fn alloc(&self) -> Global {
+        self.alloc
+    }
+
+    /// Another one over what isn't read yet. What is read of it goes back by `join`.
     #[inline(always)]
+    pub fn fork(&self) -> ByteStream<'a>
+        ensures { result ≡ self.now }
+    {
+        ByteStream {
+            alloc: self.alloc,
+            bytes: self.bytes,
+            handles: self.handles,
+            taken: self.taken,
+        }
+    }
+
+    /// Goes on where the other one stands.
+    #[inline(always)]
+    pub fn join(&mut self, fork: ByteStream<'a>)
+        ensures { self.new ≡ fork.entry }
+    {
+        self.bytes = fork.bytes;
+        self.handles = fork.handles;
+        self.taken = fork.taken;
+    }
+
+    #[inline]
     pub fn rest(&self) -> usize
         ensures { result ≡ length self.now.bytes }
     {
         self.bytes.len()
     }
 
-    #[inline(always)]
+    #[inline]
     pub fn handles_taken(&self) -> usize
         ensures { result ≡ self.now.taken }
     {
@@ -59,7 +89,7 @@ impl<'a> ByteStream<'a> {
     }
 
     /// The four bytes at the front as a number.
-    #[inline(always)]
+    #[inline]
     pub(crate) fn word(&mut self) -> Result<u32, ParseError>
         ensures read { Gives (λ n. (Word n, self.new)) result (read U32 self.old) }
         ensures err { OnErr result (self.new ≡ self.old) }
@@ -71,7 +101,7 @@ impl<'a> ByteStream<'a> {
     }
 
     /// The eight bytes at the front as a number.
-    #[inline(always)]
+    #[inline]
     pub(crate) fn long(&mut self) -> Result<u64, ParseError>
         ensures read { Gives (λ n. (Long n, self.new)) result (read U64 self.old) }
         ensures err { OnErr result (self.new ≡ self.old) }
@@ -83,7 +113,7 @@ impl<'a> ByteStream<'a> {
     }
 
     /// The next handle.
-    #[inline(always)]
+    #[inline]
     pub(crate) fn handle(&mut self) -> Result<Handle, ParseError>
         ensures read { Gives (λ h. (Fd h, self.new)) result (read HandleKind self.old) }
         ensures err { OnErr result (self.new ≡ self.old) }
@@ -99,7 +129,7 @@ impl<'a> ByteStream<'a> {
     }
 
     /// The text or the null at the front.
-    #[inline(always)]
+    #[inline]
     pub(crate) fn text(&mut self) -> Result<Option<EiText>, ParseError>
         ensures read { Gives (λ t. (or_null t, self.new)) result (read Nullable self.old) }
         ensures err { OnErr result (self.new ≡ self.old) }
@@ -110,7 +140,7 @@ impl<'a> ByteStream<'a> {
     }
 
     /// The text at the front.
-    #[inline(always)]
+    #[inline]
     pub(crate) fn whole_text(&mut self) -> Result<EiText, ParseError>
         ensures read { Gives (λ t. (Letters t, self.new)) result (read TextKind self.old) }
         ensures err { OnErr result (self.new ≡ self.old) }
@@ -128,7 +158,7 @@ impl<'a> ByteStream<'a> {
     /// Takes the number of a variant at the front: one of `values`, the numbers of the enum `name`.
     ///
     /// A number that isn't among them is `InvalidVariant`, and fewer than four bytes are `EndOfMessage`.
-    #[inline(always)]
+    #[inline]
     pub fn choice(&mut self, name: &'static str, values: &[u32]) -> Result<u32, ParseError>
         ensures read { Gives (λ n. (Word n, self.new)) result (read (Choice name.now values.now) self.old) }
         ensures listed { IfOk result (λ n. list_any (nat_eq n) values.now ≡ true) }
@@ -144,7 +174,7 @@ impl<'a> ByteStream<'a> {
     }
 
     /// Takes the argument at the front.
-    #[inline(always)]
+    #[inline]
     pub fn read_arg<T: OwnedArg>(&mut self) -> Result<T, ParseError>
         ensures read { Gives (λ x. (T.value x, self.new)) result (read T.kind self.old) }
         ensures err { OnErr result (self.new ≡ self.old) }
@@ -155,14 +185,14 @@ impl<'a> ByteStream<'a> {
 }
 
 /// Whether a number is one of these.
-#[inline(always)]
+#[inline]
 fn is_listed(values: &[u32], number: u32) -> bool
     ensures { result ≡ list_any (nat_eq number) values.now }
 {
     values.iter().any(|value| number == *value)
 }
 
-#[inline(always)]
+#[inline]
 fn word_of(bytes: &[u8]) -> Result<(u32, &[u8]), ParseError>
     ensures read { Gives (λ x. (x.0, x.1.now)) result (number_at w32 bytes.now) }
     ensures memory { IfErr result IsFault }
@@ -175,7 +205,7 @@ fn word_of(bytes: &[u8]) -> Result<(u32, &[u8]), ParseError>
     Ok((number, rest))
 }
 
-#[inline(always)]
+#[inline]
 fn long_of(bytes: &[u8]) -> Result<(u64, &[u8]), ParseError>
     ensures read { Gives (λ x. (x.0, x.1.now)) result (number_at w64 bytes.now) }
     ensures memory { IfErr result IsFault }
@@ -201,8 +231,9 @@ fn utf8_of(bytes: &[u8]) -> Result<&str, ParseError>
     }
 }
 
-/// The bytes of a text, without the closing byte and the padding.
-#[tactic(auto, unfolding(ei_spec::specs::Reading::letters_at))]
+/// The text of so many bytes, without the closing byte and the padding. The name of an interface is found first: it is a
+/// text, and takes no memory.
+#[tactic(auto, unfolding(ei_spec::specs::Reading::letters_at), using(crate::proofs::InterfaceNames::name_at_front))]
 fn letters_of(alloc: Global, len: u32, bytes: &[u8]) -> Result<(EiText, &[u8]), ParseError>
     requires { len + 1 < 2 ^ 32 }
     ensures { Gives (λ x. (x.0, x.1.now)) result (letters_at len bytes.now) }
@@ -211,12 +242,28 @@ fn letters_of(alloc: Global, len: u32, bytes: &[u8]) -> Result<(EiText, &[u8]), 
     if bytes.len() < end {
         return Err(ParseError::EndOfMessage);
     }
-    let text = utf8_of(&bytes[..end])?;
+    let letters = &bytes[..end];
+    match KnownInterface::from_bytes(letters) {
+        Some(known) => Ok((EiText::name(known), behind(bytes, end)?)),
+        None => {
+            let text = utf8_of(letters)?;
+            let rest = behind(bytes, end)?;
+            Ok((EiText::other(alloc, text)?, rest))
+        }
+    }
+}
+
+/// What follows a text of so many bytes, its closing byte and its padding.
+#[inline]
+fn behind(bytes: &[u8], end: usize) -> Result<&[u8], ParseError>
+    requires { end + 1 < 2 ^ 32 }
+    ensures { Gives (λ x. x.now) result (behind_letters end bytes.now) }
+{
     let whole = end + 1 + (4 - (end + 1) % 4) % 4;
     if bytes.len() < whole {
         return Err(ParseError::EndOfMessage);
     }
-    Ok((EiText::new(alloc, text)?, &bytes[whole..]))
+    Ok(&bytes[whole..])
 }
 
 #[inline(never)]

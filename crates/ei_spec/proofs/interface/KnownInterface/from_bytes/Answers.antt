@@ -2,7 +2,7 @@ use Rattle.std.proofs.Common.{ap, ◌∙◌}
 use Rattle.std.specs.List.{find}
 use Rattle.ei_spec.specs.Interface.{is_called}
 use Rattle.ei_spec.proofs.NamesByLength.{known_among}
-use Rattle.ei_spec.proofs.interface.KnownInterface.from_name.Goals as goal
+use Rattle.ei_spec.proofs.interface.KnownInterface.from_bytes.Goals as goal
 
 pub returns : goal.returns
 returns c =
