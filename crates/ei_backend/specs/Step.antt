@@ -1,10 +1,13 @@
 -- A step of reading: what stood at the front, and what it took.
-use Rattle.std.specs.Prelude.{ℕ, ◌<◌, List, Option, Some, None}
+use Rattle.std.specs.Prelude.{◌≡◌, ℕ, ◌<◌, Bool, List, drop, Option, Some, None, Result, IfOk, OnErr}
 use Rattle.ei_spec.specs.declared.handle.Handle.{Handle}
+use Rattle.ei_spec.specs.Interface.{ObjectView}
+use Rattle.ei_spec.specs.Value.{Value}
+use Rattle.ei_wire.specs.declared.error.NoMemory.{NoMemory}
 use Rattle.ei_wire.specs.declared.error.ParseError.TheVariants as error
 use Rattle.ei_backend.specs.Table.{TableView}
 use Rattle.ei_backend.specs.Incoming.{IncomingView}
-use Rattle.ei_backend.specs.Backend.{BackendView}
+use Rattle.ei_backend.specs.Backend.{BackendView, next, Answers, Brings}
 use Rattle.ei_backend.specs.declared.reading.Step.{Step}
 use Rattle.ei_backend.specs.declared.message.PendingRequestResult.{PendingRequestResult}
 use Rattle.ei_backend.specs.declared.message.PendingRequestResult.TheVariants as pending
@@ -26,3 +29,13 @@ abbrev pub TakesSome : {M : Type 0} → Option (PendingRequestResult M) → ℕ 
 TakesSome None n = Unit {0}
 TakesSome (Some (pending.ParseError (error.HeaderLength len))) n = Unit {0}
 TakesSome (Some answer) n = 0 < n
+
+-- what reading the message at the front of this unread did to the table, with the step that it takes and what it answered
+pub record Steps {M : Type 0} (target : M → ObjectView) (code : M → ℕ) (values : M → List Value) (announced : M → Option ObjectView) (events : Bool)
+    (bytes : List ℕ) (handles : List Handle) (old new : TableView) (step : Step) (answer : Result (Option (PendingRequestResult M)) NoMemory) : Type 0 where
+  pub ok : (b : BackendView) → IfOk answer (λ said. Answers target code values said
+      (reading (drop step.bytes bytes) (drop step.handles handles) new b) (next events (reading bytes handles old b)))
+  pub brings : IfOk answer (λ said. Brings announced said old new)
+  pub shorter : IfOk answer (λ said. TakesSome said step.bytes)
+  pub err : OnErr answer (new ≡ old)
+  pub err_step : OnErr answer (step ≡ no_step)

@@ -25,7 +25,7 @@ use crate::message::{MessageEnum, PendingRequestResult};
 use crate::object::Object;
 use crate::outgoing::Outgoing;
 use crate::outside::{Sink, Source};
-use crate::table::Table;
+use crate::table::{Accepted, Table};
 use ei_spec::Handle;
 use ei_spec::limits::FIRST_SERVER_ID;
 use ei_wire::{Arg, ByteStream, FlushError, NoMemory, ParseError, ReadError, SendError};
@@ -270,12 +270,7 @@ impl Backend {
     /// Puts an object that the peer announced into the table.
     ///
     /// `InvalidId` where the id is below the highest one seen plus one, or not the peer's to give.
-    pub fn new_peer_object(
-        &mut self,
-        id: u64,
-        interface: InterfaceName,
-        version: u32,
-    ) -> Result<Object, ParseError>
+    pub fn new_peer_object(&mut self, id: u64, interface: InterfaceName, version: u32) -> Accepted
         ensures read { Gives (λ o. (o, self.new.table)) result (accept self.old.table id (interface_view interface) version) }
         ensures announced { IfOk result (λ o. Announced (Some o) self.old.table self.new.table) }
         ensures kept { self.new ≡ record self.old { table = self.new.table } }

@@ -1,6 +1,7 @@
 //! What came from a source and isn't read yet, in two rings.
 
-ghost use Rattle.std.specs.Prelude.{◌≡◌, ◌≤◌, ◌+◌, ℕ, List, length, vec_len, Option, None, OnOk, OnErr, IfOk, Ok, Err, Some, IsErrOf};
+ghost use Rattle.std.specs.Prelude.{◌≡◌, ◌≤◌, ◌+◌, ◌-◌, ◌++◌, min, take, ℕ, List, length, vec_len, Option, None, OnOk, OnErr, IfOk, Ok, Err, Some, IsErrOf};
+ghost use Rattle.circular_buffer.specs.Buffer.{buffer};
 ghost use Rattle.ei_wire.specs.declared.error.ReadError.TheVariants as read_error;
 ghost use Rattle.ei_backend.specs.Outside.{Piece};
 ghost use Rattle.ei_backend.specs.Lent.{LentSource};
@@ -10,7 +11,7 @@ ghost use Rattle.ei_backend.specs.Backend.{BackendView, next, Answers, Brings, S
 ghost use Rattle.ei_backend.specs.Step.{holding};
 ghost use Rattle.ei_spec.specs.declared.limits.TheConstants.{MOST_PIECE_BYTES};
 
-use crate::message::{MessageEnum, PendingRequestResult};
+use crate::message::{Answer, MessageEnum};
 use crate::outside::Source;
 use crate::reading::next_message;
 use crate::ring::{FIRST_CAPACITY, make_room};
@@ -107,7 +108,7 @@ impl Incoming {
         &mut self,
         alloc: Global,
         table: &mut Table,
-        answer: &mut Result<Option<PendingRequestResult<T>>, NoMemory>,
+        answer: &mut Answer<T>,
     )
     where
         T: Drop,
@@ -154,8 +155,20 @@ impl Incoming {
             return Err(ReadError::HandleLimit);
         }
         self.bytes.fill_from_slice(&self.room[..taken.bytes]);
-        self.handles
-            .fill_from_slice(&self.handle_room[..taken.handles]);
+        add_handles(&mut self.handles, &self.handle_room[..taken.handles]);
         Ok(taken.bytes)
+    }
+}
+
+/// Puts handles behind those that are there, and mostly none. It answers how many went in.
+#[inline(always)]
+fn add_handles(handles: &mut HeapCircularBuffer<Handle>, more: &[Handle]) -> usize
+    ensures count { result ≡ min (length more.now) (handles.old.capacity - length handles.old.items) }
+    ensures items { handles.new ≡ buffer (handles.old.items ++ take result more.now) handles.old.capacity }
+{
+    if more.is_empty() {
+        0
+    } else {
+        handles.fill_from_slice(more)
     }
 }

@@ -106,6 +106,22 @@ impl Object {
         }
     }
 
+    /// A copy, if the interface is one of the thirteen. It takes no memory.
+    #[inline(always)]
+    pub(crate) fn known_copy(&self) -> Option<Object>
+        ensures { IfSome result (λ o. o ≡ self.now) }
+    {
+        match &self.interface {
+            InterfaceName::Known(known) => Some(Object {
+                id: self.id,
+                interface: InterfaceName::Known(*known),
+                version: self.version,
+                client_side: self.client_side,
+            }),
+            InterfaceName::Other(_) => None,
+        }
+    }
+
     /// Whether id, name, version and side are the same.
     fn is_same(&self, other: &Object) -> bool
         ensures { result ≡ same_object self.now other.now }

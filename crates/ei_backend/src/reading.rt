@@ -1,6 +1,7 @@
 //! Reading the message at the front of what is unread, in place.
 
-ghost use Rattle.std.specs.Prelude.{◌≡◌, ◌≤◌, ◌<◌, ℕ, List, length, ◌↔◌, take, drop, IfOk, IsOk, IsTrue, OnErr, Ok, Err, Some, None};
+ghost use Rattle.std.specs.Prelude.{◌≡◌, ◌≤◌, ◌<◌, ◌+◌, ℕ, List, [], length, ◌↔◌, take, drop, IfSome, IfNone, IfOk, IsOk, IsTrue, OnErr, Ok, Err, Some, None};
+ghost use Rattle.ei_wire.specs.declared.error.ParseError.TheVariants as error;
 ghost use Rattle.circular_buffer.specs.Buffer.{buffer};
 ghost use Rattle.ei_spec.specs.Message as message;
 ghost use Rattle.ei_backend.specs.declared.front.TheConstants.{HEADER_BYTES};
@@ -8,17 +9,16 @@ ghost use Rattle.ei_backend.specs.declared.message.PendingRequestResult.TheVaria
 ghost use Rattle.ei_backend.specs.Front.{front_view, IsLawful, IsSound};
 ghost use Rattle.ei_backend.specs.Table.{Announced};
 ghost use Rattle.ei_backend.specs.Backend.{BackendView, body_read, of_outcome, next, Answers, Brings, Shortens};
-ghost use Rattle.ei_backend.specs.Step.{reading, no_step, TakesSome};
+ghost use Rattle.ei_backend.specs.Step.{reading, no_step, TakesSome, Steps};
 
 use crate::front::{FrontMessage, HEADER_BYTES, front_of, is_across};
-use crate::message::{MessageEnum, PendingRequestResult};
+use crate::message::{Answer, MessageEnum, PendingRequestResult, put};
 use crate::object::Object;
 use crate::table::Table;
 use circular_buffer::HeapCircularBuffer;
 use ei_spec::Handle;
 use ei_wire::{ByteStream, NoMemory, ParseError};
 use std::alloc::Global;
-use std::mem;
 
 /// How many bytes and handles a message took.
 #[derive(Clone, Copy)]
@@ -51,7 +51,7 @@ pub(crate) fn next_message<T: MessageEnum>(
     handles: &mut HeapCircularBuffer<Handle>,
     scratch: &mut [u8],
     table: &mut Table,
-    answer: &mut Result<Option<PendingRequestResult<T>>, NoMemory>,
+    answer: &mut Answer<T>,
 )
 where
     T: Drop,
@@ -96,20 +96,15 @@ fn step_in<T: MessageEnum>(
     scratch: &mut [u8],
     table: &mut Table,
     step: &mut Step,
-    answer: &mut Result<Option<PendingRequestResult<T>>, NoMemory>,
+    answer: &mut Answer<T>,
 )
 where
     T: Drop,
     requires scratch { HEADER_BYTES ≤ length scratch.old }
     requires nothing { step.old ≡ no_step }
     requires no_answer { answer.old ≡ Ok None }
-    ensures ok { (b : BackendView) → IfOk answer.new (λ said. Answers T.target T.code T.values said (reading (drop step.new.bytes bytes.old.items)
-        (drop step.new.handles handles.old.items) table.new b) (next T.events (reading bytes.old.items handles.old.items table.old b))) }
-    ensures announced { IfOk answer.new (λ said. Brings T.announced said table.old table.new) }
+    ensures steps { Steps T.target T.code T.values T.announced T.events bytes.old.items handles.old.items table.old table.new step.new answer.new }
     ensures within { step.new.bytes ≤ length bytes.old.items }
-    ensures shorter { IfOk answer.new (λ said. TakesSome said step.new.bytes) }
-    ensures err { OnErr answer.new (table.new ≡ table.old) }
-    ensures err_step { OnErr answer.new (step.new ≡ no_step) }
     ensures kept { bytes.new ≡ bytes.old }
     ensures handles_kept { handles.new ≡ handles.old }
 {
@@ -117,7 +112,13 @@ where
         let (first, _second) = bytes.as_slices();
         let front = front_of(first);
         if !is_across(front, bytes.len()) {
-            step_of(alloc, front, &[], table, step, answer);
+            if let FrontMessage::Short(_) = front {
+                return;
+            }
+            match step_short(alloc, front, table, step, answer) {
+                Some(()) => {}
+                None => step_apart(alloc, front, &[], table, step, answer),
+            }
             return;
         }
     }
@@ -136,19 +137,14 @@ fn step_around<T: MessageEnum>(
     scratch: &mut [u8],
     table: &mut Table,
     step: &mut Step,
-    answer: &mut Result<Option<PendingRequestResult<T>>, NoMemory>,
+    answer: &mut Answer<T>,
 )
 where
     T: Drop,
     requires scratch { HEADER_BYTES ≤ length scratch.old }
     requires no_answer { answer.old ≡ Ok None }
-    ensures ok { (b : BackendView) → IfOk answer.new (λ said. Answers T.target T.code T.values said (reading (drop step.new.bytes bytes.old.items)
-        (drop step.new.handles handles.old.items) table.new b) (next T.events (reading bytes.old.items handles.old.items table.old b))) }
-    ensures announced { IfOk answer.new (λ said. Brings T.announced said table.old table.new) }
+    ensures steps { Steps T.target T.code T.values T.announced T.events bytes.old.items handles.old.items table.old table.new step.new answer.new }
     ensures within { step.new.bytes ≤ length bytes.old.items }
-    ensures shorter { IfOk answer.new (λ said. TakesSome said step.new.bytes) }
-    ensures err { OnErr answer.new (table.new ≡ table.old) }
-    ensures err_step { OnErr answer.new (step.new ≡ no_step) }
     ensures kept { bytes.new ≡ bytes.old }
     ensures handles_kept { handles.new ≡ handles.old }
 {
@@ -178,20 +174,15 @@ fn step_across<T: MessageEnum>(
     scratch: &mut [u8],
     table: &mut Table,
     step: &mut Step,
-    answer: &mut Result<Option<PendingRequestResult<T>>, NoMemory>,
+    answer: &mut Answer<T>,
 )
 where
     T: Drop,
     requires scratch { HEADER_BYTES ≤ length scratch.old }
     requires nothing { step.old ≡ no_step }
     requires no_answer { answer.old ≡ Ok None }
-    ensures ok { (b : BackendView) → IfOk answer.new (λ said. Answers T.target T.code T.values said (reading (drop step.new.bytes bytes.old.items)
-        (drop step.new.handles handles.now) table.new b) (next T.events (reading bytes.old.items handles.now table.old b))) }
-    ensures announced { IfOk answer.new (λ said. Brings T.announced said table.old table.new) }
+    ensures steps { Steps T.target T.code T.values T.announced T.events bytes.old.items handles.now table.old table.new step.new answer.new }
     ensures within { step.new.bytes ≤ length bytes.old.items }
-    ensures shorter { IfOk answer.new (λ said. TakesSome said step.new.bytes) }
-    ensures err { OnErr answer.new (table.new ≡ table.old) }
-    ensures err_step { OnErr answer.new (step.new ≡ no_step) }
     ensures kept { bytes.new ≡ bytes.old }
 {
     let count = gather(bytes, scratch);
@@ -242,30 +233,26 @@ fn gather(bytes: &HeapCircularBuffer<u8>, scratch: &mut [u8]) -> usize
     }
 }
 
-/// Reads what stands at the front of some bytes, and says in `step` what it takes.
+/// Reads what stands at the front of some bytes, and says in `step` what it takes: a call of its own, for what is rare.
 ///
 /// Where memory runs out, the table stays, and nothing is taken.
-#[inline(always)]
-fn step_of<T: MessageEnum>(
+#[inline(never)]
+fn step_apart<T: MessageEnum>(
     alloc: Global,
     front: FrontMessage<'_>,
     handles: &[Handle],
     table: &mut Table,
     step: &mut Step,
-    answer: &mut Result<Option<PendingRequestResult<T>>, NoMemory>,
+    answer: &mut Answer<T>,
 )
 where
     T: Drop,
     requires sound { IsSound front }
     requires nothing { step.old ≡ no_step }
     requires no_answer { answer.old ≡ Ok None }
-    ensures ok { (bytes : List ℕ) → front_view bytes front.entry ≡ message.front bytes → (b : BackendView) → IfOk answer.new (λ said. Answers T.target T.code T.values said
-        (reading (drop step.new.bytes bytes) (drop step.new.handles handles.now) table.new b) (next T.events (reading bytes handles.now table.old b))) }
-    ensures announced { IfOk answer.new (λ said. Brings T.announced said table.old table.new) }
+    ensures steps { (bytes : List ℕ) → front_view bytes front.entry ≡ message.front bytes →
+        Steps T.target T.code T.values T.announced T.events bytes handles.now table.old table.new step.new answer.new }
     ensures within { (bytes : List ℕ) → IsLawful bytes front.entry → step.new.bytes ≤ length bytes }
-    ensures shorter { IfOk answer.new (λ said. TakesSome said step.new.bytes) }
-    ensures err { OnErr answer.new (table.new ≡ table.old) }
-    ensures err_step { OnErr answer.new (step.new ≡ no_step) }
 {
     match front {
         FrontMessage::Short(_) => {}
@@ -289,30 +276,67 @@ where
     }
 }
 
-/// The same, as a call of its own: what is rare shares it.
-#[inline(never)]
-fn step_apart<T: MessageEnum>(
+/// Reads a lawful message, where one is whole. No handle is unread. `None`: nothing is read, and `step_apart` says what
+/// is wrong.
+#[inline(always)]
+fn step_short<T: MessageEnum>(
     alloc: Global,
     front: FrontMessage<'_>,
-    handles: &[Handle],
     table: &mut Table,
     step: &mut Step,
-    answer: &mut Result<Option<PendingRequestResult<T>>, NoMemory>,
-)
+    answer: &mut Answer<T>,
+) -> Option<()>
 where
     T: Drop,
     requires sound { IsSound front }
     requires nothing { step.old ≡ no_step }
     requires no_answer { answer.old ≡ Ok None }
-    ensures ok { (bytes : List ℕ) → front_view bytes front.entry ≡ message.front bytes → (b : BackendView) → IfOk answer.new (λ said. Answers T.target T.code T.values said
-        (reading (drop step.new.bytes bytes) (drop step.new.handles handles.now) table.new b) (next T.events (reading bytes handles.now table.old b))) }
-    ensures announced { IfOk answer.new (λ said. Brings T.announced said table.old table.new) }
+    ensures steps { IfSome result (λ _. (bytes : List ℕ) → front_view bytes front.entry ≡ message.front bytes →
+        Steps T.target T.code T.values T.announced T.events bytes [] table.old table.new step.new answer.new) }
     ensures within { (bytes : List ℕ) → IsLawful bytes front.entry → step.new.bytes ≤ length bytes }
-    ensures shorter { IfOk answer.new (λ said. TakesSome said step.new.bytes) }
-    ensures err { OnErr answer.new (table.new ≡ table.old) }
-    ensures err_step { OnErr answer.new (step.new ≡ no_step) }
+    ensures none { IfNone result (step.new ≡ no_step) }
+    ensures none_answer { IfNone result (answer.new ≡ Ok None) }
+    ensures none_table { IfNone result (table.new ≡ table.old) }
 {
-    step_of(alloc, front, handles, table, step, answer)
+    let FrontMessage::Whole(id, opcode, body, len) = front else {
+        return None;
+    };
+    let target = table.object_for_id(id)?.known_copy()?;
+    read_short(alloc, target, opcode, body, table, answer)?;
+    step.bytes = len;
+    Some(())
+}
+
+/// Reads the whole body of such a message.
+#[inline(always)]
+fn read_short<T: MessageEnum>(
+    alloc: Global,
+    target: Object,
+    opcode: u32,
+    body: &[u8],
+    table: &mut Table,
+    answer: &mut Answer<T>,
+) -> Option<()>
+where
+    T: Drop,
+    requires body { length body.now ≤ 1048560 }
+    requires no_answer { answer.old ≡ Ok None }
+    ensures ok { IfSome result (λ _. (rest : List ℕ) → (b : BackendView) → IfOk answer.new (λ said. Answers T.target T.code T.values said
+        (reading rest [] table.new b)
+        (of_outcome (reading rest [] table.old b) target opcode rest (body_read T.events target opcode body.now [] table.old)))) }
+    ensures announced { IfSome result (λ _. IfOk answer.new (λ said. Brings T.announced said table.old table.new)) }
+    ensures some { IfSome result (λ _. (n : ℕ) → 0 < n → IfOk answer.new (λ said. TakesSome said n)) }
+    ensures read { IfSome result (λ _. IsOk answer.new) }
+    ensures none_answer { IfNone result (answer.new ≡ Ok None) }
+    ensures none_table { IfNone result (table.new ≡ table.old) }
+{
+    let mut stream = ByteStream::new(alloc, body, &[]);
+    T::parse_into(alloc, target, opcode, &mut stream, table, answer)?;
+    let rest = stream.rest();
+    if rest != 0 {
+        refuse_rest(answer, body, rest);
+    }
+    Some(())
 }
 
 /// Reads the whole body of a message, and says how many handles it took. It answers whether memory sufficed.
@@ -327,7 +351,7 @@ fn read_body<T: MessageEnum>(
     handles: &[Handle],
     table: &mut Table,
     taken: &mut usize,
-    answer: &mut Result<Option<PendingRequestResult<T>>, NoMemory>,
+    answer: &mut Answer<T>,
 ) -> bool
 where
     T: Drop,
@@ -351,8 +375,7 @@ where
             put(answer, message);
             let rest = stream.rest();
             if rest != 0 {
-                let len = 16 + body.len() as u32;
-                refuse(answer, ParseError::MessageLength(len + rest as u32, len));
+                refuse_rest(answer, body, rest);
             }
             true
         }
@@ -368,42 +391,38 @@ where
     }
 }
 
-/// Answers with a message, where there was no answer: nothing is dropped.
-#[inline(always)]
-fn put<T: Drop>(answer: &mut Result<Option<PendingRequestResult<T>>, NoMemory>, message: T)
-    requires { answer.old ≡ Ok None }
-    ensures { answer.new ≡ Ok (Some (pending.Request message)) }
-{
-    match mem::replace(answer, Ok(Some(PendingRequestResult::Request(message)))) {
-        Ok(None) => {}
-        _ => unreachable!(),
-    }
-}
-
 /// Answers that a message is refused. What is not refused pays nothing for the error's place.
 #[inline(always)]
-fn refuse<T: Drop>(
-    answer: &mut Result<Option<PendingRequestResult<T>>, NoMemory>,
-    error: ParseError,
-)
+fn refuse<T: Drop>(answer: &mut Answer<T>, error: ParseError)
     ensures { answer.new ≡ Ok (Some (pending.ParseError error)) }
 {
     refuse_apart(answer, error);
 }
 
 #[inline(never)]
-fn refuse_apart<T: Drop>(
-    answer: &mut Result<Option<PendingRequestResult<T>>, NoMemory>,
-    error: ParseError,
-)
+fn refuse_apart<T: Drop>(answer: &mut Answer<T>, error: ParseError)
     ensures { answer.new ≡ Ok (Some (pending.ParseError error)) }
 {
     *answer = Ok(Some(PendingRequestResult::ParseError(error)));
 }
 
+/// Answers that so many bytes of a body are left over.
+#[inline(never)]
+fn refuse_rest<T: Drop>(answer: &mut Answer<T>, body: &[u8], rest: usize)
+    requires body { length body.now ≤ 1048560 }
+    requires rest { rest ≤ length body.now }
+    ensures { answer.new ≡ Ok (Some (pending.ParseError (error.MessageLength (16 + length body.now + rest) (16 + length body.now)))) }
+{
+    let len = 16 + body.len() as u32;
+    *answer = Ok(Some(PendingRequestResult::ParseError(ParseError::MessageLength(
+        len + rest as u32,
+        len,
+    ))));
+}
+
 /// Answers that no object has the id.
 #[inline(never)]
-fn find_none<T: Drop>(answer: &mut Result<Option<PendingRequestResult<T>>, NoMemory>, id: u64)
+fn find_none<T: Drop>(answer: &mut Answer<T>, id: u64)
     ensures { answer.new ≡ Ok (Some (pending.InvalidObject id)) }
 {
     *answer = Ok(Some(PendingRequestResult::InvalidObject(id)));
@@ -411,7 +430,7 @@ fn find_none<T: Drop>(answer: &mut Result<Option<PendingRequestResult<T>>, NoMem
 
 /// Answers that memory ran out.
 #[inline(never)]
-fn run_out<T: Drop>(answer: &mut Result<Option<PendingRequestResult<T>>, NoMemory>)
+fn run_out<T: Drop>(answer: &mut Answer<T>)
     ensures { answer.new ≡ Err (record {}) }
 {
     *answer = Err(NoMemory);

@@ -9,7 +9,7 @@ use crate::object::Object;
 
 /// Where the object of an id stands, if no id between that of the first object and it is missing. Ids are given
 /// one by one, so it is there mostly, and any other place is none of its.
-#[inline(always)]
+#[inline]
 fn likely_place(objects: &[Object], id: u64) -> Option<usize>
     ensures { IfSome result (IsPlace id objects.now) }
 {
@@ -36,7 +36,7 @@ fn place(objects: &[Object], id: u64) -> Option<usize>
 }
 
 /// The object of an id, if it stands where it mostly does.
-#[inline(always)]
+#[inline]
 pub(crate) fn look_first(objects: &[Object], id: u64) -> Option<&Object>
     requires { Rise objects.now }
     ensures { IfSome result (λ o. Some o.now ≡ get (by_id objects.now) id) }

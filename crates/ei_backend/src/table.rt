@@ -17,6 +17,9 @@ use ei_wire::{NoMemory, ParseError, SendError};
 use std::alloc::Global;
 use std::marker::Model;
 
+/// The object that was put into a table, or why there is none.
+pub type Accepted = Result<Object, ParseError>;
+
 /// The objects of one endpoint, its next own id and its next peer id.
 ///
 /// Object 0 is there from the first. A client's own ids run from 1 and end before 0xff00000000000000, a
@@ -165,12 +168,7 @@ impl Table {
     /// Puts an object that the peer announced into the table.
     ///
     /// `InvalidId` where the id is below the highest one seen plus one, or not the peer's to give.
-    pub fn new_peer_object(
-        &mut self,
-        id: u64,
-        interface: InterfaceName,
-        version: u32,
-    ) -> Result<Object, ParseError>
+    pub fn new_peer_object(&mut self, id: u64, interface: InterfaceName, version: u32) -> Accepted
         ensures read { Gives (λ o. (o, self.new)) result (accept self.old id (interface_view interface) version) }
         ensures announced { IfOk result (λ o. Announced (Some o) self.old self.new) }
         ensures err { OnErr result (self.new ≡ self.old) }

@@ -1,12 +1,11 @@
 //! `ei_device`: a device, which has interfaces for input.
 
-ghost use Rattle.std.specs.Prelude.{◌≡◌, Some, IfOk, OnErr, true, codes, [], ◌∷◌};
-ghost use Rattle.ei_backend.specs.Proxies.{Announced, ReadsRow, Shows};
+ghost use Rattle.std.specs.Prelude.{◌≡◌, Some, IfOk, OnErr, codes, [], ◌∷◌};
+ghost use Rattle.ei_backend.specs.Proxies.{Announced};
 ghost use Rattle.ei_spec.specs.Interface.{named, bytes_of};
-ghost use Rattle.ei_spec.specs.declared.interface.KnownInterface.TheVariants as known;
 ghost use Rattle.ei_wire.specs.Gives.{Gives};
 ghost use Rattle.ei_backend.specs.Table.{accept};
-ghost use Rattle.ei_client.specs.Words.{Word, Long, Sends};
+ghost use Rattle.ei_client.specs.Words.{KnownInterface, Word, Long, Sends};
 ghost use Rattle.ei_client.specs.Device.{opcode_of, values_of, announced_of, request};
 
 use crate::prelude::*;
@@ -162,41 +161,33 @@ macro_rules! rows {
     };
 }
 
-impl Event {
-    /// Reads the arguments of an event of that opcode, and announces the object that it bears.
+impl Message for Event {
+    ghost code = { opcode_of };
+
+    ghost values = { values_of };
+
+    ghost announced = { announced_of };
+
+    ghost KNOWN = { KnownInterface.Device };
+
     #[inline(always)]
-    pub(crate) fn parse(
-        alloc: Global,
-        opcode: u32,
-        bytes: &mut ByteStream<'_>,
-        objects: &mut Table,
-    ) -> Result<Event, ParseError>
-        ensures read { ReadsRow values_of true known.Device opcode bytes.old bytes.new objects.old objects.new result }
-        ensures code { IfOk result (λ m. opcode_of m ≡ opcode) }
-        ensures announced { IfOk result (λ m. Announced (announced_of m) objects.old objects.new) }
-        ensures err { OnErr result (objects.new ≡ objects.old) }
-    {
+    fn parse(opcode: u32, bytes: &mut ByteStream<'_>, objects: &mut Table) -> Parsed<Event> {
         rows!(read_row(
             opcode,
             bytes,
             {
                 let (id, name, version): (u64, EiText, u32) = read_three(bytes)?;
-                let object = announce_named(alloc, id, name.as_str(), version, objects)?;
+                let object = announce_named(bytes.alloc(), id, name.as_str(), version, objects)?;
                 Ok(Event::Interface { object })
             }
         ))
     }
 
-    pub(crate) fn opcode(&self) -> u32
-        ensures { result ≡ opcode_of self.now }
-    {
+    fn opcode(&self) -> u32 {
         rows!(opcode_of(self))
     }
 
-    /// The arguments in order.
-    pub(crate) fn args(&self, alloc: Global) -> Result<Vec<Arg<'_>>, NoMemory>
-        ensures { IfOk result (λ args. Shows true known.Device (opcode_of self.now) (values_of self.now) args.items) }
-    {
+    fn args(&self, alloc: Global) -> Result<Vec<Arg<'_>>, NoMemory> {
         rows!(show_row(self, alloc))
     }
 }

@@ -1,6 +1,10 @@
 //! The events of a server.
 
-ghost use Rattle.std.specs.Prelude.{◌≡◌, true};
+ghost use Rattle.std.specs.Prelude.{◌≡◌, true, Ok, None, IfSome, IfNone};
+ghost use Rattle.ei_spec.specs.Interface.{Known};
+ghost use Rattle.ei_backend.specs.Table.{Announced};
+ghost use Rattle.ei_backend.specs.Message.{message_read};
+ghost use Rattle.ei_backend.specs.Read.{IsRead};
 ghost use Rattle.ei_client.specs.Event.{target_of, opcode_of, values_of, announced_of};
 
 use crate::button::{self, Button};
@@ -16,7 +20,7 @@ use crate::scroll::{self, Scroll};
 use crate::seat::{self, Seat};
 use crate::text::{self, Text};
 use crate::touchscreen::{self, Touchscreen};
-use ei_backend::{Interface, InterfaceName, MessageEnum, Object, Table};
+use ei_backend::{Answer, Interface, InterfaceName, MessageEnum, Object, Table, lawful, put};
 use ei_spec::KnownInterface;
 use ei_wire::{Arg, ByteStream, EiText, NoMemory, ParseError};
 use std::alloc::Global;
@@ -38,39 +42,54 @@ pub enum Event {
     Text(Text, text::Event),
 }
 
-/// Hands the interfaces to which an event is sent, each with its file, to the macro that a call names: all but the
-/// device, whose events want memory to be read.
-macro_rules! interfaces {
-    ($write:ident $with:tt) => {
-        $write! { $with
-            Handshake handshake,
-            Connection connection,
-            Callback callback,
-            Seat seat,
+/// Hands the interfaces that bear input, each with its file, to the macro that a call names, behind any others.
+macro_rules! inputs {
+    ($write:ident $with:tt $($others:tt)*) => {
+        $write! { $with $($others)*
+            Device device,
             Pointer pointer,
             PointerAbsolute pointer_absolute,
             Scroll scroll,
             Button button,
             Keyboard keyboard,
             Touchscreen touchscreen,
+        }
+    };
+}
+
+/// Hands the interfaces that bear none to that macro.
+macro_rules! others {
+    ($write:ident $with:tt) => {
+        $write! { $with
+            Handshake handshake,
+            Connection connection,
+            Callback callback,
+            Seat seat,
             Text text,
         }
     };
 }
 
+/// Hands the interfaces that bear input to that macro, behind these.
+macro_rules! inputs_behind {
+    (($write:ident $with:tt) $($others:tt)+) => {
+        inputs! { $write $with $($others)+ }
+    };
+}
+
+/// Hands all the interfaces to which an event is sent to that macro.
+macro_rules! interfaces {
+    ($write:ident $with:tt) => {
+        others! { inputs_behind ($write $with) }
+    };
+}
+
 /// Reads an event to an object of that interface: a `match` with an arm an interface.
 macro_rules! read_event {
-    (
-        ($known:ident, $alloc:ident, $object:ident, $opcode:ident, $bytes:ident, $table:ident)
-        $($interface:ident $file:ident,)+
-    ) => {
+    (($known:ident, $object:ident, $opcode:ident, $bytes:ident, $table:ident) $($interface:ident $file:ident,)+) => {
         match $known {
             // no event is sent to a ping
             KnownInterface::Pingpong => Err(ParseError::InvalidOpcode("pingpong", $opcode)),
-            KnownInterface::Device => {
-                let event = device::Event::parse($alloc, $opcode, $bytes, $table)?;
-                Ok(Event::Device(Device::new_unchecked($object), event))
-            }
             $(KnownInterface::$interface => {
                 let event = $file::Event::parse($opcode, $bytes, $table)?;
                 Ok(Event::$interface($interface::new_unchecked($object), event))
@@ -79,11 +98,27 @@ macro_rules! read_event {
     };
 }
 
+/// Reads an event to an object of one of these interfaces, to its answer's place, if it is lawful: a `match` with an arm an
+/// interface, and one for the others.
+macro_rules! put_event {
+    (
+        ($known:ident, $object:ident, $opcode:ident, $bytes:ident, $table:ident, $answer:ident, $otherwise:tt)
+        $($interface:ident $file:ident,)+
+    ) => {
+        match $known {
+            $(KnownInterface::$interface => {
+                let event = lawful($file::Event::parse($opcode, $bytes, $table))?;
+                put($answer, Event::$interface($interface::new_unchecked($object), event));
+            })+
+            _ => $otherwise,
+        }
+    };
+}
+
 /// Answers the same of the proxy or the event, whatever the interface: a `match` with an arm an interface.
 macro_rules! each_event {
     (($of:ident, ($proxy:pat, $event:pat) => $answer:expr) $($interface:ident $file:ident,)+) => {
         match $of {
-            Event::Device($proxy, $event) => $answer,
             $(Event::$interface($proxy, $event) => $answer,)+
         }
     };
@@ -100,7 +135,6 @@ impl MessageEnum for Event {
 
     ghost announced = { announced_of };
 
-    #[inline(always)]
     fn parse(
         alloc: Global,
         object: Object,
@@ -115,7 +149,36 @@ impl MessageEnum for Event {
                 return Err(ParseError::InvalidInterface(name));
             }
         };
-        interfaces!(read_event(known, alloc, object, opcode, bytes, table))
+        interfaces!(read_event(known, object, opcode, bytes, table))
+    }
+
+    #[inline(always)]
+    fn parse_into(
+        alloc: Global,
+        object: Object,
+        opcode: u32,
+        bytes: &mut ByteStream<'_>,
+        table: &mut Table,
+        answer: &mut Answer<Event>,
+    ) -> Option<()> {
+        let known = match object.interface_name() {
+            InterfaceName::Known(known) => *known,
+            InterfaceName::Other(_) => return None,
+        };
+        inputs!(put_event(
+            known,
+            object,
+            opcode,
+            bytes,
+            table,
+            answer,
+            {
+                let mut fork = bytes.fork();
+                parse_rare(object, known, opcode, &mut fork, table, answer)?;
+                bytes.join(fork);
+            }
+        ));
+        Some(())
     }
 
     fn args(&self, alloc: Global) -> Result<Vec<Arg<'_>>, NoMemory> {
@@ -129,4 +192,28 @@ impl MessageEnum for Event {
     fn opcode(&self) -> u32 {
         interfaces!(each_event(self, (_, event) => event.opcode()))
     }
+}
+
+/// Reads an event of an interface that bears no input, if it is lawful. It is a call of its own, so that the others stay
+/// small: the compiler puts no function of more than some 10000 instructions in its caller's place.
+#[inline(never)]
+fn parse_rare(
+    object: Object,
+    known: KnownInterface,
+    opcode: u32,
+    bytes: &mut ByteStream<'_>,
+    table: &mut Table,
+    answer: &mut Answer<Event>,
+) -> Option<()>
+    requires known { object.interface ≡ Known known }
+    requires empty { answer.old ≡ Ok None }
+    ensures read { IfSome result (λ _. IsRead answer.new (λ m. message_read true object.interface opcode bytes.old table.old
+        ≡ Ok (record { values = values_of m; table = table.new; unread = bytes.new }))) }
+    ensures target { IfSome result (λ _. IsRead answer.new (λ m. (target_of m ≡ object) × (opcode_of m ≡ opcode))) }
+    ensures announced { IfSome result (λ _. IsRead answer.new (λ m. Announced (announced_of m) table.old table.new)) }
+    ensures none { IfNone result (answer.new ≡ Ok None) }
+    ensures none_table { IfNone result (table.new ≡ table.old) }
+{
+    others!(put_event(known, object, opcode, bytes, table, answer, { return None }));
+    Some(())
 }

@@ -1,6 +1,10 @@
 //! The requests of a client.
 
-ghost use Rattle.std.specs.Prelude.{◌≡◌, false};
+ghost use Rattle.std.specs.Prelude.{◌≡◌, false, Ok, None, IfSome, IfNone};
+ghost use Rattle.ei_spec.specs.Interface.{Known};
+ghost use Rattle.ei_backend.specs.Table.{Announced};
+ghost use Rattle.ei_backend.specs.Message.{message_read};
+ghost use Rattle.ei_backend.specs.Read.{IsRead};
 ghost use Rattle.ei_server.specs.Request.{target_of, opcode_of, values_of, announced_of};
 
 use crate::button::{self, Button};
@@ -16,7 +20,7 @@ use crate::scroll::{self, Scroll};
 use crate::seat::{self, Seat};
 use crate::text::{self, Text};
 use crate::touchscreen::{self, Touchscreen};
-use ei_backend::{Interface, InterfaceName, MessageEnum, Object, Table};
+use ei_backend::{Answer, Interface, InterfaceName, MessageEnum, Object, Table, lawful, put};
 use ei_spec::KnownInterface;
 use ei_wire::{Arg, ByteStream, EiText, NoMemory, ParseError};
 use std::alloc::Global;
@@ -38,14 +42,10 @@ pub enum Request {
     Text(Text, text::Request),
 }
 
-/// Hands the interfaces to which a request is sent, each with its file, to the macro that a call names.
-macro_rules! interfaces {
-    ($write:ident $with:tt) => {
-        $write! { $with
-            Handshake handshake,
-            Connection connection,
-            Pingpong pingpong,
-            Seat seat,
+/// Hands the interfaces that bear input, each with its file, to the macro that a call names, behind any others.
+macro_rules! inputs {
+    ($write:ident $with:tt $($others:tt)*) => {
+        $write! { $with $($others)*
             Device device,
             Pointer pointer,
             PointerAbsolute pointer_absolute,
@@ -53,8 +53,34 @@ macro_rules! interfaces {
             Button button,
             Keyboard keyboard,
             Touchscreen touchscreen,
+        }
+    };
+}
+
+/// Hands the interfaces that bear none to that macro.
+macro_rules! others {
+    ($write:ident $with:tt) => {
+        $write! { $with
+            Handshake handshake,
+            Connection connection,
+            Pingpong pingpong,
+            Seat seat,
             Text text,
         }
+    };
+}
+
+/// Hands the interfaces that bear input to that macro, behind these.
+macro_rules! inputs_behind {
+    (($write:ident $with:tt) $($others:tt)+) => {
+        inputs! { $write $with $($others)+ }
+    };
+}
+
+/// Hands all the interfaces to which a request is sent to that macro.
+macro_rules! interfaces {
+    ($write:ident $with:tt) => {
+        others! { inputs_behind ($write $with) }
     };
 }
 
@@ -68,6 +94,23 @@ macro_rules! read_request {
                 let request = $file::Request::parse($opcode, $bytes, $table)?;
                 Ok(Request::$interface($interface::new_unchecked($object), request))
             })+
+        }
+    };
+}
+
+/// Reads a request to an object of one of these interfaces, to its answer's place, if it is lawful: a `match` with an arm an
+/// interface, and one for the others.
+macro_rules! put_request {
+    (
+        ($known:ident, $object:ident, $opcode:ident, $bytes:ident, $table:ident, $answer:ident, $otherwise:tt)
+        $($interface:ident $file:ident,)+
+    ) => {
+        match $known {
+            $(KnownInterface::$interface => {
+                let request = lawful($file::Request::parse($opcode, $bytes, $table))?;
+                put($answer, Request::$interface($interface::new_unchecked($object), request));
+            })+
+            _ => $otherwise,
         }
     };
 }
@@ -92,7 +135,6 @@ impl MessageEnum for Request {
 
     ghost announced = { announced_of };
 
-    #[inline(always)]
     fn parse(
         alloc: Global,
         object: Object,
@@ -110,6 +152,35 @@ impl MessageEnum for Request {
         interfaces!(read_request(known, object, opcode, bytes, table))
     }
 
+    #[inline(always)]
+    fn parse_into(
+        alloc: Global,
+        object: Object,
+        opcode: u32,
+        bytes: &mut ByteStream<'_>,
+        table: &mut Table,
+        answer: &mut Answer<Request>,
+    ) -> Option<()> {
+        let known = match object.interface_name() {
+            InterfaceName::Known(known) => *known,
+            InterfaceName::Other(_) => return None,
+        };
+        inputs!(put_request(
+            known,
+            object,
+            opcode,
+            bytes,
+            table,
+            answer,
+            {
+                let mut fork = bytes.fork();
+                parse_rare(object, known, opcode, &mut fork, table, answer)?;
+                bytes.join(fork);
+            }
+        ));
+        Some(())
+    }
+
     fn args(&self, alloc: Global) -> Result<Vec<Arg<'_>>, NoMemory> {
         interfaces!(each_request(self, (_, request) => request.args(alloc)))
     }
@@ -121,4 +192,28 @@ impl MessageEnum for Request {
     fn opcode(&self) -> u32 {
         interfaces!(each_request(self, (_, request) => request.opcode()))
     }
+}
+
+/// Reads a request of an interface that bears no input, if it is lawful. It is a call of its own, so that the others stay
+/// small: the compiler puts no function of more than some 10000 instructions in its caller's place.
+#[inline(never)]
+fn parse_rare(
+    object: Object,
+    known: KnownInterface,
+    opcode: u32,
+    bytes: &mut ByteStream<'_>,
+    table: &mut Table,
+    answer: &mut Answer<Request>,
+) -> Option<()>
+    requires known { object.interface ≡ Known known }
+    requires empty { answer.old ≡ Ok None }
+    ensures read { IfSome result (λ _. IsRead answer.new (λ m. message_read false object.interface opcode bytes.old table.old
+        ≡ Ok (record { values = values_of m; table = table.new; unread = bytes.new }))) }
+    ensures target { IfSome result (λ _. IsRead answer.new (λ m. (target_of m ≡ object) × (opcode_of m ≡ opcode))) }
+    ensures announced { IfSome result (λ _. IsRead answer.new (λ m. Announced (announced_of m) table.old table.new)) }
+    ensures none { IfNone result (answer.new ≡ Ok None) }
+    ensures none_table { IfNone result (table.new ≡ table.old) }
+{
+    others!(put_request(known, object, opcode, bytes, table, answer, { return None }));
+    Some(())
 }

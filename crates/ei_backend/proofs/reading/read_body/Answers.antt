@@ -5,17 +5,11 @@ use Rattle.ei_backend.proofs.BodyIs.{says}
 use Rattle.ei_backend.proofs.Shorter.{shorter_ok}
 use Rattle.ei_backend.proofs.reading.read_body.Goals as goal
 
-pub overflow_cast-rest : goal.overflow_cast-rest
-overflow_cast-rest g c =
+pub refuse_rest-requires-clause-rest : goal.refuse_rest-requires-clause-rest
+refuse_rest-requires-clause-rest g c =
     let shorter = shorter_ok g.T.MessageEnum.events c.args.target.interface c.args.opcode c.new-stream.result c.args.table.now _ c.in-Ok.ensures.read in
     let whole = ap (λ (s : Unread). length s.bytes) c.new-stream.ensures in
-    omega (arith, shorter, whole, c.rest-rest.ensures, c.requires.body)
-
-pub overflow_add-len-then-rest-ne0 : goal.overflow_add-len-then-rest-ne0
-overflow_add-len-then-rest-ne0 g c =
-    let shorter = shorter_ok g.T.MessageEnum.events c.args.target.interface c.args.opcode c.new-stream.result c.args.table.now _ c.in-Ok.ensures.read in
-    let whole = ap (λ (s : Unread). length s.bytes) c.new-stream.ensures in
-    omega (arith, shorter, whole, c.rest-rest.ensures, c.requires.body)
+    omega (arith, shorter, whole, c.rest-rest.ensures)
 
 pub returns-else-rest-ne0-clause-ok : goal.returns-else-rest-ne0-clause-ok
 returns-else-rest-ne0-clause-ok g c = λ rest b.

@@ -31,7 +31,7 @@ returns-clause-reads g c =
     let handle_room : c.deref-2.result.now ≡ c.take.new.handles = c.deref-2.ensures.value ∙ take_at c.take.new.handles _ c.self.inside.handle_room.len (omega arith) in
     let fit = fits old.handles c.in-Ok.taken c.take.new.bytes c.take.new.handles c.in-Ok.ensures.size (omega (arith, c.if-taken-eq0.false)) (omega (arith, c.in-Ok.ensures.size.bytes)) (omega (arith, c.in-Ok.ensures.size.handles)) (omega arith) in
     let bytes = came old.bytes c.self.inside.bytes.capacity c.make_room.new.bytes c.fill_from_slice.new.self (take c.in-Ok.taken.bytes c.deref.result.now) c.fill_from_slice.result c.in_ok-make_room.ensures.ok c.fill_from_slice.ensures.count c.fill_from_slice.ensures.items (rw room (omega (arith, fit.bytes, fit.most))) in
-    let handles = filled c.self.inside.handles c.fill_from_slice-2.new.self (take c.in-Ok.taken.handles c.deref-2.result.now) c.fill_from_slice-2.result c.fill_from_slice-2.ensures.count c.fill_from_slice-2.ensures.items (rw handle_room (omega (arith, fit.limit, c.self.invariant))) in (
+    let handles = filled c.self.inside.handles c.add_handles.new.handles (take c.in-Ok.taken.handles c.deref-2.result.now) c.add_handles.result c.add_handles.ensures.count c.add_handles.ensures.items (rw handle_room (omega (arith, fit.limit, c.self.invariant))) in (
       piece_of c.in-Ok.taken c.take.new.bytes c.take.new.handles,
       rw (← c.self.view_is) fit,
       rw (← c.self.view_is, bytes, handles, room, handle_room) refl,
