@@ -11,7 +11,14 @@ use Rattle.ei_backend.specs.declared.front.FrontMessage.{FrontMessage}
 use Rattle.ei_backend.specs.declared.front.FrontMessage.TheVariants as code
 use Rattle.ei_backend.specs.Front.{front_view, IsLawful, ends_within}
 use Rattle.ei_backend.specs.Backend.{Shortens}
-use Rattle.ei_backend.specs.Step.{TakesSome}
+use Rattle.ei_backend.specs.Step.{TakesSome, TakesNext, Steps, no_step}
+use Rattle.ei_backend.specs.declared.reading.Step.{Step}
+use Rattle.ei_backend.specs.Incoming.{IncomingView}
+use Rattle.ei_backend.specs.Table.{TableView}
+use Rattle.ei_spec.specs.Interface.{ObjectView}
+use Rattle.ei_spec.specs.Value.{Value}
+use Rattle.ei_wire.specs.declared.error.NoMemory.{NoMemory}
+use Rattle.std.specs.Prelude.{IfOk, OnErr, Result, Ok, Err}
 use Rattle.ei_backend.specs.declared.message.PendingRequestResult.{PendingRequestResult}
 use Rattle.ei_backend.specs.declared.message.PendingRequestResult.TheVariants as pending
 
@@ -45,3 +52,34 @@ pub shortens : {M : Type 0} (all : List ℕ) (n : ℕ) (answer : Option (Pending
 shortens all n None le some = tt
 shortens all n (Some (pending.ParseError (error.HeaderLength len))) le some = tt
 shortens all n (Some answer) le some = omega (arith, length-drop n all)
+
+-- ---- a step, taken
+
+-- what is unread without what a step takes
+abbrev pub without_step : IncomingView → Step → IncomingView
+without_step i step = record { bytes = drop step.bytes i.bytes; handles = drop step.handles i.handles; capacity = i.capacity }
+
+fewer : {M : Type 0} (all : List ℕ) (n : ℕ) (answer : Result (Option (PendingRequestResult M)) NoMemory) → n ≤ length all → IfOk answer (λ said. TakesSome said n) → IfOk answer (λ said. Shortens all (drop n all) said)
+fewer all n (Ok said) le some = shortens all n said le some
+fewer all n (Err e) le some = tt
+
+stays : {M : Type 0} (i : IncomingView) (step : Step) (answer : Result (Option (PendingRequestResult M)) NoMemory) → OnErr answer (step ≡ no_step) → OnErr answer (without_step i step ≡ i)
+stays i step (Ok said) none = tt
+stays i step (Err e) none = rw none refl
+
+taken_of : {M : Type 0} (target : M → ObjectView) (code : M → ℕ) (values : M → List Value) (announced : M → Option ObjectView) (events : Bool)
+    (i : IncomingView) (told tnew : TableView) (step : Step) (answer : Result (Option (PendingRequestResult M)) NoMemory) → step.bytes ≤ length i.bytes →
+    Steps target code values announced events i.bytes i.handles told tnew step answer → TakesNext target code values announced events i (without_step i step) told tnew answer
+taken_of target code values announced events i told tnew step answer within s = record {
+  ok = λ b. s.ok (record b { capacity = i.capacity });
+  brings = s.brings;
+  shorter = fewer i.bytes step.bytes answer within s.shorter;
+  err = stays i step answer s.err_step;
+  err_table = s.err;
+}
+
+pub taken_next : {M : Type 0} (target : M → ObjectView) (code : M → ℕ) (values : M → List Value) (announced : M → Option ObjectView) (events : Bool)
+    (i kept : IncomingView) (told tnew : TableView) (step : Step) (answer : Result (Option (PendingRequestResult M)) NoMemory) → kept ≡ i → step.bytes ≤ length i.bytes →
+    Steps target code values announced events i.bytes i.handles told tnew step answer → TakesNext target code values announced events i (without_step kept step) told tnew answer
+taken_next target code values announced events i kept told tnew step answer same within s =
+    rw same (taken_of target code values announced events i told tnew step answer within s)

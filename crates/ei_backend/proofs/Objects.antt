@@ -86,6 +86,12 @@ module _ (os : List ObjectView) (ordered : Rise os) (q : ℕ) where
 pub found_at : (os : List ObjectView) (q i : ℕ) (o : ObjectView) → Rise os → IsPlace q os i → o ≡ get_or os i o → Some o ≡ get (by_id os) q
 found_at os q i o ordered place is = sym (get_at os q ∙ present os 0 (2 ^ 64) q i o ordered place.within (place.has o) ∙ ap Some (sym is))
 
+-- the same of an object that was found to have the id
+pub found_here : (os : List ObjectView) (q i : ℕ) (o : ObjectView) → Rise os → i < length os → o.id ≡ q → o ≡ get_or os i o → Some o ≡ get (by_id os) q
+found_here os q i o ordered within has is =
+    let there : (get_or os i o).id ≡ q = ap (λ (x : ObjectView). x.id) (sym is) ∙ has in
+    sym (get_at os q ∙ present os 0 (2 ^ 64) q i o ordered within there ∙ ap Some (sym is))
+
 -- ---- an object goes
 
 at_removed : (os : List ObjectView) (from end k i q : ℕ) → RiseWithin from end os → IsPlace k os i → at q (removed_at os i) ≡ cond (eqb q k) None (at q os)

@@ -14,10 +14,6 @@ use Rattle.ei_backend.specs.Table.{TableView}
 use Rattle.ei_spec.specs.Rows.{Row, row_at}
 use Rattle.ei_spec.specs.Table.{table}
 use Rattle.ei_backend.specs.Message.{announce, Parsed, some_row, message_read}
-use Rattle.ei_backend.specs.Read.{IsRead}
-use Rattle.ei_wire.specs.declared.error.NoMemory.{NoMemory}
-use Rattle.ei_backend.specs.declared.message.PendingRequestResult.{PendingRequestResult}
-use Rattle.ei_backend.specs.declared.message.PendingRequestResult.TheVariants as pending
 
 -- of a value and the bytes after it
 abbrev Within : {A : Type 0} → ℕ → Result (A × List ℕ) Fault → Type 0
@@ -128,12 +124,3 @@ message_shorter events (Other name) opcode s t = tt
 
 pub shorter_ok : (events : Bool) (i : Interface) (opcode : ℕ) (s : Unread) (t : TableView) (p : Parsed) → message_read events i opcode s t ≡ Ok p → length p.unread.bytes ≤ length s.bytes
 shorter_ok events i opcode s t p e = subst (IsShorter (length s.bytes)) e (message_shorter events i opcode s t)
-
--- the same of a message in its answer's place
-pub shorter_read : {M : Type 0} (values : M → List Value) (events : Bool) (interface : Interface) (opcode : ℕ) (s new : Unread) (t tnew : TableView) (answer : Result (Option (PendingRequestResult M)) NoMemory) →
-    IsRead answer (λ m. message_read events interface opcode s t ≡ Ok (record { values = values m; table = tnew; unread = new })) → length new.bytes ≤ length s.bytes
-shorter_read values events interface opcode s new t tnew (Ok (Some (pending.Request m))) is = shorter_ok events interface opcode s t _ is
-shorter_read values events interface opcode s new t tnew (Ok (Some (pending.ParseError e))) is = absurd is
-shorter_read values events interface opcode s new t tnew (Ok (Some (pending.InvalidObject id))) is = absurd is
-shorter_read values events interface opcode s new t tnew (Ok None) is = absurd is
-shorter_read values events interface opcode s new t tnew (Err e) is = absurd is

@@ -33,3 +33,9 @@ abbrev pub ends_within : FrontMessage → ℕ → Bool
 ends_within (code.Short needed) all = nat_le needed all
 ends_within (code.Unlawful len) all = false
 ends_within (code.Whole id opcode body len) all = false
+
+-- so many bytes are a whole message
+abbrev pub front_len : FrontMessage → ℕ
+front_len (code.Short needed) = 0
+front_len (code.Unlawful len) = 0
+front_len (code.Whole id opcode body len) = len

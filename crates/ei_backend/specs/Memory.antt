@@ -8,6 +8,12 @@ use Rattle.ei_backend.specs.declared.outside.Taken.{Taken}
 use Rattle.ei_backend.specs.declared.outside.LastAnswer.{LastAnswer}
 use Rattle.ei_spec.specs.declared.limits.TheConstants.{MOST_PIECE_BYTES, MOST_PIECE_HANDLES}
 
+-- the calls that fail, by their numbers, and the calls and faults so far
+pub record FailingView : Type 0 where
+  pub fails : List ℕ
+  pub calls : ℕ
+  pub faults : ℕ
+
 -- a source: the pieces left, the calls that fail, the calls and faults so far, the last answer
 pub record PiecesView : Type 0 where
   pub left : List Piece

@@ -1,5 +1,5 @@
 -- What a message is read as, with the first refusal.
-use Rattle.std.specs.Prelude.{ℕ, Bool, List, Option, Some, None, Result, Ok, Err}
+use Rattle.std.specs.Prelude.{◌≡◌, ℕ, Bool, List, [], Option, Some, None, Result, Ok, Err}
 use Rattle.ei_spec.specs.Value.{Kind, Value}
 use Rattle.ei_spec.specs.Reading.{Fault, InvalidOpcode, InvalidInterface, Unread, ArgumentStop, ◌then◌, stopping, all_at}
 use Rattle.ei_spec.specs.Interface.{Interface, Known, Other, ObjectView, short_of, named}
@@ -45,3 +45,8 @@ message_read events (Other name) opcode s t = Err (InvalidInterface name, s.take
 -- table, before and after: the message's values, or the first refusal, unless memory ran out.
 abbrev pub ReadsRow : {M : Type 0} → (M → List Value) → Bool → KnownInterface → ℕ → Unread → Unread → TableView → TableView → Result M ParseError → Type 0
 ReadsRow values events interface opcode old new told tnew result = ReadsArguments (λ m. record { values = values m; table = tnew; unread = new }) new.taken result (message_read events (Known interface) opcode old told)
+
+-- a message of the opcode to an object of the interface is read as these values, announces nothing, and leaves no byte
+pub record ReadsWhole (events : Bool) (interface : Interface) (opcode : ℕ) (values : List Value) (old new : Unread) : Type 0 where
+  pub read : (t : TableView) → message_read events interface opcode old t ≡ Ok (record { values = values; table = t; unread = new })
+  pub whole : new.bytes ≡ []

@@ -7,7 +7,7 @@ use Rattle.ei_wire.specs.declared.error.NoMemory.{NoMemory}
 use Rattle.ei_wire.specs.declared.error.ParseError.TheVariants as error
 use Rattle.ei_backend.specs.Table.{TableView}
 use Rattle.ei_backend.specs.Incoming.{IncomingView}
-use Rattle.ei_backend.specs.Backend.{BackendView, next, Answers, Brings}
+use Rattle.ei_backend.specs.Backend.{BackendView, next, Answers, Brings, Shortens}
 use Rattle.ei_backend.specs.declared.reading.Step.{Step}
 use Rattle.ei_backend.specs.declared.message.PendingRequestResult.{PendingRequestResult}
 use Rattle.ei_backend.specs.declared.message.PendingRequestResult.TheVariants as pending
@@ -29,6 +29,15 @@ abbrev pub TakesSome : {M : Type 0} → Option (PendingRequestResult M) → ℕ 
 TakesSome None n = Unit {0}
 TakesSome (Some (pending.ParseError (error.HeaderLength len))) n = Unit {0}
 TakesSome (Some answer) n = 0 < n
+
+-- what a call for the next message did to what is unread and to the table, and what it answered
+pub record TakesNext {M : Type 0} (target : M → ObjectView) (code : M → ℕ) (values : M → List Value) (announced : M → Option ObjectView) (events : Bool)
+    (old new : IncomingView) (told tnew : TableView) (answer : Result (Option (PendingRequestResult M)) NoMemory) : Type 0 where
+  pub ok : (b : BackendView) → IfOk answer (λ said. Answers target code values said (holding new tnew b) (next events (holding old told b)))
+  pub brings : IfOk answer (λ said. Brings announced said told tnew)
+  pub shorter : IfOk answer (λ said. Shortens old.bytes new.bytes said)
+  pub err : OnErr answer (new ≡ old)
+  pub err_table : OnErr answer (tnew ≡ told)
 
 -- what reading the message at the front of this unread did to the table, with the step that it takes and what it answered
 pub record Steps {M : Type 0} (target : M → ObjectView) (code : M → ℕ) (values : M → List Value) (announced : M → Option ObjectView) (events : Bool)

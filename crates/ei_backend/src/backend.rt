@@ -147,6 +147,7 @@ impl Backend {
     ///
     /// A message to no object and one that is refused are taken out too. An unlawful length takes nothing
     /// out. Where memory runs out, nothing changes.
+    #[inline(always)]
     pub fn pending<T: MessageEnum>(&mut self) -> Result<Option<PendingRequestResult<T>>, NoMemory>
     where
         T: Drop,
@@ -156,27 +157,7 @@ impl Backend {
         ensures few_left { result ≡ Ok None → length self.new.unread < MOST_MESSAGE_BYTES }
         ensures err { OnErr result (self.new ≡ self.old) }
     {
-        let mut answer = Ok(None);
-        self.pending_into(&mut answer);
-        answer
-    }
-
-    /// The same, put where its caller wants it, which holds no message yet: an answer is large.
-    #[inline(always)]
-    pub fn pending_into<T: MessageEnum>(
-        &mut self,
-        answer: &mut Result<Option<PendingRequestResult<T>>, NoMemory>,
-    )
-    where
-        T: Drop,
-        requires { answer.old ≡ Ok None }
-        ensures ok { IfOk answer.new (λ said. Answers T.target T.code T.values said self.new (next T.events self.old)) }
-        ensures announced { IfOk answer.new (λ said. Brings T.announced said self.old.table self.new.table) }
-        ensures shorter { IfOk answer.new (λ said. Shortens self.old.unread self.new.unread said) }
-        ensures few_left { answer.new ≡ Ok None → length self.new.unread < MOST_MESSAGE_BYTES }
-        ensures err { OnErr answer.new (self.new ≡ self.old) }
-    {
-        self.incoming.next(self.alloc, &mut self.table, answer);
+        self.incoming.next(self.alloc, &mut self.table)
     }
 
     /// Makes room for so many more bytes and handles to be sent, and for so many own objects, as far as there are

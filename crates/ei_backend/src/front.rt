@@ -1,9 +1,10 @@
 //! The message at the front of some bytes.
 
-ghost use Rattle.std.specs.Prelude.{◌≡◌};
+ghost use Rattle.std.specs.Prelude.{◌≡◌, ◌≤◌, length, IfSome};
 ghost use Rattle.ei_spec.specs.Message.{front};
-ghost use Rattle.ei_backend.specs.Front.{front_view, IsLawful, IsSound, ends_within};
+ghost use Rattle.ei_backend.specs.Front.{front_view, front_len, IsLawful, IsSound, ends_within};
 
+use circular_buffer::HeapCircularBuffer;
 use ei_spec::limits::MOST_MESSAGE_BYTES;
 
 /// The bytes of a header.
@@ -26,6 +27,7 @@ pub(crate) fn front_of(bytes: &[u8]) -> FrontMessage<'_>
     ensures value { front_view bytes.now result ≡ front bytes.now }
     ensures lawful { IsLawful bytes.now result }
     ensures sound { IsSound result }
+    ensures within { front_len result ≤ length bytes.now }
 {
     if bytes.len() < HEADER_BYTES {
         return FrontMessage::Short(HEADER_BYTES);
@@ -53,5 +55,21 @@ pub(crate) fn is_across(front: FrontMessage<'_>, all: usize) -> bool
     match front {
         FrontMessage::Short(needed) => needed <= all,
         FrontMessage::Unlawful(_) | FrontMessage::Whole(..) => false,
+    }
+}
+
+/// What stands at the front of a ring, in place: `None` where a header or a message lies across the end of the ring.
+#[inline(always)]
+pub(crate) fn front_in_place(bytes: &HeapCircularBuffer<u8>) -> Option<FrontMessage<'_>>
+    ensures value { IfSome result (λ f. front_view bytes.now.items f ≡ front bytes.now.items) }
+    ensures sound { IfSome result IsSound }
+    ensures within { IfSome result (λ f. front_len f ≤ length bytes.now.items) }
+{
+    let (first, _second) = bytes.as_slices();
+    let front = front_of(first);
+    if is_across(front, bytes.len()) {
+        None
+    } else {
+        Some(front)
     }
 }

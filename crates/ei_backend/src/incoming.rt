@@ -7,15 +7,10 @@ ghost use Rattle.ei_backend.specs.Outside.{Piece};
 ghost use Rattle.ei_backend.specs.Lent.{LentSource};
 ghost use Rattle.ei_backend.specs.declared.outside.LastAnswer.TheVariants as answers;
 ghost use Rattle.ei_backend.specs.Incoming.{none_unread, ReadsIn, ReadsPiece};
-ghost use Rattle.ei_backend.specs.Backend.{BackendView, next, Answers, Brings, Shortens};
-ghost use Rattle.ei_backend.specs.Step.{holding};
 ghost use Rattle.ei_spec.specs.declared.limits.TheConstants.{MOST_PIECE_BYTES};
 
-use crate::message::{Answer, MessageEnum};
 use crate::outside::Source;
-use crate::reading::next_message;
 use crate::ring::{FIRST_CAPACITY, make_room};
-use crate::table::Table;
 use circular_buffer::HeapCircularBuffer;
 use ei_spec::Handle;
 use ei_spec::limits::{MOST_PIECE_BYTES, MOST_PIECE_HANDLES, MOST_UNREAD_HANDLES};
@@ -26,9 +21,9 @@ use std::marker::Model;
 /// Bytes and handles that are not read yet, and room for the next piece. The ring of the handles never grows.
 #[derive(Drop)]
 pub(crate) struct Incoming {
-    bytes: HeapCircularBuffer<u8>,
-    handles: HeapCircularBuffer<Handle>,
-    room: Vec<u8>,
+    pub(crate) bytes: HeapCircularBuffer<u8>,
+    pub(crate) handles: HeapCircularBuffer<Handle>,
+    pub(crate) room: Vec<u8>,
     handle_room: Vec<Handle>,
 }
 
@@ -97,37 +92,6 @@ impl Incoming {
         ensures { result ≡ self.now.capacity }
     {
         self.bytes.capacity()
-    }
-
-    /// The message at the front, taken out, if it is whole. The room for a piece is idle then, and serves to
-    /// read a message that lies across the end of the ring.
-    ///
-    /// Where memory runs out, what is unread and the table stay.
-    #[inline(always)]
-    pub(crate) fn next<T: MessageEnum>(
-        &mut self,
-        alloc: Global,
-        table: &mut Table,
-        answer: &mut Answer<T>,
-    )
-    where
-        T: Drop,
-        requires { answer.old ≡ Ok None }
-        ensures ok { (b : BackendView) → IfOk answer.new (λ said. Answers T.target T.code T.values said (holding self.new table.new b) (next T.events
-            (holding self.old table.old b))) }
-        ensures announced { IfOk answer.new (λ said. Brings T.announced said table.old table.new) }
-        ensures shorter { IfOk answer.new (λ said. Shortens self.old.bytes self.new.bytes said) }
-        ensures err { OnErr answer.new (self.new ≡ self.old) }
-        ensures err_table { OnErr answer.new (table.new ≡ table.old) }
-    {
-        next_message(
-            alloc,
-            &mut self.bytes,
-            &mut self.handles,
-            &mut self.room,
-            table,
-            answer,
-        );
     }
 
     /// Takes a piece from the source, and puts it behind what is there. It answers how many bytes came.

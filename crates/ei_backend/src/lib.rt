@@ -2,6 +2,7 @@
 #![tactic(auto)]
 
 mod backend;
+mod failing;
 mod front;
 mod given;
 mod has_backend;
@@ -32,7 +33,7 @@ pub use interface::InterfaceName;
 pub use kinds::{Kind, shown_name};
 pub use memory_clock::Readings;
 pub use memory_text::MemoryText;
-pub use message::{Answer, MessageEnum, PendingRequestResult, lawful, put};
+pub use message::{Answer, MessageEnum, PendingRequestResult};
 pub use object::Object;
 pub use outside::{Clock, Fault, Input, LastAnswer, PutError, Sink, Source, Taken};
 pub use pieces::Pieces;

@@ -4,6 +4,7 @@ ghost use Rattle.std.specs.Prelude.{◌≡◌, ◌<◌, ◌≤◌, ◌↔◌, mi
 ghost use Rattle.ei_backend.specs.Outside.{Fetches, Gives, HasCause, last_fetched};
 ghost use Rattle.ei_backend.specs.Memory.{TextView, counted, faults_after};
 
+use crate::failing::Failing;
 use crate::outside::{Fault, Input, LastAnswer};
 use ei_wire::NoMemory;
 use std::alloc::Global;
@@ -14,9 +15,7 @@ use std::marker::Model;
 pub struct MemoryText {
     text: Vec<u8>,
     next: usize,
-    fails: Vec<u64>,
-    calls: u64,
-    faults: u64,
+    failing: Failing,
     last: LastAnswer,
 }
 
@@ -29,9 +28,9 @@ impl Model for MemoryText {
     ghost view = { λ s. record {
       left = drop s.next s.text.items;
       given = take s.next s.text.items;
-      fails = s.fails.items;
-      calls = s.calls;
-      faults = s.faults;
+      fails = s.failing.fails;
+      calls = s.failing.calls;
+      faults = s.failing.faults;
       last = s.last;
     } };
 
@@ -47,9 +46,7 @@ impl MemoryText {
         Ok(MemoryText {
             text: text.to_vec(alloc)?,
             next: 0,
-            fails: Vec::new(alloc),
-            calls: 0,
-            faults: 0,
+            failing: Failing::never(alloc),
             last: LastAnswer::Nothing,
         })
     }
@@ -59,8 +56,7 @@ impl MemoryText {
         ensures ok { OnOk result (self.new ≡ record self.old { fails = self.old.fails ++ call ∷ [] }) }
         ensures err { OnErr result (self.new ≡ self.old) }
     {
-        self.fails.push(u64::from(call))?;
-        Ok(())
+        self.failing.add(call)
     }
 }
 
@@ -97,9 +93,7 @@ impl Input for MemoryText {
         ensures faults { self.new.faults ≡ faults_after result self.old.faults }
         ensures same_fails { self.new.fails ≡ self.old.fails }
     {
-        self.calls = self.calls.saturating_add(1);
-        if self.fails.contains(&self.calls) {
-            self.faults = self.faults.saturating_add(1);
+        if self.failing.fails_next() {
             self.last = LastAnswer::Fault;
             return Err(Fault);
         }

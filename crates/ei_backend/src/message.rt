@@ -1,20 +1,17 @@
 //! Typed messages.
 
-ghost use Rattle.std.specs.Prelude.{◌≡◌, ℕ, Bool, List, Option, Ok, Some, None, IfSome, IfNone, IsErr, IfOk, OnErr, map};
+ghost use Rattle.std.specs.Prelude.{◌≡◌, ℕ, Bool, List, Option, None, IfSome, IfOk, OnErr, map};
 ghost use Rattle.ei_spec.specs.Value.{Value};
 ghost use Rattle.ei_spec.specs.Interface.{ObjectView};
 ghost use Rattle.ei_backend.specs.Shown.{shown, shown_of_arg};
 ghost use Rattle.ei_wire.specs.Rows.{ReadsArguments};
 ghost use Rattle.ei_backend.specs.Table.{Announced};
-ghost use Rattle.ei_backend.specs.declared.message.PendingRequestResult.TheVariants as pending;
-ghost use Rattle.ei_backend.specs.Message.{Parsed, message_read};
-ghost use Rattle.ei_backend.specs.Read.{IsRead};
+ghost use Rattle.ei_backend.specs.Message.{Parsed, ReadsWhole, message_read};
 
 use crate::object::Object;
 use crate::table::Table;
 use ei_wire::{Arg, ByteStream, NoMemory, ParseError};
 use std::alloc::Global;
-use std::mem;
 
 /// The messages that one end reads.
 pub trait MessageEnum: Sized {
@@ -45,25 +42,12 @@ pub trait MessageEnum: Sized {
         ensures announced { IfOk result (λ m. Announced (announced m) table.old table.new) }
         ensures err { OnErr result (table.new ≡ table.old) };
 
-    /// Reads the same, if the message is lawful: it goes to its answer's place, and isn't moved there. `None`: nothing is
-    /// read, and `parse` reads it, or says what is wrong. An `impl` may leave it out.
-    fn parse_into(
-        alloc: Global,
-        object: Object,
-        opcode: u32,
-        bytes: &mut ByteStream<'_>,
-        table: &mut Table,
-        answer: &mut Answer<Self>,
-    ) -> Option<()>
-    where
-        Self: Drop,
-        requires empty { answer.old ≡ Ok None }
-        ensures read { IfSome result (λ _. IsRead answer.new (λ m. message_read events object.interface opcode bytes.old table.old
-            ≡ Ok (record { values = values m; table = table.new; unread = bytes.new }))) }
-        ensures target { IfSome result (λ _. IsRead answer.new (λ m. (target m ≡ object) × (code m ≡ opcode))) }
-        ensures announced { IfSome result (λ _. IsRead answer.new (λ m. Announced (announced m) table.old table.new)) }
-        ensures none { IfNone result (answer.new ≡ Ok None) }
-        ensures none_table { IfNone result (table.new ≡ table.old) }
+    /// Reads the same, if the message is lawful, announces nothing, and nothing is left. `None` says nothing, nor where the
+    /// stream stands then: `parse` reads the message from its beginning, or says what is wrong. An `impl` may leave it out.
+    fn parse_lawful(object: &Object, opcode: u32, bytes: &mut ByteStream<'_>) -> Option<Self>
+        ensures read { IfSome result (λ m. ReadsWhole events object.now.interface opcode (values m) bytes.old bytes.new) }
+        ensures target { IfSome result (λ m. (target m ≡ object.now) × (code m ≡ opcode)) }
+        ensures announced { IfSome result (λ m. announced m ≡ None) }
     {
         None
     }
@@ -91,28 +75,4 @@ pub enum PendingRequestResult<T> {
     Request(T),
     ParseError(ParseError),
     InvalidObject(u64),
-}
-
-/// The message, if it was read.
-#[inline(always)]
-pub fn lawful<T: Drop>(read: Result<T, ParseError>) -> Option<T>
-    ensures some { IfSome result (λ m. read ≡ Ok m) }
-    ensures none { IfNone result (IsErr read) }
-{
-    match read {
-        Ok(message) => Some(message),
-        Err(_) => None,
-    }
-}
-
-/// Puts a message where there is no answer yet: nothing is dropped.
-#[inline(always)]
-pub fn put<T: Drop>(answer: &mut Answer<T>, message: T)
-    requires { answer.old ≡ Ok None }
-    ensures { answer.new ≡ Ok (Some (pending.Request message)) }
-{
-    match mem::replace(answer, Ok(Some(PendingRequestResult::Request(message)))) {
-        Ok(None) => {}
-        _ => unreachable!(),
-    }
 }

@@ -18,6 +18,7 @@ ghost use Rattle.ei_spec.specs.declared.limits.TheConstants.{MOST_MESSAGE_BYTES}
 use crate::has_backend::HasBackend;
 use crate::interface::InterfaceName;
 use crate::proxy::{Described, Interface};
+use ei_spec::KnownInterface;
 use ei_wire::{Arg, SendError};
 use std::alloc::AllocError;
 use std::fmt;
@@ -103,6 +104,20 @@ impl Object {
         match self.clone() {
             Ok(object) => object,
             Err(_) => unreachable!(),
+        }
+    }
+
+    /// A copy of an object of that interface, which can't fail.
+    #[inline(always)]
+    pub fn copy_of(&self, interface: KnownInterface) -> Object
+        requires { self.now.interface ≡ Known interface }
+        ensures { result ≡ self.now }
+    {
+        Object {
+            id: self.id,
+            interface: InterfaceName::Known(interface),
+            version: self.version,
+            client_side: self.client_side,
         }
     }
 

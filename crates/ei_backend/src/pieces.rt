@@ -5,6 +5,7 @@ ghost use Rattle.ei_backend.specs.Outside.{IsPieceSize, TakesTold, HasCause, las
 ghost use Rattle.ei_backend.specs.Memory.{PiecesView, counted, first_sizes, faults_after};
 ghost use Rattle.ei_spec.specs.declared.limits.TheConstants.{MOST_PIECE_BYTES, MOST_PIECE_HANDLES};
 
+use crate::failing::Failing;
 use crate::outside::{Fault, LastAnswer, Source, Taken};
 use ei_spec::Handle;
 use ei_wire::NoMemory;
@@ -35,9 +36,7 @@ pub struct Pieces {
     alloc: Global,
     stored: Vec<StoredPiece>,
     next: usize,
-    fails: Vec<u64>,
-    calls: u64,
-    faults: u64,
+    failing: Failing,
     last: LastAnswer,
 }
 
@@ -49,9 +48,9 @@ impl Model for Pieces {
 
     ghost view = { λ s. record {
       left = drop s.next s.stored.items;
-      fails = s.fails.items;
-      calls = s.calls;
-      faults = s.faults;
+      fails = s.failing.fails;
+      calls = s.failing.calls;
+      faults = s.failing.faults;
       last = s.last;
     } };
 
@@ -68,9 +67,7 @@ impl Pieces {
             alloc,
             stored: Vec::new(alloc),
             next: 0,
-            fails: Vec::new(alloc),
-            calls: 0,
-            faults: 0,
+            failing: Failing::never(alloc),
             last: LastAnswer::Nothing,
         }
     }
@@ -98,8 +95,7 @@ impl Pieces {
         ensures ok { OnOk result (self.new ≡ record self.old { fails = self.old.fails ++ call ∷ [] }) }
         ensures err { OnErr result (self.new ≡ self.old) }
     {
-        self.fails.push(u64::from(call))?;
-        Ok(())
+        self.failing.add(call)
     }
 }
 
@@ -137,9 +133,7 @@ impl Source for Pieces {
         ensures faults { self.new.faults ≡ faults_after result self.old.faults }
         ensures same_fails { self.new.fails ≡ self.old.fails }
     {
-        self.calls = self.calls.saturating_add(1);
-        if self.fails.contains(&self.calls) {
-            self.faults = self.faults.saturating_add(1);
+        if self.failing.fails_next() {
             self.last = LastAnswer::Fault;
             return Err(Fault);
         }

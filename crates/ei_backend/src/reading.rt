@@ -1,18 +1,19 @@
 //! Reading the message at the front of what is unread, in place.
 
-ghost use Rattle.std.specs.Prelude.{◌≡◌, ◌≤◌, ◌<◌, ◌+◌, ℕ, List, [], length, ◌↔◌, take, drop, IfSome, IfNone, IfOk, IsOk, IsTrue, OnErr, Ok, Err, Some, None};
+ghost use Rattle.std.specs.Prelude.{◌≡◌, ◌≤◌, ◌<◌, ◌+◌, ℕ, List, [], length, ◌↔◌, take, drop, IfSome, IfOk, OnErr, Ok, Some, None};
 ghost use Rattle.ei_wire.specs.declared.error.ParseError.TheVariants as error;
 ghost use Rattle.circular_buffer.specs.Buffer.{buffer};
 ghost use Rattle.ei_spec.specs.Message as message;
 ghost use Rattle.ei_backend.specs.declared.front.TheConstants.{HEADER_BYTES};
 ghost use Rattle.ei_backend.specs.declared.message.PendingRequestResult.TheVariants as pending;
-ghost use Rattle.ei_backend.specs.Front.{front_view, IsLawful, IsSound};
-ghost use Rattle.ei_backend.specs.Table.{Announced};
-ghost use Rattle.ei_backend.specs.Backend.{BackendView, body_read, of_outcome, next, Answers, Brings, Shortens};
-ghost use Rattle.ei_backend.specs.Step.{reading, no_step, TakesSome, Steps};
+ghost use Rattle.ei_backend.specs.Front.{front_view, front_len, IsSound};
+ghost use Rattle.ei_backend.specs.Table.{found};
+ghost use Rattle.ei_backend.specs.Backend.{BackendView, Message, body_read, of_outcome, of_target, next, Answers, Brings, Shortens};
+ghost use Rattle.ei_backend.specs.Step.{reading, no_step, TakesNext, TakesSome, Steps};
 
-use crate::front::{FrontMessage, HEADER_BYTES, front_of, is_across};
-use crate::message::{Answer, MessageEnum, PendingRequestResult, put};
+use crate::front::{FrontMessage, HEADER_BYTES, front_in_place, front_of, is_across};
+use crate::incoming::Incoming;
+use crate::message::{Answer, MessageEnum, PendingRequestResult};
 use crate::object::Object;
 use crate::table::Table;
 use circular_buffer::HeapCircularBuffer;
@@ -40,133 +41,107 @@ impl Step {
     }
 }
 
-/// Reads the message at the front of the rings, and takes it out. Where it lies across the end of its ring, or handles
-/// are unread, it is copied to `scratch`, or the ring is made contiguous if it is longer; else nothing is copied.
-///
-/// Where memory runs out, what is unread and the table stay.
-#[inline(always)]
-pub(crate) fn next_message<T: MessageEnum>(
-    alloc: Global,
-    bytes: &mut HeapCircularBuffer<u8>,
-    handles: &mut HeapCircularBuffer<Handle>,
-    scratch: &mut [u8],
-    table: &mut Table,
-    answer: &mut Answer<T>,
-)
-where
-    T: Drop,
-    requires scratch { HEADER_BYTES ≤ length scratch.old }
-    requires no_answer { answer.old ≡ Ok None }
-    ensures ok { (b : BackendView) → IfOk answer.new (λ said. Answers T.target T.code T.values said (reading bytes.new.items handles.new.items table.new b)
-        (next T.events (reading bytes.old.items handles.old.items table.old b))) }
-    ensures announced { IfOk answer.new (λ said. Brings T.announced said table.old table.new) }
-    ensures shorter { IfOk answer.new (λ said. Shortens bytes.old.items bytes.new.items said) }
-    ensures err { OnErr answer.new (bytes.new.items ≡ bytes.old.items) }
-    ensures err_handles { OnErr answer.new (handles.new.items ≡ handles.old.items) }
-    ensures err_table { OnErr answer.new (table.new ≡ table.old) }
-    ensures capacity { bytes.new.capacity ≡ bytes.old.capacity }
-    ensures handle_capacity { handles.new.capacity ≡ handles.old.capacity }
-{
-    let mut step = Step::nothing();
-    step_in(alloc, bytes, handles, scratch, table, &mut step, answer);
-    drop_front(bytes, step.bytes);
-    if step.handles > 0 {
-        drop_front(handles, step.handles);
-    }
-}
-
-/// Takes the first items out.
-#[inline(always)]
-fn drop_front<T: Drop>(items: &mut HeapCircularBuffer<T>, count: usize)
-    ensures { items.new ≡ buffer (drop count items.old.items) items.old.capacity }
-{
-    let left = items.len().saturating_sub(count);
-    items.truncate_front(left);
-}
-
-/// Reads the message at the front of a ring, if it is whole: mostly in the ring's first bytes, with no handle
-/// unread. It says in `step` what the message takes.
-///
-/// Where memory runs out, the table stays, and nothing is taken.
-#[inline(always)]
-fn step_in<T: MessageEnum>(
-    alloc: Global,
-    bytes: &mut HeapCircularBuffer<u8>,
-    handles: &mut HeapCircularBuffer<Handle>,
-    scratch: &mut [u8],
-    table: &mut Table,
-    step: &mut Step,
-    answer: &mut Answer<T>,
-)
-where
-    T: Drop,
-    requires scratch { HEADER_BYTES ≤ length scratch.old }
-    requires nothing { step.old ≡ no_step }
-    requires no_answer { answer.old ≡ Ok None }
-    ensures steps { Steps T.target T.code T.values T.announced T.events bytes.old.items handles.old.items table.old table.new step.new answer.new }
-    ensures within { step.new.bytes ≤ length bytes.old.items }
-    ensures kept { bytes.new ≡ bytes.old }
-    ensures handles_kept { handles.new ≡ handles.old }
-{
-    if handles.is_empty() {
-        let (first, _second) = bytes.as_slices();
-        let front = front_of(first);
-        if !is_across(front, bytes.len()) {
-            if let FrontMessage::Short(_) = front {
-                return;
+impl Incoming {
+    /// The message at the front, taken out, if it is whole: mostly it lies in the ring's first bytes, is lawful and announces
+    /// nothing, and no handle is unread.
+    ///
+    /// Where memory runs out, what is unread and the table stay.
+    #[inline(always)]
+    pub(crate) fn next<T: MessageEnum>(&mut self, alloc: Global, table: &mut Table) -> Answer<T>
+    where
+        T: Drop,
+        ensures { TakesNext T.target T.code T.values T.announced T.events self.old self.new table.old table.new result }
+    {
+        if self.handles.is_empty() {
+            match front_in_place(&self.bytes) {
+                Some(FrontMessage::Whole(id, opcode, body, len)) => {
+                    if let Some(message) = read_lawful(alloc, id, opcode, body, table) {
+                        drop_front(&mut self.bytes, len);
+                        return Ok(Some(PendingRequestResult::Request(message)));
+                    }
+                }
+                Some(FrontMessage::Short(_)) => return Ok(None),
+                _ => {}
             }
-            match step_short(alloc, front, table, step, answer) {
-                Some(()) => {}
-                None => step_apart(alloc, front, &[], table, step, answer),
-            }
-            return;
         }
+        self.next_rare(alloc, table)
     }
-    step_around(alloc, bytes, handles, scratch, table, step, answer);
+
+    /// The same, of any other. Its answer is said to a place of its own first, so that the caller's needn't be in memory.
+    #[inline(always)]
+    fn next_rare<T: MessageEnum>(&mut self, alloc: Global, table: &mut Table) -> Answer<T>
+    where
+        T: Drop,
+        ensures { TakesNext T.target T.code T.values T.announced T.events self.old self.new table.old table.new result }
+    {
+        let answer = self.next_apart(alloc, table);
+        answer
+    }
+
+    /// The same, by a call of its own.
+    #[inline(never)]
+    fn next_apart<T: MessageEnum>(&mut self, alloc: Global, table: &mut Table) -> Answer<T>
+    where
+        T: Drop,
+        ensures { TakesNext T.target T.code T.values T.announced T.events self.old self.new table.old table.new result }
+    {
+        let mut step = Step::nothing();
+        let answer = self.step(alloc, table, &mut step);
+        drop_front(&mut self.bytes, step.bytes);
+        drop_handles(&mut self.handles, step.handles);
+        answer
+    }
+
+    /// Reads the message at the front, if it is whole. It says in `step` what the message takes. Where it lies across the end of
+    /// its ring, or handles are unread, it is copied to the room for a piece, which is idle then, or the ring is made contiguous
+    /// if it is longer; else nothing is copied.
+    ///
+    /// Where memory runs out, the table stays, and nothing is taken.
+    fn step<T: MessageEnum>(
+        &mut self,
+        alloc: Global,
+        table: &mut Table,
+        step: &mut Step,
+    ) -> Answer<T>
+    where
+        T: Drop,
+        requires { step.old ≡ no_step }
+        ensures steps { Steps T.target T.code T.values T.announced T.events self.old.bytes self.old.handles table.old table.new step.new result }
+        ensures within { step.new.bytes ≤ length self.old.bytes }
+        ensures kept { self.new ≡ self.old }
+    {
+        if self.handles.is_empty() {
+            if let Some(front) = front_in_place(&self.bytes) {
+                return step_apart(alloc, front, &[], table, step);
+            }
+        }
+        let handles = self.handles.make_contiguous();
+        step_across(alloc, &mut self.bytes, handles, &mut self.room, table, step)
+    }
 }
 
-/// Reads it where it may lie across the end of its ring, or handles are unread. What it takes is said to a place of its
-/// own first, so that `step` needn't have one in memory.
-///
-/// Where memory runs out, the table stays, and nothing is taken.
+/// Takes the first bytes out.
 #[inline(always)]
-fn step_around<T: MessageEnum>(
-    alloc: Global,
-    bytes: &mut HeapCircularBuffer<u8>,
-    handles: &mut HeapCircularBuffer<Handle>,
-    scratch: &mut [u8],
-    table: &mut Table,
-    step: &mut Step,
-    answer: &mut Answer<T>,
-)
-where
-    T: Drop,
-    requires scratch { HEADER_BYTES ≤ length scratch.old }
-    requires no_answer { answer.old ≡ Ok None }
-    ensures steps { Steps T.target T.code T.values T.announced T.events bytes.old.items handles.old.items table.old table.new step.new answer.new }
-    ensures within { step.new.bytes ≤ length bytes.old.items }
-    ensures kept { bytes.new ≡ bytes.old }
-    ensures handles_kept { handles.new ≡ handles.old }
+fn drop_front(bytes: &mut HeapCircularBuffer<u8>, count: usize)
+    requires { count ≤ length bytes.old.items }
+    ensures { bytes.new ≡ buffer (drop count bytes.old.items) bytes.old.capacity }
 {
-    let mut taken = Step::nothing();
-    let unread_handles = handles.make_contiguous();
-    step_across(
-        alloc,
-        bytes,
-        unread_handles,
-        scratch,
-        table,
-        &mut taken,
-        answer,
-    );
-    *step = taken;
+    let left = bytes.len() - count;
+    bytes.truncate_front(left);
+}
+
+/// Takes the first handles out.
+fn drop_handles(handles: &mut HeapCircularBuffer<Handle>, count: usize)
+    ensures { handles.new ≡ buffer (drop count handles.old.items) handles.old.capacity }
+{
+    let left = handles.len().saturating_sub(count);
+    handles.truncate_front(left);
 }
 
 /// Reads the message at the front of a ring, if it is whole, where it may lie across the end of the ring, or handles
 /// are unread: it is copied to `scratch` first, if it fits there.
 ///
 /// Where memory runs out, the table stays, and nothing is taken.
-#[inline(never)]
 fn step_across<T: MessageEnum>(
     alloc: Global,
     bytes: &mut HeapCircularBuffer<u8>,
@@ -174,14 +149,12 @@ fn step_across<T: MessageEnum>(
     scratch: &mut [u8],
     table: &mut Table,
     step: &mut Step,
-    answer: &mut Answer<T>,
-)
+) -> Answer<T>
 where
     T: Drop,
     requires scratch { HEADER_BYTES ≤ length scratch.old }
     requires nothing { step.old ≡ no_step }
-    requires no_answer { answer.old ≡ Ok None }
-    ensures steps { Steps T.target T.code T.values T.announced T.events bytes.old.items handles.now table.old table.new step.new answer.new }
+    ensures steps { Steps T.target T.code T.values T.announced T.events bytes.old.items handles.now table.old table.new step.new result }
     ensures within { step.new.bytes ≤ length bytes.old.items }
     ensures kept { bytes.new ≡ bytes.old }
 {
@@ -194,10 +167,9 @@ where
             handles,
             table,
             step,
-            answer,
         )
     } else {
-        step_apart(alloc, front, handles, table, step, answer)
+        step_apart(alloc, front, handles, table, step)
     }
 }
 
@@ -233,116 +205,71 @@ fn gather(bytes: &HeapCircularBuffer<u8>, scratch: &mut [u8]) -> usize
     }
 }
 
-/// Reads what stands at the front of some bytes, and says in `step` what it takes: a call of its own, for what is rare.
+/// Reads a lawful message that announces nothing, if its target stands where it mostly does.
+#[inline(always)]
+fn read_lawful<T: MessageEnum>(
+    alloc: Global,
+    id: u64,
+    opcode: u32,
+    body: &[u8],
+    table: &Table,
+) -> Option<T>
+where
+    T: Drop,
+    ensures read { IfSome result (λ m. (all rest : List ℕ) (b : BackendView) →
+        of_target T.events (reading all [] table.now b) (found table.now id) (record { id = id; opcode = opcode; body = body.now }) rest
+        ≡ (Message (T.target m) (T.code m) (T.values m), reading rest [] table.now b)) }
+    ensures announced { IfSome result (λ m. T.announced m ≡ None) }
+{
+    let target = table.likely(id)?;
+    let mut stream = ByteStream::new(alloc, body, &[]);
+    T::parse_lawful(target, opcode, &mut stream)
+}
+
+/// Reads what stands at the front of some bytes, and says in `step` what it takes.
 ///
 /// Where memory runs out, the table stays, and nothing is taken.
-#[inline(never)]
 fn step_apart<T: MessageEnum>(
     alloc: Global,
     front: FrontMessage<'_>,
     handles: &[Handle],
     table: &mut Table,
     step: &mut Step,
-    answer: &mut Answer<T>,
-)
+) -> Answer<T>
 where
     T: Drop,
     requires sound { IsSound front }
     requires nothing { step.old ≡ no_step }
-    requires no_answer { answer.old ≡ Ok None }
     ensures steps { (bytes : List ℕ) → front_view bytes front.entry ≡ message.front bytes →
-        Steps T.target T.code T.values T.announced T.events bytes handles.now table.old table.new step.new answer.new }
-    ensures within { (bytes : List ℕ) → IsLawful bytes front.entry → step.new.bytes ≤ length bytes }
+        Steps T.target T.code T.values T.announced T.events bytes handles.now table.old table.new step.new result }
+    ensures within { step.new.bytes ≤ front_len front.entry }
 {
     match front {
-        FrontMessage::Short(_) => {}
-        FrontMessage::Unlawful(len) => refuse(answer, ParseError::HeaderLength(len)),
+        FrontMessage::Short(_) => Ok(None),
+        FrontMessage::Unlawful(len) => Ok(Some(PendingRequestResult::ParseError(
+            ParseError::HeaderLength(len),
+        ))),
         FrontMessage::Whole(id, opcode, body, len) => match table.object_for_id(id) {
             None => {
-                find_none(answer, id);
                 step.bytes = len;
+                Ok(Some(PendingRequestResult::InvalidObject(id)))
             }
-            Some(target) => match target.clone() {
-                Err(_) => run_out(answer),
-                Ok(target) => {
-                    let taken = &mut step.handles;
-                    let is_read = read_body(
-                        alloc, target, opcode, body, handles, table, taken, answer,
-                    );
-                    step.bytes = if is_read { len } else { 0 };
+            Some(target) => {
+                let target = target.clone()?;
+                let taken = &mut step.handles;
+                let answer = read_body(alloc, target, opcode, body, handles, table, taken);
+                if answer.is_ok() {
+                    step.bytes = len;
                 }
-            },
+                answer
+            }
         },
     }
 }
 
-/// Reads a lawful message, where one is whole. No handle is unread. `None`: nothing is read, and `step_apart` says what
-/// is wrong.
-#[inline(always)]
-fn step_short<T: MessageEnum>(
-    alloc: Global,
-    front: FrontMessage<'_>,
-    table: &mut Table,
-    step: &mut Step,
-    answer: &mut Answer<T>,
-) -> Option<()>
-where
-    T: Drop,
-    requires sound { IsSound front }
-    requires nothing { step.old ≡ no_step }
-    requires no_answer { answer.old ≡ Ok None }
-    ensures steps { IfSome result (λ _. (bytes : List ℕ) → front_view bytes front.entry ≡ message.front bytes →
-        Steps T.target T.code T.values T.announced T.events bytes [] table.old table.new step.new answer.new) }
-    ensures within { (bytes : List ℕ) → IsLawful bytes front.entry → step.new.bytes ≤ length bytes }
-    ensures none { IfNone result (step.new ≡ no_step) }
-    ensures none_answer { IfNone result (answer.new ≡ Ok None) }
-    ensures none_table { IfNone result (table.new ≡ table.old) }
-{
-    let FrontMessage::Whole(id, opcode, body, len) = front else {
-        return None;
-    };
-    let target = table.object_for_id(id)?.known_copy()?;
-    read_short(alloc, target, opcode, body, table, answer)?;
-    step.bytes = len;
-    Some(())
-}
-
-/// Reads the whole body of such a message.
-#[inline(always)]
-fn read_short<T: MessageEnum>(
-    alloc: Global,
-    target: Object,
-    opcode: u32,
-    body: &[u8],
-    table: &mut Table,
-    answer: &mut Answer<T>,
-) -> Option<()>
-where
-    T: Drop,
-    requires body { length body.now ≤ 1048560 }
-    requires no_answer { answer.old ≡ Ok None }
-    ensures ok { IfSome result (λ _. (rest : List ℕ) → (b : BackendView) → IfOk answer.new (λ said. Answers T.target T.code T.values said
-        (reading rest [] table.new b)
-        (of_outcome (reading rest [] table.old b) target opcode rest (body_read T.events target opcode body.now [] table.old)))) }
-    ensures announced { IfSome result (λ _. IfOk answer.new (λ said. Brings T.announced said table.old table.new)) }
-    ensures some { IfSome result (λ _. (n : ℕ) → 0 < n → IfOk answer.new (λ said. TakesSome said n)) }
-    ensures read { IfSome result (λ _. IsOk answer.new) }
-    ensures none_answer { IfNone result (answer.new ≡ Ok None) }
-    ensures none_table { IfNone result (table.new ≡ table.old) }
-{
-    let mut stream = ByteStream::new(alloc, body, &[]);
-    T::parse_into(alloc, target, opcode, &mut stream, table, answer)?;
-    let rest = stream.rest();
-    if rest != 0 {
-        refuse_rest(answer, body, rest);
-    }
-    Some(())
-}
-
-/// Reads the whole body of a message, and says how many handles it took. It answers whether memory sufficed.
+/// Reads the whole body of a message, and says how many handles it took.
 ///
 /// Where memory runs out, the table stays, and no handle is taken.
-#[inline(always)]
 fn read_body<T: MessageEnum>(
     alloc: Global,
     target: Object,
@@ -351,87 +278,44 @@ fn read_body<T: MessageEnum>(
     handles: &[Handle],
     table: &mut Table,
     taken: &mut usize,
-    answer: &mut Answer<T>,
-) -> bool
+) -> Answer<T>
 where
     T: Drop,
     requires body { length body.now ≤ 1048560 }
     requires nothing { taken.old ≡ 0 }
-    requires no_answer { answer.old ≡ Ok None }
-    ensures ok { (rest : List ℕ) → (b : BackendView) → IfOk answer.new (λ said. Answers T.target T.code T.values said
+    ensures ok { (rest : List ℕ) → (b : BackendView) → IfOk result (λ said. Answers T.target T.code T.values said
         (reading rest (drop taken.new handles.now) table.new b)
         (of_outcome (reading rest handles.now table.old b) target opcode rest (body_read T.events target opcode body.now handles.now table.old))) }
-    ensures announced { IfOk answer.new (λ said. Brings T.announced said table.old table.new) }
-    ensures some { (n : ℕ) → 0 < n → IfOk answer.new (λ said. TakesSome said n) }
-    ensures err { OnErr answer.new (table.new ≡ table.old) }
-    ensures err_taken { OnErr answer.new (taken.new ≡ 0) }
-    ensures read { IsTrue result ↔ IsOk answer.new }
+    ensures announced { IfOk result (λ said. Brings T.announced said table.old table.new) }
+    ensures some { (n : ℕ) → 0 < n → IfOk result (λ said. TakesSome said n) }
+    ensures err { OnErr result (table.new ≡ table.old) }
+    ensures err_taken { OnErr result (taken.new ≡ 0) }
 {
     let mut stream = ByteStream::new(alloc, body, handles);
     let parsed = T::parse(alloc, target, opcode, &mut stream, table);
     match parsed {
         Ok(message) => {
             *taken = stream.handles_taken();
-            put(answer, message);
             let rest = stream.rest();
             if rest != 0 {
-                refuse_rest(answer, body, rest);
+                return Ok(Some(PendingRequestResult::ParseError(left_over(body, rest))));
             }
-            true
+            Ok(Some(PendingRequestResult::Request(message)))
         }
-        Err(ParseError::NoMemory) => {
-            run_out(answer);
-            false
-        }
+        Err(ParseError::NoMemory) => Err(NoMemory),
         Err(error) => {
             *taken = stream.handles_taken();
-            refuse(answer, error);
-            true
+            Ok(Some(PendingRequestResult::ParseError(error)))
         }
     }
 }
 
-/// Answers that a message is refused. What is not refused pays nothing for the error's place.
-#[inline(always)]
-fn refuse<T: Drop>(answer: &mut Answer<T>, error: ParseError)
-    ensures { answer.new ≡ Ok (Some (pending.ParseError error)) }
-{
-    refuse_apart(answer, error);
-}
-
-#[inline(never)]
-fn refuse_apart<T: Drop>(answer: &mut Answer<T>, error: ParseError)
-    ensures { answer.new ≡ Ok (Some (pending.ParseError error)) }
-{
-    *answer = Ok(Some(PendingRequestResult::ParseError(error)));
-}
-
-/// Answers that so many bytes of a body are left over.
-#[inline(never)]
-fn refuse_rest<T: Drop>(answer: &mut Answer<T>, body: &[u8], rest: usize)
+/// Why a message is refused of which so many bytes are left over.
+fn left_over(body: &[u8], rest: usize) -> ParseError
     requires body { length body.now ≤ 1048560 }
     requires rest { rest ≤ length body.now }
-    ensures { answer.new ≡ Ok (Some (pending.ParseError (error.MessageLength (16 + length body.now + rest) (16 + length body.now)))) }
+    ensures { result ≡ error.MessageLength (16 + length body.now + rest) (16 + length body.now) }
 {
     let len = 16 + body.len() as u32;
-    *answer = Ok(Some(PendingRequestResult::ParseError(ParseError::MessageLength(
-        len + rest as u32,
-        len,
-    ))));
-}
-
-/// Answers that no object has the id.
-#[inline(never)]
-fn find_none<T: Drop>(answer: &mut Answer<T>, id: u64)
-    ensures { answer.new ≡ Ok (Some (pending.InvalidObject id)) }
-{
-    *answer = Ok(Some(PendingRequestResult::InvalidObject(id)));
-}
-
-/// Answers that memory ran out.
-#[inline(never)]
-fn run_out<T: Drop>(answer: &mut Answer<T>)
-    ensures { answer.new ≡ Err (record {}) }
-{
-    *answer = Err(NoMemory);
+    ParseError::MessageLength(len + rest as u32, len)
 }

@@ -7,24 +7,6 @@ ghost use Rattle.ei_backend.specs.Table.{RiseWithin, Rise, by_id, IsPlace};
 
 use crate::object::Object;
 
-/// Where the object of an id stands, if no id between that of the first object and it is missing. Ids are given
-/// one by one, so it is there mostly, and any other place is none of its.
-#[inline]
-fn likely_place(objects: &[Object], id: u64) -> Option<usize>
-    ensures { IfSome result (IsPlace id objects.now) }
-{
-    let first = objects.first()?.id();
-    if id < first || id - first >= objects.len() as u64 {
-        return None;
-    }
-    let at = (id - first) as usize;
-    if objects[at].id() == id {
-        Some(at)
-    } else {
-        None
-    }
-}
-
 /// Where the object of an id stands, by binary search.
 #[inline(never)]
 fn place(objects: &[Object], id: u64) -> Option<usize>
@@ -35,14 +17,24 @@ fn place(objects: &[Object], id: u64) -> Option<usize>
     objects.binary_search_by_key(&id, |object| object.id()).ok()
 }
 
-/// The object of an id, if it stands where it mostly does.
-#[inline]
+/// The object of an id, if it stands where it does when no id between that of the first object and it is missing. Ids are
+/// given one by one, so it is there mostly, and any other place is none of its.
+#[inline(always)]
 pub(crate) fn look_first(objects: &[Object], id: u64) -> Option<&Object>
     requires { Rise objects.now }
     ensures { IfSome result (λ o. Some o.now ≡ get (by_id objects.now) id) }
 {
-    let at = likely_place(objects, id)?;
-    Some(&objects[at])
+    let first = objects.first()?;
+    let at = id.wrapping_sub(first.id());
+    if at >= objects.len() as u64 {
+        return None;
+    }
+    let object = &objects[at as usize];
+    if object.id() == id {
+        Some(object)
+    } else {
+        None
+    }
 }
 
 /// The object of an id.

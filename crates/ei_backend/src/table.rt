@@ -138,17 +138,29 @@ impl Table {
         }
     }
 
-    /// The object of an id, if it is one of the server's ids and stands where it mostly does: to such objects go nearly
+    /// The object of an id, if it stands where it mostly does. The server's ids are tried first: to such objects go nearly
     /// all messages.
     #[inline(always)]
-    fn likely(&self, id: u64) -> Option<&Object>
+    pub(crate) fn likely(&self, id: u64) -> Option<&Object>
         ensures object { IfSome result (λ o. Some o.now ≡ found self.now id) }
         ensures first { id ≡ 0 → IfSome result (λ o. o.now ≡ first_object self.now.client) }
     {
-        if self.client {
-            look_first(&self.peer, id)
-        } else {
+        match self.likely_among(!self.client, id) {
+            Some(object) => Some(object),
+            None => self.likely_among(self.client, id),
+        }
+    }
+
+    /// The same, among the own ids or those of the peer.
+    #[inline(always)]
+    fn likely_among(&self, own: bool, id: u64) -> Option<&Object>
+        ensures object { IfSome result (λ o. Some o.now ≡ found self.now id) }
+        ensures first { id ≡ 0 → IfSome result (λ o. o.now ≡ first_object self.now.client) }
+    {
+        if own {
             look_first(&self.own, id)
+        } else {
+            look_first(&self.peer, id)
         }
     }
 

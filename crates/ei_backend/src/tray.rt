@@ -4,6 +4,7 @@ ghost use Rattle.std.specs.Prelude.{◌≡◌, ◌↔◌, [], ◌∷◌, ◌++�
 ghost use Rattle.ei_backend.specs.Outside.{HasPutCause, HasPutWant, Puts, IsPutSize, with_more};
 ghost use Rattle.ei_backend.specs.Memory.{TrayView, counted, faults_after_put, wants_after_put};
 
+use crate::failing::Failing;
 use crate::outside::{PutError, Sink};
 use ei_spec::Handle;
 use ei_wire::NoMemory;
@@ -15,9 +16,7 @@ use std::marker::Model;
 pub struct Tray {
     bytes: Vec<u8>,
     handles: Vec<Handle>,
-    fails: Vec<u64>,
-    calls: u64,
-    faults: u64,
+    failing: Failing,
     wants: u64,
 }
 
@@ -28,9 +27,9 @@ impl Model for Tray {
 
     ghost view = { λ s. record {
       held = record { bytes = s.bytes.items; handles = s.handles.items };
-      fails = s.fails.items;
-      calls = s.calls;
-      faults = s.faults;
+      fails = s.failing.fails;
+      calls = s.failing.calls;
+      faults = s.failing.faults;
       wants = s.wants;
     } };
 }
@@ -44,9 +43,7 @@ impl Tray {
         Tray {
             bytes: Vec::new(alloc),
             handles: Vec::new(alloc),
-            fails: Vec::new(alloc),
-            calls: 0,
-            faults: 0,
+            failing: Failing::never(alloc),
             wants: 0,
         }
     }
@@ -70,8 +67,7 @@ impl Tray {
         ensures ok { OnOk result (self.new ≡ record self.old { fails = self.old.fails ++ call ∷ [] }) }
         ensures err { OnErr result (self.new ≡ self.old) }
     {
-        self.fails.push(u64::from(call))?;
-        Ok(())
+        self.failing.add(call)
     }
 }
 
@@ -125,9 +121,7 @@ impl Sink for Tray {
         ensures wants { self.new.wants ≡ wants_after_put result self.old.wants }
         ensures same_fails { self.new.fails ≡ self.old.fails }
     {
-        self.calls = self.calls.saturating_add(1);
-        if self.fails.contains(&self.calls) {
-            self.faults = self.faults.saturating_add(1);
+        if self.failing.fails_next() {
             return Err(PutError::Fault);
         }
         if extend_both(&mut self.bytes, &mut self.handles, bytes, handles).is_err() {

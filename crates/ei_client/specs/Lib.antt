@@ -13,6 +13,7 @@ pub mod Keyboard
 pub mod Touchscreen
 pub mod Text
 pub mod Event
+pub mod Asked
 -- what the clauses cite of the crates below
 pub use Rattle.ei_spec.specs.Interface
 pub use Rattle.ei_spec.specs.Message

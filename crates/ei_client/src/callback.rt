@@ -31,9 +31,13 @@ impl Message for Event {
 
     ghost KNOWN = { KnownInterface.Callback };
 
-    #[inline(always)]
     fn parse(opcode: u32, bytes: &mut ByteStream<'_>, objects: &mut Table) -> Parsed<Event> {
         rows!(read_row(opcode, bytes, objects))
+    }
+
+    #[inline(always)]
+    fn parse_lawful(opcode: u32, bytes: &mut ByteStream<'_>) -> Option<Event> {
+        rows!(read_lawful(opcode, bytes))
     }
 
     fn opcode(&self) -> u32 {

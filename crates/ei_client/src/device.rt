@@ -170,7 +170,6 @@ impl Message for Event {
 
     ghost KNOWN = { KnownInterface.Device };
 
-    #[inline(always)]
     fn parse(opcode: u32, bytes: &mut ByteStream<'_>, objects: &mut Table) -> Parsed<Event> {
         rows!(read_row(
             opcode,
@@ -181,6 +180,11 @@ impl Message for Event {
                 Ok(Event::Interface { object })
             }
         ))
+    }
+
+    #[inline(always)]
+    fn parse_lawful(opcode: u32, bytes: &mut ByteStream<'_>) -> Option<Event> {
+        rows!(read_lawful(opcode, bytes))
     }
 
     fn opcode(&self) -> u32 {

@@ -1,10 +1,10 @@
 //! What the events of each interface promise.
 
-ghost use Rattle.std.specs.Prelude.{◌≡◌, ℕ, List, Option, None, IfOk, OnErr, true};
+ghost use Rattle.std.specs.Prelude.{◌≡◌, ℕ, List, Option, None, IfSome, IfOk, OnErr, true};
 ghost use Rattle.ei_spec.specs.Value.{Value};
-ghost use Rattle.ei_spec.specs.Interface.{ObjectView};
+ghost use Rattle.ei_spec.specs.Interface.{ObjectView, Known};
 ghost use Rattle.ei_spec.specs.declared.interface.KnownInterface.{KnownInterface};
-ghost use Rattle.ei_backend.specs.Proxies.{Announced, ReadsRow, Shows};
+ghost use Rattle.ei_backend.specs.Proxies.{Announced, ReadsRow, ReadsWhole, Shows};
 
 use ei_backend::Table;
 use ei_wire::{Arg, ByteStream, NoMemory, ParseError};
@@ -31,6 +31,12 @@ pub(crate) trait Message: Sized {
         ensures code { IfOk result (λ m. code m ≡ opcode) }
         ensures announced { IfOk result (λ m. Announced (announced m) objects.old objects.new) }
         ensures err { OnErr result (objects.new ≡ objects.old) };
+
+    /// Reads the same, if it is lawful, announces nothing, and nothing is left.
+    fn parse_lawful(opcode: u32, bytes: &mut ByteStream<'_>) -> Option<Self>
+        ensures read { IfSome result (λ m. ReadsWhole true (Known KNOWN) opcode (values m) bytes.old bytes.new) }
+        ensures code { IfSome result (λ m. code m ≡ opcode) }
+        ensures announced { IfSome result (λ m. announced m ≡ None) };
 
     fn opcode(&self) -> u32
         ensures { result ≡ code self.now };

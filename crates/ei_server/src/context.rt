@@ -156,8 +156,6 @@ impl Context {
         ensures few_left { result ≡ Ok None → length self.new.unread < MOST_MESSAGE_BYTES }
         ensures err { OnErr result (self.new ≡ self.old) }
     {
-        let mut answer = Ok(None);
-        self.backend.pending_into(&mut answer);
-        answer
+        self.backend.pending()
     }
 }

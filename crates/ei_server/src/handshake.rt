@@ -93,9 +93,13 @@ impl Message for Request {
 
     ghost KNOWN = { KnownInterface.Handshake };
 
-    #[inline(always)]
     fn parse(opcode: u32, bytes: &mut ByteStream<'_>, objects: &mut Table) -> Parsed<Request> {
         rows!(read_row(opcode, bytes, objects))
+    }
+
+    #[inline(always)]
+    fn parse_lawful(opcode: u32, bytes: &mut ByteStream<'_>) -> Option<Request> {
+        rows!(read_lawful(opcode, bytes))
     }
 
     fn opcode(&self) -> u32 {

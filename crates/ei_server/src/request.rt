@@ -1,11 +1,8 @@
 //! The requests of a client.
 
-ghost use Rattle.std.specs.Prelude.{◌≡◌, false, Ok, None, IfSome, IfNone};
-ghost use Rattle.ei_spec.specs.Interface.{Known};
-ghost use Rattle.ei_backend.specs.Table.{Announced};
-ghost use Rattle.ei_backend.specs.Message.{message_read};
-ghost use Rattle.ei_backend.specs.Read.{IsRead};
+ghost use Rattle.std.specs.Prelude.{false, IfSome};
 ghost use Rattle.ei_server.specs.Request.{target_of, opcode_of, values_of, announced_of};
+ghost use Rattle.ei_server.specs.Asked.{IsToKnown, IsAsked};
 
 use crate::button::{self, Button};
 use crate::connection::{self, Connection};
@@ -20,7 +17,7 @@ use crate::scroll::{self, Scroll};
 use crate::seat::{self, Seat};
 use crate::text::{self, Text};
 use crate::touchscreen::{self, Touchscreen};
-use ei_backend::{Answer, Interface, InterfaceName, MessageEnum, Object, Table, lawful, put};
+use ei_backend::{Interface, InterfaceName, MessageEnum, Object, Table};
 use ei_spec::KnownInterface;
 use ei_wire::{Arg, ByteStream, EiText, NoMemory, ParseError};
 use std::alloc::Global;
@@ -98,17 +95,13 @@ macro_rules! read_request {
     };
 }
 
-/// Reads a request to an object of one of these interfaces, to its answer's place, if it is lawful: a `match` with an arm an
-/// interface, and one for the others.
-macro_rules! put_request {
-    (
-        ($known:ident, $object:ident, $opcode:ident, $bytes:ident, $table:ident, $answer:ident, $otherwise:tt)
-        $($interface:ident $file:ident,)+
-    ) => {
+/// Reads a request to an object of one of these interfaces, if it is lawful: a `match` with an arm an interface.
+macro_rules! lawful_request {
+    (($known:ident, $object:ident, $opcode:ident, $bytes:ident, $otherwise:tt) $($interface:ident $file:ident,)+) => {
         match $known {
             $(KnownInterface::$interface => {
-                let request = lawful($file::Request::parse($opcode, $bytes, $table))?;
-                put($answer, Request::$interface($interface::new_unchecked($object), request));
+                let request = $file::Request::parse_lawful($opcode, $bytes)?;
+                Some(Request::$interface($interface::new_unchecked($object.copy_of(KnownInterface::$interface)), request))
             })+
             _ => $otherwise,
         }
@@ -153,32 +146,25 @@ impl MessageEnum for Request {
     }
 
     #[inline(always)]
-    fn parse_into(
-        alloc: Global,
-        object: Object,
-        opcode: u32,
-        bytes: &mut ByteStream<'_>,
-        table: &mut Table,
-        answer: &mut Answer<Request>,
-    ) -> Option<()> {
+    fn parse_lawful(object: &Object, opcode: u32, bytes: &mut ByteStream<'_>) -> Option<Request> {
         let known = match object.interface_name() {
             InterfaceName::Known(known) => *known,
             InterfaceName::Other(_) => return None,
         };
-        inputs!(put_request(
+        inputs!(lawful_request(
             known,
             object,
             opcode,
             bytes,
-            table,
-            answer,
             {
-                let mut fork = bytes.fork();
-                parse_rare(object, known, opcode, &mut fork, table, answer)?;
-                bytes.join(fork);
+                let asked = Asked {
+                    known,
+                    object,
+                    opcode,
+                };
+                lawful_rare(asked, bytes)
             }
-        ));
-        Some(())
+        ))
     }
 
     fn args(&self, alloc: Global) -> Result<Vec<Arg<'_>>, NoMemory> {
@@ -194,26 +180,36 @@ impl MessageEnum for Request {
     }
 }
 
-/// Reads a request of an interface that bears no input, if it is lawful. It is a call of its own, so that the others stay
-/// small: the compiler puts no function of more than some 10000 instructions in its caller's place.
-#[inline(never)]
-fn parse_rare(
-    object: Object,
+/// A request that may be read: the object that it is to, with its interface, and its opcode.
+struct Asked<'a> {
     known: KnownInterface,
+    object: &'a Object,
     opcode: u32,
-    bytes: &mut ByteStream<'_>,
-    table: &mut Table,
-    answer: &mut Answer<Request>,
-) -> Option<()>
-    requires known { object.interface ≡ Known known }
-    requires empty { answer.old ≡ Ok None }
-    ensures read { IfSome result (λ _. IsRead answer.new (λ m. message_read false object.interface opcode bytes.old table.old
-        ≡ Ok (record { values = values_of m; table = table.new; unread = bytes.new }))) }
-    ensures target { IfSome result (λ _. IsRead answer.new (λ m. (target_of m ≡ object) × (opcode_of m ≡ opcode))) }
-    ensures announced { IfSome result (λ _. IsRead answer.new (λ m. Announced (announced_of m) table.old table.new)) }
-    ensures none { IfNone result (answer.new ≡ Ok None) }
-    ensures none_table { IfNone result (table.new ≡ table.old) }
+}
+
+/// Reads a request to an object of an interface that bears no input, if it is lawful. What isn't read yet is forked, and the
+/// answer is said to a place of its own first, so that those of the caller needn't be in memory.
+#[inline(always)]
+fn lawful_rare(asked: Asked<'_>, bytes: &mut ByteStream<'_>) -> Option<Request>
+    requires { IsToKnown asked }
+    ensures { IfSome result (IsAsked asked.entry bytes.old bytes.new) }
 {
-    others!(put_request(known, object, opcode, bytes, table, answer, { return None }));
-    Some(())
+    let mut fork = bytes.fork();
+    let message = lawful_apart(asked, &mut fork);
+    bytes.join(fork);
+    message
+}
+
+/// The same, by a call of its own.
+#[inline(never)]
+fn lawful_apart(asked: Asked<'_>, bytes: &mut ByteStream<'_>) -> Option<Request>
+    requires { IsToKnown asked }
+    ensures { IfSome result (IsAsked asked.entry bytes.old bytes.new) }
+{
+    let Asked {
+        known,
+        object,
+        opcode,
+    } = asked;
+    others!(lawful_request(known, object, opcode, bytes, None))
 }

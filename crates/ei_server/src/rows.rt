@@ -19,6 +19,49 @@ macro_rules! read_row {
     };
 }
 
+/// Reads the row of that opcode, if it is lawful: `rows!(read_lawful(opcode, bytes))`. A row that bears a handle, announces an
+/// object, or has more than three arguments is left to `read_row`.
+macro_rules! read_lawful {
+    (
+        ($opcode:ident, $bytes:ident)
+        $message:ident $name:literal; $($number:literal => $row:ident $({ $($fields:tt)+ })?,)+
+    ) => {
+        match $opcode {
+            $($number => $crate::rows::lawful_fields!($bytes, $message::$row $({ $($fields)+ })?),)+
+            _ => None,
+        }
+    };
+}
+
+/// Reads the fields of one row, if they are lawful.
+macro_rules! lawful_fields {
+    ($bytes:ident, $message:ident::$row:ident) => {{
+        lawful_none($bytes)?;
+        Some($message::$row)
+    }};
+    ($bytes:ident, $message:ident::$row:ident { $a:ident: $ak:ident, $b:ident: $bk:ident, $c:ident: Fd }) => {
+        None
+    };
+    ($bytes:ident, $message:ident::$row:ident { $a:ident: new $p:ident }) => {
+        None
+    };
+    ($bytes:ident, $message:ident::$row:ident { $a:ident: $ak:ident }) => {{
+        let $a = lawful_one($bytes)?;
+        Some($message::$row { $a })
+    }};
+    ($bytes:ident, $message:ident::$row:ident { $a:ident: $ak:ident, $b:ident: $bk:ident }) => {{
+        let ($a, $b) = lawful_two($bytes)?;
+        Some($message::$row { $a, $b })
+    }};
+    ($bytes:ident, $message:ident::$row:ident { $a:ident: $ak:ident, $b:ident: $bk:ident, $c:ident: $ck:ident }) => {{
+        let ($a, $b, $c) = lawful_three($bytes)?;
+        Some($message::$row { $a, $b, $c })
+    }};
+    ($bytes:ident, $message:ident::$row:ident { $($fields:tt)+ }) => {
+        None
+    };
+}
+
 /// Reads the fields of one row, and announces its object.
 macro_rules! read_fields {
     ($bytes:ident, $objects:tt, $message:ident::$row:ident) => {
@@ -106,8 +149,10 @@ macro_rules! show_field {
     };
 }
 
+pub(crate) use lawful_fields;
 pub(crate) use opcode_of;
 pub(crate) use read_fields;
+pub(crate) use read_lawful;
 pub(crate) use read_row;
 pub(crate) use read_values;
 pub(crate) use show_field;

@@ -272,6 +272,16 @@ impl OwnedArg for ButtonState {
         })
     }
 
+    #[inline]
+    fn parse_lawful(stream: &mut ByteStream<'_>) -> Option<ButtonState> {
+        let number = stream.lawful_choice("ButtonState", &[0, 1])?;
+        Some(if number == 0 {
+            ButtonState::Released
+        } else {
+            ButtonState::Press
+        })
+    }
+
     fn as_arg(&self) -> Arg<'_> {
         Arg::Uint32(u32::from(*self))
     }
@@ -316,6 +326,16 @@ impl OwnedArg for KeyState {
     fn parse(stream: &mut ByteStream<'_>) -> Result<KeyState, ParseError> {
         let number = stream.choice("KeyState", &[0, 1])?;
         Ok(if number == 0 {
+            KeyState::Released
+        } else {
+            KeyState::Press
+        })
+    }
+
+    #[inline]
+    fn parse_lawful(stream: &mut ByteStream<'_>) -> Option<KeyState> {
+        let number = stream.lawful_choice("KeyState", &[0, 1])?;
+        Some(if number == 0 {
             KeyState::Released
         } else {
             KeyState::Press

@@ -1,7 +1,7 @@
 //! Arguments.
 
 ghost use Rattle.std.specs.Prelude.{◌≡◌, ℕ, List, ◌++◌, ◌≤◌, ◌<◌, ◌^◌, replicate, length, vec_len, vec_capacity, ◌+◌, IfErr, IsOk};
-ghost use Rattle.std.specs.Prelude.{OnOk, OnErr, Ok, Err, Some, None, IsTrue, IsSome, Option, ◌↔◌, codes, [], ◌∷◌};
+ghost use Rattle.std.specs.Prelude.{OnOk, OnErr, Ok, Err, Some, None, IfSome, IfNone, IsTrue, IsSome, Option, ◌↔◌, codes, [], ◌∷◌};
 ghost use Rattle.std.specs.Option.{option_map};
 ghost use Rattle.ei_spec.specs.Value.{Kind, U32, I32, U64, I64, Float, Text, Nullable, Handle as HandleKind, Choice, Value};
 ghost use Rattle.ei_spec.specs.Value.{Word, Long, Signed, SignedLong, Letters, Fd, written, handles_of, IsOf, HasSpelling, text_bytes};
@@ -134,6 +134,18 @@ pub trait OwnedArg: Sized {
         ensures err { OnErr result (stream.new ≡ stream.old) }
         ensures memory { IfErr result (MayStop kind) };
 
+    /// Takes the same, if it is lawful, in fewer steps. `None` says no more than that nothing is taken: `parse` then tells what is
+    /// wrong, or takes what this call leaves to it.
+    fn parse_lawful(stream: &mut ByteStream<'_>) -> Option<Self>
+        ensures read { IfSome result (λ x. read kind stream.old ≡ Ok (value x, stream.new)) }
+        ensures none { IfNone result (stream.new ≡ stream.old) }
+    {
+        match Self::parse(stream) {
+            Ok(value) => Some(value),
+            Err(_) => None,
+        }
+    }
+
     /// The value as an argument to be written.
     fn as_arg(&self) -> Arg<'_>
         ensures value { value_of_arg result ≡ value self.now }
@@ -158,6 +170,11 @@ impl OwnedArg for u32 {
         stream.word()
     }
 
+    #[inline]
+    fn parse_lawful(stream: &mut ByteStream<'_>) -> Option<u32> {
+        stream.lawful_word()
+    }
+
     fn as_arg(&self) -> Arg<'_> {
         Arg::Uint32(*self)
     }
@@ -179,6 +196,11 @@ impl OwnedArg for i32 {
         Ok(stream.word()?.cast_signed())
     }
 
+    #[inline]
+    fn parse_lawful(stream: &mut ByteStream<'_>) -> Option<i32> {
+        Some(stream.lawful_word()?.cast_signed())
+    }
+
     fn as_arg(&self) -> Arg<'_> {
         Arg::Int32(*self)
     }
@@ -198,6 +220,11 @@ impl OwnedArg for u64 {
     #[inline]
     fn parse(stream: &mut ByteStream<'_>) -> Result<u64, ParseError> {
         stream.long()
+    }
+
+    #[inline]
+    fn parse_lawful(stream: &mut ByteStream<'_>) -> Option<u64> {
+        stream.lawful_long()
     }
 
     fn as_arg(&self) -> Arg<'_> {
@@ -240,6 +267,11 @@ impl OwnedArg for RawFloat {
     #[inline]
     fn parse(stream: &mut ByteStream<'_>) -> Result<RawFloat, ParseError> {
         Ok(RawFloat(stream.word()?))
+    }
+
+    #[inline]
+    fn parse_lawful(stream: &mut ByteStream<'_>) -> Option<RawFloat> {
+        Some(RawFloat(stream.lawful_word()?))
     }
 
     fn as_arg(&self) -> Arg<'_> {
@@ -307,6 +339,11 @@ impl OwnedArg for EiText {
     #[inline]
     fn parse(stream: &mut ByteStream<'_>) -> Result<EiText, ParseError> {
         stream.whole_text()
+    }
+
+    #[inline]
+    fn parse_lawful(stream: &mut ByteStream<'_>) -> Option<EiText> {
+        stream.lawful_name()
     }
 
     #[tactic(auto, using(ei_spec::proofs::Utf8::is_text))]

@@ -1,12 +1,13 @@
 //! Reading the arguments of a message.
 
-ghost use Rattle.std.specs.Prelude.{◌≡◌, ℕ, List, length, IfOk, IfErr, OnErr, Ok, Err, ◌≤◌, ◌<◌, ◌+◌, ◌^◌, Some, None, true, nat_eq};
+ghost use Rattle.std.specs.Prelude.{◌≡◌, ℕ, List, length, IfOk, IfErr, IfSome, IfNone, OnErr, Ok, Err, ◌≤◌, ◌<◌, ◌+◌, ◌^◌, Some, None, true, nat_eq};
 ghost use Rattle.std.specs.List.{list_any};
 ghost use Rattle.std.specs.Int.{w32, w64};
 ghost use Rattle.ei_wire.specs.Gives.{Gives, IsFault, MayStop};
 ghost use Rattle.ei_wire.specs.Letters.{behind_letters};
 ghost use Rattle.ei_spec.specs.Reading.{Unread, number_at, text_at, letters_at, utf8, read, Read};
 ghost use Rattle.ei_spec.specs.Value.{Word, Long, Letters, Fd, U32, U64, Handle as HandleKind, Nullable, Text as TextKind, Choice};
+ghost use Rattle.ei_spec.specs.Interface.{name_of};
 ghost use Rattle.ei_spec.specs.Reading.{or_null};
 
 use crate::arg::OwnedArg;
@@ -100,6 +101,17 @@ impl<'a> ByteStream<'a> {
         Ok(number)
     }
 
+    /// The same, if it is there.
+    #[inline]
+    pub(crate) fn lawful_word(&mut self) -> Option<u32>
+        ensures read { IfSome result (λ n. read U32 self.old ≡ Ok (Word n, self.new)) }
+        ensures none { IfNone result (self.new ≡ self.old) }
+    {
+        let (front, rest) = self.bytes.split_first_chunk::<4>()?;
+        self.bytes = rest;
+        Some(u32::from_le_bytes(*front))
+    }
+
     /// The eight bytes at the front as a number.
     #[inline]
     pub(crate) fn long(&mut self) -> Result<u64, ParseError>
@@ -110,6 +122,17 @@ impl<'a> ByteStream<'a> {
         let (number, rest) = long_of(self.bytes)?;
         self.bytes = rest;
         Ok(number)
+    }
+
+    /// The same, if it is there.
+    #[inline]
+    pub(crate) fn lawful_long(&mut self) -> Option<u64>
+        ensures read { IfSome result (λ n. read U64 self.old ≡ Ok (Long n, self.new)) }
+        ensures none { IfNone result (self.new ≡ self.old) }
+    {
+        let (front, rest) = self.bytes.split_first_chunk::<8>()?;
+        self.bytes = rest;
+        Some(u64::from_le_bytes(*front))
     }
 
     /// The next handle.
@@ -171,6 +194,40 @@ impl<'a> ByteStream<'a> {
         }
         self.bytes = rest;
         Ok(number)
+    }
+
+    /// Takes the text at the front, if it is the name of an interface, which takes no memory.
+    #[inline]
+    #[tactic(auto, unfolding(ei_spec::specs::Reading::text_at))]
+    pub(crate) fn lawful_name(&mut self) -> Option<EiText>
+        ensures read { IfSome result (λ t. read TextKind self.old ≡ Ok (Letters t, self.new)) }
+        ensures none { IfNone result (self.new ≡ self.old) }
+    {
+        let (front, rest) = self.bytes.split_first_chunk::<4>()?;
+        let len = u32::from_le_bytes(*front);
+        if len == 0 {
+            return None;
+        }
+        let (interface, rest) = name_at(len - 1, rest)?;
+        self.bytes = rest;
+        Some(EiText::name(interface))
+    }
+
+    /// Takes the number of a variant at the front, if it is one of these. `None`: nothing is taken.
+    #[inline]
+    pub fn lawful_choice(&mut self, name: &'static str, values: &[u32]) -> Option<u32>
+        ensures read { IfSome result (λ n. read (Choice name.now values.now) self.old ≡ Ok (Word n, self.new)) }
+        ensures listed { IfSome result (λ n. list_any (nat_eq n) values.now ≡ true) }
+        ensures none { IfNone result (self.new ≡ self.old) }
+    {
+        let (front, rest) = self.bytes.split_first_chunk::<4>()?;
+        let number = u32::from_le_bytes(*front);
+        if is_listed(values, number) {
+            self.bytes = rest;
+            Some(number)
+        } else {
+            None
+        }
     }
 
     /// Takes the argument at the front.
@@ -250,6 +307,24 @@ fn letters_of(alloc: Global, len: u32, bytes: &[u8]) -> Result<(EiText, &[u8]), 
             let rest = behind(bytes, end)?;
             Ok((EiText::other(alloc, text)?, rest))
         }
+    }
+}
+
+/// The interface whose name so many bytes are, with what follows its closing byte and its padding.
+#[inline]
+#[tactic(auto, unfolding(ei_spec::specs::Reading::letters_at), using(crate::proofs::InterfaceNames::name_at_front))]
+fn name_at(len: u32, bytes: &[u8]) -> Option<(KnownInterface, &[u8])>
+    requires { len + 1 < 2 ^ 32 }
+    ensures { IfSome result (λ x. letters_at len bytes.now ≡ Ok (name_of x.0, x.1.now)) }
+{
+    let end = len as usize;
+    if bytes.len() < end {
+        return None;
+    }
+    let interface = KnownInterface::from_bytes(&bytes[..end])?;
+    match behind(bytes, end) {
+        Ok(rest) => Some((interface, rest)),
+        Err(_) => None,
     }
 }
 

@@ -11,19 +11,40 @@ use std::io::Print;
 /// The sizes of the pieces in which the bytes come.
 const SIZES: [usize; 3] = [1, 5, 65536];
 
+/// Which handles come with the bytes of a row that is read alone.
+#[derive(Clone, Copy)]
+enum Given {
+    /// One, whether the row takes it or not: while it is unread, each message is read the general way.
+    One,
+    /// One where the row takes it, else none: then most messages are read the shorter way of lawful ones.
+    AsTaken,
+}
+
+impl Given {
+    /// The handles that come with this row.
+    fn handles(self, row: &Row) -> &'static [Handle] {
+        match self {
+            Given::AsTaken if !row.read_as.contains("takes a handle") => &[],
+            _ => &[Handle(7)],
+        }
+    }
+}
+
 /// The server sends, the client reads.
 pub(crate) fn events<R: Print + AllocGlobal>(rt: &R, table: &Table) -> Result<(), Stop> {
     println!(rt; "events")?;
-    show_alone::<ei_client::Context, R>(rt, &table.lone_events, &[])?;
-    show_alone::<ei_client::Context, R>(rt, &table.events, &[Handle(7)])?;
+    show_alone::<ei_client::Context, R>(rt, &table.lone_events, Given::AsTaken)?;
+    show_alone::<ei_client::Context, R>(rt, &table.events, Given::One)?;
+    show_alone::<ei_client::Context, R>(rt, &table.events, Given::AsTaken)?;
     show_joined::<ei_server::Context, ei_client::Context, R>(rt, &table.events)
 }
 
 /// The client sends, the server reads.
 pub(crate) fn requests<R: Print + AllocGlobal>(rt: &R, table: &Table) -> Result<(), Stop> {
     println!(rt; "requests")?;
-    show_alone::<ei_server::Context, R>(rt, &table.lone_requests, &[])?;
-    show_alone::<ei_server::Context, R>(rt, &table.requests, &[])?;
+    show_alone::<ei_server::Context, R>(rt, &table.lone_requests, Given::AsTaken)?;
+    show_alone::<ei_server::Context, R>(rt, &table.requests, Given::One)?;
+    show_alone::<ei_server::Context, R>(rt, &table.requests, Given::AsTaken)?;
     show_joined::<ei_client::Context, ei_server::Context, R>(rt, &table.requests)
 }
 
@@ -31,11 +52,11 @@ pub(crate) fn requests<R: Print + AllocGlobal>(rt: &R, table: &Table) -> Result<
 fn show_alone<E: End, R: Print + AllocGlobal>(
     rt: &R,
     rows: &[Row],
-    handles: &[Handle],
+    given: Given,
 ) -> Result<(), Stop> {
     let mut right = 0usize;
     for row in rows {
-        let text = read_alone::<E>(rt.alloc(), row, handles)?;
+        let text = read_alone::<E>(rt.alloc(), row, given.handles(row))?;
         if is_right(rt, row, text.as_str())? {
             right = right.saturating_add(1);
         }

@@ -1,0 +1,63 @@
+//! Which calls of a party in memory fail.
+
+ghost use Rattle.std.specs.Prelude.{◌≡◌, ◌≤◌, ◌↔◌, false, [], ◌∷◌, ◌++◌, OnOk, OnErr, IsTrue, Contains};
+ghost use Rattle.ei_backend.specs.Memory.{FailingView, counted};
+
+use ei_wire::NoMemory;
+use std::alloc::Global;
+use std::marker::Model;
+
+/// The calls that fail, by their numbers from 1; how many calls there were, and how many of them failed.
+#[derive(Drop)]
+pub(crate) struct Failing {
+    numbers: Vec<u64>,
+    count: u64,
+    failed: u64,
+}
+
+impl Model for Failing {
+    ghost use Rattle.ei_backend.specs.Memory.{FailingView};
+
+    ghost Value = { FailingView };
+
+    ghost view = { λ f. record { fails = f.numbers.items; calls = f.count; faults = f.failed } };
+}
+
+impl Failing {
+    /// No call fails.
+    pub(crate) fn never(alloc: Global) -> Failing
+        ensures { result ≡ record { fails = []; calls = 0; faults = 0 } }
+    {
+        Failing {
+            numbers: Vec::new(alloc),
+            count: 0,
+            failed: 0,
+        }
+    }
+
+    /// The call of that number fails.
+    pub(crate) fn add(&mut self, call: u32) -> Result<(), NoMemory>
+        ensures ok { OnOk result (self.new ≡ record self.old { fails = self.old.fails ++ call ∷ [] }) }
+        ensures err { OnErr result (self.new ≡ self.old) }
+    {
+        self.numbers.push(u64::from(call))?;
+        Ok(())
+    }
+
+    /// Counts a call, and answers whether it fails.
+    pub(crate) fn fails_next(&mut self) -> bool
+        ensures fails { IsTrue result ↔ Contains self.old.fails (counted self.old.calls) }
+        ensures calls { self.new.calls ≡ counted self.old.calls }
+        ensures faults { IsTrue result → self.new.faults ≡ counted self.old.faults }
+        ensures kept { result ≡ false → self.new.faults ≡ self.old.faults }
+        ensures later { self.old.faults ≤ self.new.faults }
+        ensures same_fails { self.new.fails ≡ self.old.fails }
+    {
+        self.count = self.count.saturating_add(1);
+        let fails = self.numbers.contains(&self.count);
+        if fails {
+            self.failed = self.failed.saturating_add(1);
+        }
+        fails
+    }
+}
