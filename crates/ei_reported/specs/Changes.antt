@@ -8,6 +8,14 @@ use Rattle.ei_reported.specs.Said.{DeviceGoes, Inputs, Modifies, Goes}
 use Rattle.ei_reported.specs.Standing.{Offer}
 use Rattle.ei_reported.specs.Reported.{device_of, Report, slots}
 
+-- the event leaves what the word says of each id
+abbrev pub Keeps : {A : Type 0} → (List Said → ℕ → A) → List Said → Said → Type 0
+Keeps word before m = (id : ℕ) → word (m ∷ before) id ≡ word before id
+
+-- the event makes the word say this of the one id, and leaves what it says of each other
+abbrev pub Sets : {A : Type 0} → (List Said → ℕ → A) → ℕ → A → List Said → Said → Type 0
+Sets word one value before m = (id : ℕ) → word (m ∷ before) id ≡ (if one == id then value else word before id)
+
 -- whether an event may change which seats are there
 abbrev pub moves_seat : Said → Bool
 moves_seat (SeatComes seat) = true

@@ -3,10 +3,11 @@ use Rattle.std.specs.Prelude.{ℕ, List, [], ◌∷◌, ◌++◌, length, Option
 use Rattle.ei_types.specs.declared.error.EventError.{EventError}
 use Rattle.ei_spec.specs.declared.interface.KnownInterface.TheVariants as known
 use Rattle.ei_spec.specs.Value.{Word, Long, Letters}
+use Rattle.ei_spec.specs.Groups.{Plain}
 use Rattle.ei_spec.specs.History.{joined}
 use Rattle.ei_reported.specs.Event.{Event, event}
 use Rattle.ei_reported.specs.Said.{said}
-use Rattle.ei_reported.specs.Reported.{Device, Report, refusal, serial, reported}
+use Rattle.ei_reported.specs.Reported.{Device, Report, SeatAdded, DeviceAdded, refusal, serial, reported}
 
 -- a device of the seat
 abbrev pub device_of : ℕ → ℕ → Device
@@ -20,6 +21,10 @@ device id = device_of 101 id
 abbrev pub told : List Event → List Report
 told events = reported 5 (1000 ∷ 2000 ∷ []) (reverse events)
 
+-- the user is given the seat 101, and then its device 102
+abbrev pub seat_and_device : List Report
+seat_and_device = Plain (SeatAdded 101) ∷ Plain (DeviceAdded (device 102)) ∷ []
+
 -- a refused event: its place in the list, from 0 on, and why
 pub record Refused : Type 0 where
   pub place : ℕ
@@ -28,6 +33,10 @@ pub record Refused : Type 0 where
 -- refused at this place
 abbrev pub fails : ℕ → EventError → Refused
 fails place why = record { place = place; why = why }
+
+-- each of these places is refused, for the one reason
+abbrev pub all_fail : EventError → List ℕ → List Refused
+all_fail why places = map (λ place. fails place why) places
 
 -- what a position adds to those that are refused
 abbrev pub refused_at : ℕ → Option EventError → List Refused

@@ -12,7 +12,7 @@ ghost use Rattle.ei_reported.specs.Standing.{device_goes, adds_seat, device_come
 ghost use Rattle.ei_reported.specs.Standing.{seat_pending, seat_added, seat_of, device_pending, device_typed};
 ghost use Rattle.ei_reported.specs.Standing.{device_added, Offer, offer, interface, holder, is_in_setup};
 ghost use Rattle.ei_reported.specs.Changes.{moves_seat, moves_device, moves_interface, unless_of, unless_named};
-ghost use Rattle.ei_reported.specs.Changes.{brings, brought, NewIdsDiffer};
+ghost use Rattle.ei_reported.specs.Changes.{brings, brought, NewIdsDiffer, Keeps, Sets};
 
 /// What stands, told by positions: one started it, and none since ended it.
 pub fn by_positions()
@@ -54,85 +54,64 @@ pub fn starts_and_ends()
 
 /// The seats after an event of each kind.
 pub fn seats_after()
-    ensures comes { (before : List Said) (s seat : ℕ) →
-        seat_pending (SeatComes s ∷ before) seat ≡ (if s == seat then true else seat_pending before seat) }
-    ensures done { (before : List Said) (s seat : ℕ) →
-        seat_pending (SeatDone s ∷ before) seat ≡ (if s == seat then false else seat_pending before seat) }
-    ensures goes { (before : List Said) (s serial seat : ℕ) →
-        seat_pending (SeatGoes s serial ∷ before) seat ≡ (if s == seat then false else seat_pending before seat) }
-    ensures added { (before : List Said) (s seat : ℕ) → seat_pending before s ≡ true →
-        seat_added (SeatDone s ∷ before) seat ≡ (if s == seat then true else seat_added before seat) }
-    ensures refused { (before : List Said) (s seat : ℕ) → seat_pending before s ≡ false →
-        seat_added (SeatDone s ∷ before) seat ≡ seat_added before seat }
-    ensures removed { (before : List Said) (s serial seat : ℕ) →
-        seat_added (SeatGoes s serial ∷ before) seat ≡ (if s == seat then false else seat_added before seat) }
-    ensures came { (before : List Said) (s seat : ℕ) →
-        seat_added (SeatComes s ∷ before) seat ≡ seat_added before seat }
-    ensures other_pending { (before : List Said) (m : Said) (seat : ℕ) → moves_seat m ≡ false →
-        seat_pending (m ∷ before) seat ≡ seat_pending before seat }
-    ensures other_added { (before : List Said) (m : Said) (seat : ℕ) → moves_seat m ≡ false →
-        seat_added (m ∷ before) seat ≡ seat_added before seat }
+    ensures comes { (before : List Said) (seat : ℕ) → Sets seat_pending seat true before (SeatComes seat) }
+    ensures done { (before : List Said) (seat : ℕ) → Sets seat_pending seat false before (SeatDone seat) }
+    ensures goes { (before : List Said) (seat serial : ℕ) →
+        Sets seat_pending seat false before (SeatGoes seat serial) }
+    ensures added { (before : List Said) (seat : ℕ) → seat_pending before seat ≡ true →
+        Sets seat_added seat true before (SeatDone seat) }
+    ensures refused { (before : List Said) (seat : ℕ) → seat_pending before seat ≡ false →
+        Keeps seat_added before (SeatDone seat) }
+    ensures removed { (before : List Said) (seat serial : ℕ) →
+        Sets seat_added seat false before (SeatGoes seat serial) }
+    ensures came { (before : List Said) (seat : ℕ) → Keeps seat_added before (SeatComes seat) }
+    ensures other_pending { (before : List Said) (m : Said) → moves_seat m ≡ false → Keeps seat_pending before m }
+    ensures other_added { (before : List Said) (m : Said) → moves_seat m ≡ false → Keeps seat_added before m }
 {}
 
 /// The devices after an event of each kind.
 pub fn devices_after()
-    ensures comes { (before : List Said) (seat d device : ℕ) → seat_added before seat ≡ true →
-        device_pending (DeviceComes seat d ∷ before) device ≡
-        (if d == device then true else device_pending before device) }
-    ensures comes_typed { (before : List Said) (seat d device : ℕ) → seat_added before seat ≡ true →
-        device_typed (DeviceComes seat d ∷ before) device ≡
-        (if d == device then false else device_typed before device) }
-    ensures refused { (before : List Said) (seat d device : ℕ) → seat_added before seat ≡ false →
-        device_pending (DeviceComes seat d ∷ before) device ≡ device_pending before device }
-    ensures refused_typed { (before : List Said) (seat d device : ℕ) → seat_added before seat ≡ false →
-        device_typed (DeviceComes seat d ∷ before) device ≡ device_typed before device }
-    ensures came { (before : List Said) (seat d device : ℕ) →
-        device_added (DeviceComes seat d ∷ before) device ≡ device_added before device }
-    ensures typed { (before : List Said) (d device : ℕ) →
-        device_typed (DeviceHasType d ∷ before) device ≡ (if d == device then true else device_typed before device) }
-    ensures typed_pending { (before : List Said) (d device : ℕ) →
-        device_pending (DeviceHasType d ∷ before) device ≡ device_pending before device }
-    ensures typed_added { (before : List Said) (d device : ℕ) →
-        device_added (DeviceHasType d ∷ before) device ≡ device_added before device }
-    ensures done { (before : List Said) (d device : ℕ) →
-        device_pending (DeviceDone d ∷ before) device ≡ (if d == device then false else device_pending before device) }
-    ensures done_typed { (before : List Said) (d device : ℕ) →
-        device_typed (DeviceDone d ∷ before) device ≡ device_typed before device }
-    ensures added { (before : List Said) (d device : ℕ) →
-        device_pending before d ≡ true → device_typed before d ≡ true →
-        device_added (DeviceDone d ∷ before) device ≡ (if d == device then true else device_added before device) }
-    ensures dropped { (before : List Said) (d device : ℕ) → device_pending before d && device_typed before d ≡ false →
-        device_added (DeviceDone d ∷ before) device ≡ device_added before device }
-    ensures goes { (before : List Said) (d serial device : ℕ) →
-        device_pending (DeviceGoes d serial ∷ before) device ≡
-        (if d == device then false else device_pending before device) }
-    ensures goes_typed { (before : List Said) (d serial device : ℕ) →
-        device_typed (DeviceGoes d serial ∷ before) device ≡ device_typed before device }
-    ensures removed { (before : List Said) (d serial device : ℕ) →
-        device_added (DeviceGoes d serial ∷ before) device ≡
-        (if d == device then false else device_added before device) }
-    ensures other_pending { (before : List Said) (m : Said) (device : ℕ) → moves_device m ≡ false →
-        device_pending (m ∷ before) device ≡ device_pending before device }
-    ensures other_typed { (before : List Said) (m : Said) (device : ℕ) → moves_device m ≡ false →
-        device_typed (m ∷ before) device ≡ device_typed before device }
-    ensures other_added { (before : List Said) (m : Said) (device : ℕ) → moves_device m ≡ false →
-        device_added (m ∷ before) device ≡ device_added before device }
+    ensures comes { (before : List Said) (seat device : ℕ) → seat_added before seat ≡ true →
+        Sets device_pending device true before (DeviceComes seat device) }
+    ensures comes_typed { (before : List Said) (seat device : ℕ) → seat_added before seat ≡ true →
+        Sets device_typed device false before (DeviceComes seat device) }
+    ensures refused { (before : List Said) (seat device : ℕ) → seat_added before seat ≡ false →
+        Keeps device_pending before (DeviceComes seat device) }
+    ensures refused_typed { (before : List Said) (seat device : ℕ) → seat_added before seat ≡ false →
+        Keeps device_typed before (DeviceComes seat device) }
+    ensures came { (before : List Said) (seat device : ℕ) → Keeps device_added before (DeviceComes seat device) }
+    ensures typed { (before : List Said) (device : ℕ) → Sets device_typed device true before (DeviceHasType device) }
+    ensures typed_pending { (before : List Said) (device : ℕ) → Keeps device_pending before (DeviceHasType device) }
+    ensures typed_added { (before : List Said) (device : ℕ) → Keeps device_added before (DeviceHasType device) }
+    ensures done { (before : List Said) (device : ℕ) → Sets device_pending device false before (DeviceDone device) }
+    ensures done_typed { (before : List Said) (device : ℕ) → Keeps device_typed before (DeviceDone device) }
+    ensures added { (before : List Said) (device : ℕ) →
+        device_pending before device ≡ true → device_typed before device ≡ true →
+        Sets device_added device true before (DeviceDone device) }
+    ensures dropped { (before : List Said) (device : ℕ) →
+        device_pending before device && device_typed before device ≡ false →
+        Keeps device_added before (DeviceDone device) }
+    ensures goes { (before : List Said) (device serial : ℕ) →
+        Sets device_pending device false before (DeviceGoes device serial) }
+    ensures goes_typed { (before : List Said) (device serial : ℕ) →
+        Keeps device_typed before (DeviceGoes device serial) }
+    ensures removed { (before : List Said) (device serial : ℕ) →
+        Sets device_added device false before (DeviceGoes device serial) }
+    ensures other_pending { (before : List Said) (m : Said) → moves_device m ≡ false → Keeps device_pending before m }
+    ensures other_typed { (before : List Said) (m : Said) → moves_device m ≡ false → Keeps device_typed before m }
+    ensures other_added { (before : List Said) (m : Said) → moves_device m ≡ false → Keeps device_added before m }
 {}
 
 /// The seat of each device, after an event of each kind. A device that is there has one.
 pub fn seats_of_devices()
-    ensures comes { (before : List Said) (seat d device : ℕ) → seat_added before seat ≡ true →
-        seat_of (DeviceComes seat d ∷ before) device ≡ (if d == device then Some seat else seat_of before device) }
-    ensures refused { (before : List Said) (seat d device : ℕ) → seat_added before seat ≡ false →
-        seat_of (DeviceComes seat d ∷ before) device ≡ seat_of before device }
-    ensures other { (before : List Said) (m : Said) (device : ℕ) → moves_device m ≡ false →
-        seat_of (m ∷ before) device ≡ seat_of before device }
-    ensures typed { (before : List Said) (d device : ℕ) →
-        seat_of (DeviceHasType d ∷ before) device ≡ seat_of before device }
-    ensures done { (before : List Said) (d device : ℕ) →
-        seat_of (DeviceDone d ∷ before) device ≡ seat_of before device }
-    ensures goes { (before : List Said) (d serial device : ℕ) →
-        seat_of (DeviceGoes d serial ∷ before) device ≡ seat_of before device }
+    ensures comes { (before : List Said) (seat device : ℕ) → seat_added before seat ≡ true →
+        Sets seat_of device (Some seat) before (DeviceComes seat device) }
+    ensures refused { (before : List Said) (seat device : ℕ) → seat_added before seat ≡ false →
+        Keeps seat_of before (DeviceComes seat device) }
+    ensures other { (before : List Said) (m : Said) → moves_device m ≡ false → Keeps seat_of before m }
+    ensures typed { (before : List Said) (device : ℕ) → Keeps seat_of before (DeviceHasType device) }
+    ensures done { (before : List Said) (device : ℕ) → Keeps seat_of before (DeviceDone device) }
+    ensures goes { (before : List Said) (device serial : ℕ) → Keeps seat_of before (DeviceGoes device serial) }
     ensures pending { (before : List Said) (device : ℕ) → device_pending before device ≡ true →
         is_some (seat_of before device) ≡ true }
     ensures added { (before : List Said) (device : ℕ) → device_added before device ≡ true →
@@ -148,22 +127,20 @@ pub fn interfaces_after()
         device_pending before d ≡ true →
         interface (DeviceGets d i name version ∷ before) id ≡
         (if i == id then Some (offer d name version) else unless_named d name (interface before id)) }
-    ensures refused { (before : List Said) (d i : ℕ) (name : List ℕ) (version id : ℕ) →
-        device_pending before d ≡ false →
-        interface (DeviceGets d i name version ∷ before) id ≡ interface before id }
+    ensures refused { (before : List Said) (d i : ℕ) (name : List ℕ) (version : ℕ) → device_pending before d ≡ false →
+        Keeps interface before (DeviceGets d i name version) }
     ensures device_goes { (before : List Said) (d serial id : ℕ) →
         interface (DeviceGoes d serial ∷ before) id ≡ unless_of d (interface before id) }
     ensures dropped { (before : List Said) (d id : ℕ) → device_pending before d ≡ true → device_typed before d ≡ false →
         interface (DeviceDone d ∷ before) id ≡ unless_of d (interface before id) }
-    ensures done { (before : List Said) (d id : ℕ) → device_typed before d ≡ true →
-        interface (DeviceDone d ∷ before) id ≡ interface before id }
-    ensures not_pending { (before : List Said) (d id : ℕ) → device_pending before d ≡ false →
-        interface (DeviceDone d ∷ before) id ≡ interface before id }
+    ensures done { (before : List Said) (d : ℕ) → device_typed before d ≡ true →
+        Keeps interface before (DeviceDone d) }
+    ensures not_pending { (before : List Said) (d : ℕ) → device_pending before d ≡ false →
+        Keeps interface before (DeviceDone d) }
     ensures goes { (before : List Said) (k : KnownInterface) (i serial id : ℕ) →
         interface (Goes k i serial ∷ before) id ≡
         (if (i == id) && is_some (holder before id) then None else interface before id) }
-    ensures other { (before : List Said) (m : Said) (id : ℕ) → moves_interface m ≡ false →
-        interface (m ∷ before) id ≡ interface before id }
+    ensures other { (before : List Said) (m : Said) → moves_interface m ≡ false → Keeps interface before m }
 {}
 
 /// An interface is one of a device that is pending or added.

@@ -15,13 +15,13 @@ ghost use Rattle.ei_reported.specs.Reported.{Disconnected, SeatAdded, SeatRemove
 ghost use Rattle.ei_reported.specs.Reported.{DevicePaused, DeviceResumed, KeyboardModifiers, DeviceStartEmulating};
 ghost use Rattle.ei_reported.specs.Reported.{DeviceStopEmulating};
 ghost use Rattle.ei_reported.specs.Worked.{added_seat, device_of_button, told, refused, fails, serial_after};
-ghost use Rattle.ei_reported.specs.Worked.{device, device_of};
+ghost use Rattle.ei_reported.specs.Worked.{device, device_of, all_fail, seat_and_device};
 ghost use Rattle.ei_reported.specs.WorkedLists as lists;
 
 /// A seat, and a device of a button that is resumed.
 pub fn a_device()
     ensures told { told (added_seat ++ device_of_button) ≡
-        Plain (SeatAdded 101) ∷ Plain (DeviceAdded (device 102)) ∷ Plain (DeviceResumed (device 102) 6) ∷ [] }
+        seat_and_device ++ (Plain (DeviceResumed (device 102) 6) ∷ []) }
     ensures refused { refused (added_seat ++ device_of_button) ≡ [] }
     ensures serial { serial_after (added_seat ++ device_of_button) ≡ 6 }
 {}
@@ -38,8 +38,7 @@ pub fn two_seats()
 
 /// A device of a button, and the ends of interfaces that no device has: of a button, and of a text.
 pub fn strangers_gone()
-    ensures told { told lists.strangers_gone ≡ Plain (SeatAdded 101) ∷ Plain (DeviceAdded (device 102))
-        ∷ Plain (DeviceResumed (device 102) 6) ∷ [] }
+    ensures told { told lists.strangers_gone ≡ seat_and_device ++ (Plain (DeviceResumed (device 102) 6) ∷ []) }
     ensures refused { refused lists.strangers_gone ≡ fails 7 error.DeviceEventBeforeDone ∷ [] }
     ensures serial { serial_after lists.strangers_gone ≡ 10 }
 {}
@@ -47,8 +46,7 @@ pub fn strangers_gone()
 /// Events of the handshake.
 pub fn handshake()
     ensures told { told lists.handshake ≡ [] }
-    ensures refused { refused lists.handshake ≡ fails 0 error.UnexpectedHandshakeEvent
-        ∷ fails 1 error.UnexpectedHandshakeEvent ∷ fails 2 error.UnexpectedHandshakeEvent ∷ [] }
+    ensures refused { refused lists.handshake ≡ all_fail error.UnexpectedHandshakeEvent (0 ∷ 1 ∷ 2 ∷ []) }
     ensures serial { serial_after lists.handshake ≡ 5 }
 {}
 
@@ -82,9 +80,9 @@ pub fn seat_destroyed()
 
 /// An added seat goes, while inputs wait on its device.
 pub fn seat_removed_its_device_stays()
-    ensures told { told lists.seat_removed_its_device_stays ≡ Plain (SeatAdded 101)
-        ∷ Plain (DeviceAdded (device 102)) ∷ Plain (SeatRemoved 101) ∷ Timed (device 102) (PointerMotion 1 2) 50
-        ∷ Timed (device 102) (PointerMotion 1 2) 50 ∷ Framed (device 102) 9 50 ∷ [] }
+    ensures told { told lists.seat_removed_its_device_stays ≡ seat_and_device ++ (Plain (SeatRemoved 101)
+        ∷ Timed (device 102) (PointerMotion 1 2) 50 ∷ Timed (device 102) (PointerMotion 1 2) 50
+        ∷ Framed (device 102) 9 50 ∷ []) }
     ensures refused { refused lists.seat_removed_its_device_stays ≡ fails 12 error.SeatEventBeforeDone ∷ [] }
     ensures serial { serial_after lists.seat_removed_its_device_stays ≡ 9 }
 {}
@@ -101,30 +99,23 @@ pub fn device_without_type()
 
 /// What is refused of a device before it is added; serials are kept all the same.
 pub fn device_before_done()
-    ensures told { told lists.device_before_done ≡ Plain (SeatAdded 101) ∷ Plain (DeviceAdded (device 102)) ∷ [] }
-    ensures refused { refused lists.device_before_done ≡ fails 5 error.DeviceEventBeforeDone
-        ∷ fails 6 error.DeviceEventBeforeDone ∷ fails 7 error.DeviceEventBeforeDone
-        ∷ fails 8 error.DeviceEventBeforeDone ∷ fails 9 error.DeviceEventBeforeDone
-        ∷ fails 10 error.DeviceEventBeforeDone ∷ fails 11 error.DeviceEventBeforeDone ∷ [] }
+    ensures told { told lists.device_before_done ≡ seat_and_device }
+    ensures refused { refused lists.device_before_done ≡
+        all_fail error.DeviceEventBeforeDone (5 ∷ 6 ∷ 7 ∷ 8 ∷ 9 ∷ 10 ∷ 11 ∷ []) }
     ensures serial { serial_after lists.device_before_done ≡ 7 }
 {}
 
 /// What is refused of a device once it is added.
 pub fn device_after_done()
-    ensures told { (h : Handle) → told (lists.device_after_done h) ≡ Plain (SeatAdded 101)
-        ∷ Plain (DeviceAdded (device 102)) ∷ [] }
-    ensures refused { (h : Handle) → refused (lists.device_after_done h) ≡ fails 9 error.DeviceSetupEventAfterDone
-        ∷ fails 10 error.DeviceSetupEventAfterDone ∷ fails 11 error.DeviceSetupEventAfterDone
-        ∷ fails 12 error.DeviceSetupEventAfterDone ∷ fails 13 error.DeviceSetupEventAfterDone
-        ∷ fails 14 error.DeviceSetupEventAfterDone ∷ fails 15 error.DeviceSetupEventAfterDone
-        ∷ fails 16 error.DeviceSetupEventAfterDone ∷ [] }
+    ensures told { (h : Handle) → told (lists.device_after_done h) ≡ seat_and_device }
+    ensures refused { (h : Handle) → refused (lists.device_after_done h) ≡
+        all_fail error.DeviceSetupEventAfterDone (9 ∷ 10 ∷ 11 ∷ 12 ∷ 13 ∷ 14 ∷ 15 ∷ 16 ∷ []) }
     ensures serial { (h : Handle) → serial_after (lists.device_after_done h) ≡ 5 }
 {}
 
 /// A device is described by all that may describe it, and a pending one keeps its keyboard.
 pub fn device_setup()
-    ensures told { (h : Handle) → told (lists.device_setup h) ≡ Plain (SeatAdded 101)
-        ∷ Plain (DeviceAdded (device 102)) ∷ [] }
+    ensures told { (h : Handle) → told (lists.device_setup h) ≡ seat_and_device }
     ensures refused { (h : Handle) → refused (lists.device_setup h) ≡ [] }
     ensures serial { (h : Handle) → serial_after (lists.device_setup h) ≡ 3 }
 {}
@@ -133,87 +124,76 @@ pub fn device_setup()
 pub fn a_pending_device_goes()
     ensures told { (h : Handle) → told (lists.a_pending_device_goes h) ≡ Plain (SeatAdded 101) ∷ [] }
     ensures refused { (h : Handle) → refused (lists.a_pending_device_goes h) ≡
-        fails 6 error.DeviceSetupEventAfterDone ∷ fails 7 error.DeviceSetupEventAfterDone ∷ [] }
+        all_fail error.DeviceSetupEventAfterDone (6 ∷ 7 ∷ []) }
     ensures serial { (h : Handle) → serial_after (lists.a_pending_device_goes h) ≡ 5 }
 {}
 
 /// Of interfaces of one name the last counts.
 pub fn last_of_a_name()
-    ensures told { told lists.last_of_a_name ≡ Plain (SeatAdded 101) ∷ Plain (DeviceAdded (device 102)) ∷ [] }
-    ensures refused { refused lists.last_of_a_name ≡ fails 7 error.DeviceEventBeforeDone
-        ∷ fails 9 error.DeviceEventBeforeDone ∷ fails 11 error.DeviceEventBeforeDone ∷ [] }
+    ensures told { told lists.last_of_a_name ≡ seat_and_device }
+    ensures refused { refused lists.last_of_a_name ≡ all_fail error.DeviceEventBeforeDone (7 ∷ 9 ∷ 11 ∷ []) }
     ensures serial { serial_after lists.last_of_a_name ≡ 10 }
 {}
 
 /// Inputs are grouped by frames, and by frames that are made before other events of their device.
 pub fn groups()
-    ensures told { told lists.groups ≡ Plain (SeatAdded 101) ∷ Plain (DeviceAdded (device 102))
-        ∷ Timed (device 102) (PointerMotion 1 2) 11 ∷ Timed (device 102) (KeyboardKey 30 key_state.Press) 11
-        ∷ Framed (device 102) 7 11 ∷ Timed (device 102) (PointerMotion 1 2) 1000 ∷ Framed (device 102) 9 1000
+    ensures told { told lists.groups ≡ seat_and_device ++ (Timed (device 102) (PointerMotion 1 2) 11
+        ∷ Timed (device 102) (KeyboardKey 30 key_state.Press) 11 ∷ Framed (device 102) 7 11
+        ∷ Timed (device 102) (PointerMotion 1 2) 1000 ∷ Framed (device 102) 9 1000
         ∷ Plain (DeviceResumed (device 102) 9) ∷ Timed (device 102) (KeyboardKey 30 key_state.Press) 2000
         ∷ Framed (device 102) 10 2000 ∷ Plain (KeyboardModifiers (device 102) 10 1 3 2 4)
-        ∷ Timed (device 102) (PointerMotion 1 2) 0 ∷ Framed (device 102) 22 0 ∷ Plain (DevicePaused (device 102) 22)
-        ∷ Plain (Disconnected 1 reason.Disconnected None) ∷ Plain (SeatRemoved 101)
-        ∷ Timed (device 102) (PointerMotion 1 2) 0 ∷ Framed (device 102) 40 0 ∷ Plain (DeviceRemoved (device 102))
-        ∷ [] }
-    ensures refused { refused lists.groups ≡ fails 19 error.DeviceEventBeforeDone
-        ∷ fails 25 error.DeviceEventBeforeDone ∷ [] }
+        ∷ Timed (device 102) (PointerMotion 1 2) 0 ∷ Framed (device 102) 22 0
+        ∷ Plain (DevicePaused (device 102) 22) ∷ Plain (Disconnected 1 reason.Disconnected None)
+        ∷ Plain (SeatRemoved 101) ∷ Timed (device 102) (PointerMotion 1 2) 0 ∷ Framed (device 102) 40 0
+        ∷ Plain (DeviceRemoved (device 102)) ∷ []) }
+    ensures refused { refused lists.groups ≡ all_fail error.DeviceEventBeforeDone (19 ∷ 25 ∷ []) }
     ensures serial { serial_after lists.groups ≡ 40 }
 {}
 
 /// All fourteen inputs, and the frame of a device.
 pub fn all_inputs()
-    ensures told { told lists.all_inputs ≡ Plain (SeatAdded 101) ∷ Plain (DeviceAdded (device 102))
-        ∷ Timed (device 102) (PointerMotion 1 2) 77 ∷ Timed (device 102) (PointerMotionAbsolute 3 4) 77
-        ∷ Timed (device 102) (ScrollDelta 5 6) 77 ∷ Timed (device 102) (ScrollDiscrete (negsuc 119) (pos 120)) 77
+    ensures told { told lists.all_inputs ≡ seat_and_device ++ (Timed (device 102) (PointerMotion 1 2) 77
+        ∷ Timed (device 102) (PointerMotionAbsolute 3 4) 77 ∷ Timed (device 102) (ScrollDelta 5 6) 77
+        ∷ Timed (device 102) (ScrollDiscrete (negsuc 119) (pos 120)) 77
         ∷ Timed (device 102) (ScrollStop true false) 77 ∷ Timed (device 102) (ScrollCancel false true) 77
         ∷ Timed (device 102) (Button 272 button_state.Press) 77
         ∷ Timed (device 102) (KeyboardKey 30 key_state.Released) 77 ∷ Timed (device 102) (TouchDown 1 2 3) 77
         ∷ Timed (device 102) (TouchMotion 1 2 4) 77 ∷ Timed (device 102) (TouchUp 1) 77
         ∷ Timed (device 102) (TouchCancel 9) 77 ∷ Timed (device 102) (TextKeysym 97 key_state.Press) 77
-        ∷ Timed (device 102) (TextUtf8 (codes "abc")) 77 ∷ Framed (device 102) 3 77 ∷ [] }
+        ∷ Timed (device 102) (TextUtf8 (codes "abc")) 77 ∷ Framed (device 102) 3 77 ∷ []) }
     ensures refused { refused lists.all_inputs ≡ [] }
     ensures serial { serial_after lists.all_inputs ≡ 3 }
 {}
 
 /// All seven interfaces go, and go again.
 pub fn all_gone()
-    ensures told { told lists.all_gone ≡ Plain (SeatAdded 101) ∷ Plain (DeviceAdded (device 102)) ∷ [] }
-    ensures refused { refused lists.all_gone ≡ fails 19 error.DeviceEventBeforeDone
-        ∷ fails 20 error.DeviceEventBeforeDone ∷ fails 21 error.DeviceEventBeforeDone
-        ∷ fails 22 error.DeviceEventBeforeDone ∷ fails 24 error.DeviceEventBeforeDone
-        ∷ fails 26 error.DeviceEventBeforeDone ∷ [] }
+    ensures told { told lists.all_gone ≡ seat_and_device }
+    ensures refused { refused lists.all_gone ≡
+        all_fail error.DeviceEventBeforeDone (19 ∷ 20 ∷ 21 ∷ 22 ∷ 24 ∷ 26 ∷ []) }
     ensures serial { serial_after lists.all_gone ≡ 76 }
 {}
 
 /// Events of interfaces that no device has.
 pub fn unknown()
     ensures told { told lists.unknown ≡ [] }
-    ensures refused { refused lists.unknown ≡ fails 0 error.DeviceEventBeforeDone
-        ∷ fails 1 error.DeviceEventBeforeDone ∷ fails 2 error.DeviceEventBeforeDone
-        ∷ fails 3 error.DeviceEventBeforeDone ∷ fails 5 error.DeviceEventBeforeDone
-        ∷ fails 7 error.DeviceEventBeforeDone ∷ fails 8 error.DeviceEventBeforeDone ∷ [] }
+    ensures refused { refused lists.unknown ≡ all_fail error.DeviceEventBeforeDone (0 ∷ 1 ∷ 2 ∷ 3 ∷ 5 ∷ 7 ∷ 8 ∷ []) }
     ensures serial { serial_after lists.unknown ≡ 9 }
 {}
 
 /// Emulation starts and stops; inputs of interfaces that no device has.
 pub fn emulation()
-    ensures told { told lists.emulation ≡ Plain (SeatAdded 101) ∷ Plain (DeviceAdded (device 102))
-        ∷ Plain (DeviceStartEmulating (device 102) 7 1) ∷ Timed (device 102) (KeyboardKey 30 key_state.Press) 1000
-        ∷ Framed (device 102) 8 1000 ∷ Plain (DeviceStopEmulating (device 102) 8) ∷ [] }
-    ensures refused { refused lists.emulation ≡ fails 12 error.DeviceEventBeforeDone
-        ∷ fails 13 error.DeviceEventBeforeDone ∷ fails 14 error.DeviceEventBeforeDone
-        ∷ fails 15 error.DeviceEventBeforeDone ∷ fails 16 error.DeviceEventBeforeDone
-        ∷ fails 17 error.DeviceEventBeforeDone ∷ fails 18 error.DeviceEventBeforeDone
-        ∷ fails 19 error.DeviceEventBeforeDone ∷ fails 20 error.DeviceEventBeforeDone
-        ∷ fails 21 error.DeviceEventBeforeDone ∷ fails 22 error.DeviceEventBeforeDone ∷ [] }
+    ensures told { told lists.emulation ≡ seat_and_device ++ (Plain (DeviceStartEmulating (device 102) 7 1)
+        ∷ Timed (device 102) (KeyboardKey 30 key_state.Press) 1000 ∷ Framed (device 102) 8 1000
+        ∷ Plain (DeviceStopEmulating (device 102) 8) ∷ []) }
+    ensures refused { refused lists.emulation ≡
+        all_fail error.DeviceEventBeforeDone (12 ∷ 13 ∷ 14 ∷ 15 ∷ 16 ∷ 17 ∷ 18 ∷ 19 ∷ 20 ∷ 21 ∷ 22 ∷ []) }
     ensures serial { serial_after lists.emulation ≡ 8 }
 {}
 
 /// Events that come too late, and a second device without a type.
 pub fn late_events()
-    ensures told { told lists.late_events ≡ Plain (SeatAdded 101) ∷ Plain (DeviceAdded (device 102))
-        ∷ Timed (device 102) (PointerMotion 1 2) 8 ∷ Framed (device 102) 3 8 ∷ [] }
+    ensures told { told lists.late_events ≡ seat_and_device ++ (Timed (device 102) (PointerMotion 1 2) 8
+        ∷ Framed (device 102) 3 8 ∷ []) }
     ensures refused { refused lists.late_events ≡ fails 9 error.DeviceSetupEventAfterDone
         ∷ fails 12 error.DeviceSetupEventAfterDone ∷ fails 13 error.DeviceSetupEventAfterDone
         ∷ fails 15 error.NoDeviceType ∷ fails 16 error.DeviceSetupEventAfterDone
@@ -223,10 +203,10 @@ pub fn late_events()
 
 /// Two devices of one seat, each with its own inputs.
 pub fn two_devices()
-    ensures told { told lists.two_devices ≡ Plain (SeatAdded 101) ∷ Plain (DeviceAdded (device 102))
-        ∷ Plain (DeviceAdded (device 180)) ∷ Timed (device 180) (PointerMotion 9 9) 5 ∷ Framed (device 180) 3 5
+    ensures told { told lists.two_devices ≡ seat_and_device ++ (Plain (DeviceAdded (device 180))
+        ∷ Timed (device 180) (PointerMotion 9 9) 5 ∷ Framed (device 180) 3 5
         ∷ Timed (device 102) (PointerMotion 1 2) 1000 ∷ Framed (device 102) 4 1000
-        ∷ Plain (DeviceResumed (device 102) 4) ∷ [] }
+        ∷ Plain (DeviceResumed (device 102) 4) ∷ []) }
     ensures refused { refused lists.two_devices ≡ [] }
     ensures serial { serial_after lists.two_devices ≡ 4 }
 {}

@@ -5,11 +5,11 @@ use Rattle.ei_reported.proofs.standing.interfaces_after.Goals as goal
 pub returns : goal.returns
 returns c = record {
   gets = interface_gets;
-  refused = interface_refused;
+  refused = λ before d i name version h id. interface_refused before d i name version id h;
   device_goes = interface_device_goes;
   dropped = interface_dropped;
-  done = interface_done;
-  not_pending = interface_not_pending;
+  done = λ before d h id. interface_done before d id h;
+  not_pending = λ before d h id. interface_not_pending before d id h;
   goes = interface_goes;
-  other = other_interface;
+  other = λ before m h id. other_interface before m id h;
 }

@@ -7,10 +7,10 @@ returns c = record {
   comes = pending_comes;
   done = pending_done;
   goes = pending_goes;
-  added = added_done;
-  refused = added_refused;
+  added = λ before seat h id. added_done before seat id h;
+  refused = λ before seat h id. added_refused before seat id h;
   removed = added_goes;
   came = added_comes;
-  other_pending = other_seat_pending;
-  other_added = other_seat_added;
+  other_pending = λ before m h id. other_seat_pending before m id h;
+  other_added = λ before m h id. other_seat_added before m id h;
 }

@@ -5,9 +5,9 @@ use Rattle.ei_reported.proofs.standing.seats_of_devices.Goals as goal
 
 pub returns : goal.returns
 returns c = record {
-  comes = seat_of_comes;
-  refused = seat_of_refused;
-  other = other_seat_of;
+  comes = λ before seat device h id. seat_of_comes before seat device id h;
+  refused = λ before seat device h id. seat_of_refused before seat device id h;
+  other = λ before m h id. other_seat_of before m id h;
   typed = seat_of_typed;
   done = seat_of_done;
   goes = seat_of_goes;
