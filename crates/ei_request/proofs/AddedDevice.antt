@@ -1,5 +1,5 @@
 -- A device that is announced and described as a whole.
-use Rattle.std.proofs.Common.{◌≡◌, ℕ, ◌+◌, Bool, true, false, ◌||◌, List, [], ◌∷◌, ◌++◌, Option, Some, None, refl, sym, ap, subst, ◌∙◌}
+use Rattle.std.proofs.Common.{◌≡◌, ℕ, ◌+◌, true, List, [], ◌∷◌, ◌++◌, Option, Some, None, refl, sym, ap, subst, ◌∙◌}
 use Rattle.std.specs.Prelude.{IsSome}
 use Rattle.std.specs.Option.{option_map}
 use Rattle.ei_spec.specs.declared.interface.KnownInterface.{KnownInterface}
@@ -14,7 +14,7 @@ use Rattle.ei_request.specs.Connection.{ConnectionView, version_in}
 use Rattle.ei_request.specs.Keys.{DeviceKey}
 use Rattle.ei_request.specs.Held.{SeatView, DeviceView}
 use Rattle.ei_request.specs.Sending.{next_object}
-use Rattle.ei_request.specs.Making.{granted, granted_by, is_keyboard, has_keyboard, announces_all, objects_of, object_of, begins_device, ends_device, new_device, makes_device, AddsDevice}
+use Rattle.ei_request.specs.Making.{granted, granted_by, has_keyboard, announces_all, objects_of, object_of, begins_device, ends_device, new_device, makes_device, AddsDevice}
 use Rattle.ei_request.specs.declared.making.DeviceSetup.{DeviceSetup}
 use Rattle.ei_request.proofs.MadeInTurn.{same_objects}
 

@@ -14,7 +14,7 @@ use Rattle.ei_request.specs.declared.event.EisRequest.{EisRequest}
 use Rattle.ei_request.specs.Held.{DeviceView, group_of, waiting_of}
 use Rattle.ei_request.specs.Connection.{ConnectionView}
 use Rattle.ei_request.specs.Converter.{ConverterView}
-use Rattle.ei_request.specs.Refusing.{refusal, Tells}
+use Rattle.ei_request.specs.Refusing.{refusal}
 use Rattle.ei_request.specs.Handling.{Times, is_some_waiting, device_in, emptied_at, closes, closes_group, handled, ClosesWith, HandlesTo}
 use Rattle.ei_request.specs.Handling.{queued_of, closed_of, start_of, stop_of, ready_of}
 

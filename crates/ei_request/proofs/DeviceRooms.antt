@@ -1,10 +1,10 @@
 -- The room that the messages take which announce and describe a device.
-use Rattle.std.proofs.Common.{◌≡◌, ℕ, ◌+◌, ◌≤◌, List, [], ◌∷◌, ◌++◌, length, refl, sym, ap, ◌∙◌, subst, arith}
+use Rattle.std.proofs.Common.{◌≡◌, ℕ, ◌+◌, ◌≤◌, List, [], ◌∷◌, length, sym, ap, subst, arith}
 use Rattle.std.specs.List.{flat_map}
 use Rattle.std.proofs.lemmas.List.{length-append, append-nil}
 use Rattle.ei_spec.specs.declared.handle.Handle.{Handle}
 use Rattle.ei_spec.specs.Piece.{Piece}
-use Rattle.ei_spec.specs.Value.{Value, Word, Long, Letters, Fd, written, handles_of}
+use Rattle.ei_spec.specs.Value.{Value, Letters, written, handles_of}
 use Rattle.ei_spec.specs.Message.{message, bytes_of, size}
 use Rattle.ei_backend.specs.Backend.{BackendView, unsent_of, sent}
 use Rattle.ei_backend.specs.Outgoing.{HasSpare, Room}

@@ -1,5 +1,5 @@
 -- Objects that go, one after another.
-use Rattle.std.proofs.Common.{◌≡◌, ℕ, ◌+◌, ◌*◌, ◌≤◌, List, [], ◌∷◌, ◌++◌, refl, arith}
+use Rattle.std.proofs.Common.{◌≡◌, ℕ, ◌≤◌, List, [], ◌∷◌, ◌++◌, refl, arith}
 use Rattle.ei_spec.specs.Piece.{Piece}
 use Rattle.ei_backend.specs.Endpoint.{Endpoint}
 use Rattle.ei_backend.specs.Outgoing.{HasSpare, Room}

@@ -2,10 +2,9 @@
 use Rattle.std.proofs.Common.{◌≡◌, ℕ, ◌+◌, ◌<◌, ◌≤◌, zero, suc, Bool, true, false, ◌||◌, List, [], ◌∷◌, ◌++◌, length, take, get_or, Option, Some, None, refl, sym, ap, ◌∙◌, append_assoc, arith}
 use Rattle.std.specs.Borrow.{Bor}
 use Rattle.std.specs.Prelude.{nat_lt, codes}
-use Rattle.std.specs.List.{flat_map, list_any, sum_by}
+use Rattle.std.specs.List.{list_any}
 use Rattle.std.proofs.lemmas.Bool.Decides.{nat_tests}
 use Rattle.std.proofs.lemmas.List.{take_more, append-nil}
-use Rattle.std.proofs.lemmas.List.Sums.{sum_by_more, sum_by_more_le}
 use Rattle.std.proofs.lemmas.Grind.{flat_map-append}
 use Rattle.ei_spec.specs.declared.handle.Handle.{Handle}
 use Rattle.ei_spec.specs.declared.interface.KnownInterface.TheVariants as known
@@ -19,7 +18,7 @@ use Rattle.ei_handshake.specs.Handshaker.{sends}
 use Rattle.ei_session.specs.Arguments.{event}
 use Rattle.ei_session.specs.Replies.{name_event}
 use Rattle.ei_request.specs.Sending.{sends_on, device_name_event}
-use Rattle.ei_request.specs.Making.{setup_event, setup_events, setup_handle, setup_handles, tells_item, item_room, setup_room, is_long_item, is_long_name, is_long_description, item_letters}
+use Rattle.ei_request.specs.Making.{setup_event, setup_events, setup_handle, setup_handles, tells_item, is_long_item, is_long_name, is_long_description, item_letters}
 use Rattle.ei_request.specs.declared.making.DeviceSetup.{DeviceSetup}
 use Rattle.ei_request.specs.declared.making.DeviceSetup.TheVariants as setup
 

@@ -1,5 +1,5 @@
 -- Interfaces that are announced one after another.
-use Rattle.std.proofs.Common.{◌≡◌, ℕ, ◌+◌, ◌<◌, ◌≤◌, Bool, true, false, cond, List, [], ◌∷◌, ◌++◌, length, take, drop, get_or, Option, Some, None, refl, sym, ap, ◌∙◌, append_assoc, arith}
+use Rattle.std.proofs.Common.{◌≡◌, ℕ, ◌+◌, ◌<◌, ◌≤◌, Bool, true, false, List, [], ◌∷◌, ◌++◌, length, take, drop, get_or, Some, None, refl, sym, ap, ◌∙◌, append_assoc, arith}
 use Rattle.std.specs.Prelude.{if◌then◌else◌, ◌&&◌}
 use Rattle.std.specs.List.{flat_map, cons_option}
 use Rattle.std.proofs.lemmas.List.{take_more, take_all, take-append-drop, append-nil, length-append}
@@ -8,7 +8,7 @@ use Rattle.ei_spec.specs.declared.interface.KnownInterface.{KnownInterface}
 use Rattle.ei_spec.specs.Interface.{ObjectView}
 use Rattle.ei_types.specs.declared.capability.DeviceCapability.{DeviceCapability}
 use Rattle.ei_types.specs.declared.capability.DeviceCapabilities.{DeviceCapabilities}
-use Rattle.ei_types.specs.Capability.{capability_list, bit_of, bits_of, interface_of, has_bit}
+use Rattle.ei_types.specs.Capability.{capability_list, bits_of, has_bit}
 use Rattle.ei_backend.specs.Endpoint.{Endpoint}
 use Rattle.ei_backend.specs.Table.{TableView, own_end}
 use Rattle.ei_session.specs.Events.{interface_event}

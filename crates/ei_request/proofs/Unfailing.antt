@@ -1,5 +1,5 @@
 -- Calls that send within the room that was made.
-use Rattle.std.proofs.Common.{◌≡◌, ℕ, ◌+◌, ◌≤◌, List, [], ◌∷◌, ◌++◌, length, Result, Ok, Err, refl, sym, ap, ◌∙◌, arith}
+use Rattle.std.proofs.Common.{◌≡◌, ℕ, ◌+◌, [], ◌∷◌, length, Result, Ok, Err, refl, ap, arith}
 use Rattle.std.specs.Prelude.{IsOk, IsErrOf, IfErr}
 use Rattle.std.proofs.lemmas.List.{length-append}
 use Rattle.ei_spec.specs.Value.{Word}

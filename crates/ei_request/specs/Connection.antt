@@ -1,5 +1,5 @@
 -- The connection of a server.
-use Rattle.std.specs.Prelude.{◌≡◌, ℕ, Bool, false, List, [], Option, Some, None, ◌+◌, ◌%◌, ◌^◌, is_some, unwrap_or, find, refl}
+use Rattle.std.specs.Prelude.{◌≡◌, ℕ, Bool, false, List, [], Option, ◌+◌, ◌%◌, ◌^◌, is_some, unwrap_or, find, refl}
 use Rattle.std.specs.Coded.{Coded, code_by, coded×, coded_ℕ, coded_bool, coded_list, coded_option}
 use Rattle.ei_spec.specs.declared.interface.KnownInterface.{KnownInterface}
 use Rattle.ei_spec.specs.Interface.{ObjectView}

@@ -1,5 +1,5 @@
 -- What the converter does with a request.
-use Rattle.std.specs.Prelude.{◌≡◌, ℕ, Bool, true, false, List, [], ◌∷◌, ◌++◌, Option, Some, None, Result, Ok, Err, is_some, find}
+use Rattle.std.specs.Prelude.{◌≡◌, ℕ, Bool, true, false, List, [], ◌∷◌, ◌++◌, Option, Some, None, Result, Ok, Err, find}
 use Rattle.ei_spec.specs.Interface.{ObjectView}
 use Rattle.ei_server.specs.declared.request.Request.{Request}
 use Rattle.ei_server.specs.Request.{target_of}

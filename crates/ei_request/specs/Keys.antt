@@ -1,5 +1,5 @@
 -- The keys by which a caller names a seat and a device: their objects, told apart by their ids.
-use Rattle.std.specs.Prelude.{ℕ, Bool, List, ◌++◌, ◌&&◌, nat_eq, codes, decimal, refl}
+use Rattle.std.specs.Prelude.{ℕ, Bool, List, ◌++◌, nat_eq, codes, decimal, refl}
 use Rattle.std.specs.Cmp.{IsEquivalence, and_equiv, on_equiv, nat_eq_equiv}
 use Rattle.std.specs.Ordering.{on, eq_of_both}
 use Rattle.std.specs.Coded.{Coded, code_by, coded×}

@@ -1,12 +1,11 @@
 -- Seats and devices that are made.
 use Rattle.std.specs.Prelude.{◌≡◌, ℕ, ◌+◌, true, false, List, [], ◌∷◌, ◌++◌, length, Option, Some, None, find, ◌&&◌, ◌||◌, nat_lt, Bool, if◌then◌else◌, codes}
 use Rattle.std.specs.List.{filter_map, list_any, flat_map, sum_by}
-use Rattle.std.specs.FinMap as map
 use Rattle.ei_spec.specs.declared.handle.Handle.{Handle}
 use Rattle.ei_spec.specs.declared.interface.KnownInterface.{KnownInterface}
 use Rattle.ei_spec.specs.declared.interface.KnownInterface.TheVariants as known
 use Rattle.ei_spec.specs.declared.limits.TheConstants.{MOST_MESSAGE_BYTES}
-use Rattle.ei_spec.specs.Interface.{Interface, Known, ObjectView}
+use Rattle.ei_spec.specs.Interface.{Known, ObjectView}
 use Rattle.ei_spec.specs.Message.{Raw, size}
 use Rattle.ei_spec.specs.Reading.{or_null}
 use Rattle.ei_spec.specs.Value.{Word, Letters, Fd, written}
@@ -21,7 +20,6 @@ use Rattle.ei_session.specs.Arguments.{event}
 use Rattle.ei_session.specs.Replies.{seat_event, name_event, capability_event, capability_events, done_event}
 use Rattle.ei_session.specs.Events.{interface_event, device_done_event}
 use Rattle.ei_handshake.specs.Versions.{VersionMap}
-use Rattle.ei_request.specs.Keys.{DeviceKey}
 use Rattle.ei_request.specs.Held.{SeatView, DeviceView, is_seat}
 use Rattle.ei_request.specs.Connection.{ConnectionView, version_in, is_settled}
 use Rattle.ei_request.specs.Sending.{announces, next_object, sends_on, device_event, device_name_event, device_type_event}

@@ -1,5 +1,5 @@
 -- What the calls of a connection send, and what that makes of the endpoint.
-use Rattle.std.specs.Prelude.{ℕ, ◌+◌, true, List, [], ◌∷◌, ◌++◌, Option, codes}
+use Rattle.std.specs.Prelude.{◌≡◌, ℕ, ◌+◌, true, List, [], ◌∷◌, ◌++◌, Option, codes, Result, OnOk, OnErr, IfErr}
 use Rattle.std.specs.FinMap as map
 use Rattle.ei_spec.specs.declared.interface.KnownInterface.{KnownInterface}
 use Rattle.ei_spec.specs.declared.interface.KnownInterface.TheVariants as known
@@ -7,11 +7,19 @@ use Rattle.ei_spec.specs.Interface.{Known, ObjectView}
 use Rattle.ei_spec.specs.Message.{Raw, bytes_of, all_bytes}
 use Rattle.ei_spec.specs.Reading.{or_null}
 use Rattle.ei_spec.specs.Value.{Word, Long, Letters}
+use Rattle.ei_wire.specs.declared.error.SendError.{SendError}
+use Rattle.ei_wire.specs.declared.error.SendError.TheVariants as send_error
 use Rattle.ei_backend.specs.Backend.{BackendView, removed}
 use Rattle.ei_backend.specs.Endpoint.{Endpoint}
 use Rattle.ei_session.specs.Arguments.{event}
 use Rattle.ei_session.specs.Events.{callback_event, destroyed_event}
 use Rattle.ei_request.specs.Connection.{ConnectionView, next_serial}
+
+-- All is sent, and the value is what that makes of it; or, for want of memory, nothing changes.
+pub record AllOrNothing {A V : Type 0} (result : Result A SendError) (old sent new : V) : Type 0 where
+  pub ok : OnOk result (new ≡ sent)
+  pub err : OnErr result (new ≡ old)
+  pub only : IfErr result (λ e. e ≡ send_error.NoMemory)
 
 -- ---- single events
 

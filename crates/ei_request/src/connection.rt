@@ -20,7 +20,7 @@ ghost use Rattle.ei_backend.specs.Endpoint.{endpoint_of};
 ghost use Rattle.ei_session.specs.Replies.{name_event};
 ghost use Rattle.ei_request.specs.Held.{is_seat, is_device, is_of_key, has_interface, untouched, changed_first, group_of, waiting_of};
 ghost use Rattle.ei_request.specs.Connection.{new_connection, next_serial, holds_device, Unchanged};
-ghost use Rattle.ei_request.specs.Sending.{disconnected_event, no_object_event, says};
+ghost use Rattle.ei_request.specs.Sending.{AllOrNothing, disconnected_event, no_object_event, says};
 ghost use Rattle.ei_request.specs.Removing.{RemovesDevice, RemovesSeat, Disconnects};
 ghost use Rattle.ei_request.specs.Making.{new_seat, AddsSeat, AddsDevice, is_long_name, is_long_description};
 ghost use Rattle.ei_request.specs.Making.{granted, has_keyboard, new_device, NeedsKeyboard};
@@ -213,9 +213,8 @@ impl Connection {
     ///
     /// `NoMemory`: nothing is sent.
     pub fn invalid_object(&mut self, invalid_id: u64) -> Result<(), SendError>
-        ensures ok { OnOk result (self.new ≡ record self.old { ctx = says self.old.ctx (no_object_event self.old.proxy.id self.old.last_serial invalid_id) }) }
-        ensures err { OnErr result (self.new ≡ self.old) }
-        ensures only { IfErr result (λ e. e ≡ send_error.NoMemory) }
+        ensures { AllOrNothing result self.old
+            (record self.old { ctx = says self.old.ctx (no_object_event self.old.proxy.id self.old.last_serial invalid_id) }) self.new }
     {
         self.proxy
             .invalid_object(&mut self.context, self.last_serial, invalid_id)
@@ -341,9 +340,7 @@ impl Connection {
     /// The client releases the seat of that id: `destroyed`, with the next serial. A seat that is held stays, as
     /// released.
     pub(crate) fn release_seat(&mut self, id: u64) -> Result<(), SendError>
-        ensures ok { OnOk result (self.new ≡ releases_seat self.old id) }
-        ensures err { OnErr result (self.new ≡ self.old) }
-        ensures only { IfErr result (λ e. e ≡ send_error.NoMemory) }
+        ensures { AllOrNothing result self.old (releases_seat self.old id) self.new }
     {
         let serial = self.last_serial.wrapping_add(1);
         sending::destroy(&mut self.context, id, serial)?;
@@ -506,9 +503,7 @@ impl Connection {
 impl Connection {
     /// Calls a callback of version 1.
     pub(crate) fn call_back(&mut self, callback: &Callback) -> Result<(), SendError>
-        ensures ok { OnOk result (self.new ≡ calls_back self.old callback.now.id) }
-        ensures err { OnErr result (self.new ≡ self.old) }
-        ensures only { IfErr result (λ e. e ≡ send_error.NoMemory) }
+        ensures { AllOrNothing result self.old (calls_back self.old callback.now.id) self.new }
     {
         callback.done(&mut self.context, 0)
     }
@@ -538,9 +533,7 @@ impl Connection {
     /// The interface of that id leaves its device, if one has it: `destroyed`, with the next serial.
     #[inline(never)]
     fn give_up(&mut self, id: u64) -> Result<(), SendError>
-        ensures ok { OnOk result (self.new ≡ obeys self.old id None) }
-        ensures err { OnErr result (self.new ≡ self.old) }
-        ensures only { IfErr result (λ e. e ≡ send_error.NoMemory) }
+        ensures { AllOrNothing result self.old (obeys self.old id None) self.new }
     {
         if self.devices.find_owner(id).is_none() {
             return Ok(());

@@ -12,7 +12,7 @@ ghost use Rattle.ei_types.specs.Capability.{interface_of};
 ghost use Rattle.ei_session.specs.Events.{resumed_event};
 ghost use Rattle.ei_request.specs.Held.{is_of_key, untouched, changed_first};
 ghost use Rattle.ei_request.specs.Connection.{holds_device, Unchanged};
-ghost use Rattle.ei_request.specs.Sending.{tells, paused_event, start_emulating_event, stop_emulating_event, frame_event};
+ghost use Rattle.ei_request.specs.Sending.{AllOrNothing, tells, paused_event, start_emulating_event, stop_emulating_event, frame_event};
 ghost use Rattle.ei_request.specs.Removing.{RemovesDevice};
 ghost use Rattle.ei_request.specs.Reading.{name_in, interface_in};
 ghost use Rattle.ei_request.specs.Keys.{same_device, same_device_equiv, device_text};
@@ -162,9 +162,7 @@ impl Device {
     /// `NoMemory`: nothing is sent.
     pub fn resumed(&self, conn: &mut Connection) -> Result<(), SendError>
         requires held { holds_device conn.old self.now ≡ true }
-        ensures ok { OnOk result (conn.new ≡ tells conn.old (resumed_event self.now.proxy.id)) }
-        ensures err { OnErr result (conn.new ≡ conn.old) }
-        ensures only { IfErr result (λ e. e ≡ send_error.NoMemory) }
+        ensures { AllOrNothing result conn.old (tells conn.old (resumed_event self.now.proxy.id)) conn.new }
     {
         tell!(conn, serial => self.proxy.resumed(conn.context_mut(), serial))
     }
@@ -175,12 +173,10 @@ impl Device {
     /// `NoMemory`: nothing is sent.
     pub fn paused(&self, conn: &mut Connection) -> Result<(), SendError>
         requires held { holds_device conn.old self.now ≡ true }
-        ensures ok { OnOk result (conn.new ≡ record (tells conn.old (paused_event self.now.proxy.id)) {
+        ensures { AllOrNothing result conn.old (record (tells conn.old (paused_event self.now.proxy.id)) {
           devices = changed_first (is_of_key self.now)
               untouched conn.old.devices;
-        }) }
-        ensures err { OnErr result (conn.new ≡ conn.old) }
-        ensures only { IfErr result (λ e. e ≡ send_error.NoMemory) }
+        }) conn.new }
     {
         tell!(conn, serial => self.proxy.paused(conn.context_mut(), serial))?;
         conn.clear_touches(self);
@@ -193,9 +189,7 @@ impl Device {
     /// `NoMemory`: nothing is sent.
     pub fn start_emulating(&self, conn: &mut Connection, sequence: u32) -> Result<(), SendError>
         requires held { holds_device conn.old self.now ≡ true }
-        ensures ok { OnOk result (conn.new ≡ tells conn.old (λ serial. start_emulating_event self.now.proxy.id serial sequence)) }
-        ensures err { OnErr result (conn.new ≡ conn.old) }
-        ensures only { IfErr result (λ e. e ≡ send_error.NoMemory) }
+        ensures { AllOrNothing result conn.old (tells conn.old (λ serial. start_emulating_event self.now.proxy.id serial sequence)) conn.new }
     {
         tell!(conn, serial => self.proxy.start_emulating(conn.context_mut(), serial, sequence))
     }
@@ -205,9 +199,7 @@ impl Device {
     /// `NoMemory`: nothing is sent.
     pub fn stop_emulating(&self, conn: &mut Connection) -> Result<(), SendError>
         requires held { holds_device conn.old self.now ≡ true }
-        ensures ok { OnOk result (conn.new ≡ tells conn.old (stop_emulating_event self.now.proxy.id)) }
-        ensures err { OnErr result (conn.new ≡ conn.old) }
-        ensures only { IfErr result (λ e. e ≡ send_error.NoMemory) }
+        ensures { AllOrNothing result conn.old (tells conn.old (stop_emulating_event self.now.proxy.id)) conn.new }
     {
         tell!(conn, serial => self.proxy.stop_emulating(conn.context_mut(), serial))
     }
@@ -218,9 +210,7 @@ impl Device {
     /// `NoMemory`: nothing is sent.
     pub fn frame(&self, conn: &mut Connection, time: u64) -> Result<(), SendError>
         requires held { holds_device conn.old self.now ≡ true }
-        ensures ok { OnOk result (conn.new ≡ tells conn.old (λ serial. frame_event self.now.proxy.id serial time)) }
-        ensures err { OnErr result (conn.new ≡ conn.old) }
-        ensures only { IfErr result (λ e. e ≡ send_error.NoMemory) }
+        ensures { AllOrNothing result conn.old (tells conn.old (λ serial. frame_event self.now.proxy.id serial time)) conn.new }
     {
         tell!(conn, serial => self.proxy.frame(conn.context_mut(), serial, time))
     }

@@ -1,4 +1,4 @@
-use Rattle.std.proofs.Common.{sym, ◌∙◌}
+use Rattle.std.proofs.Common.{sym}
 use Rattle.ei_request.specs.Held.{is_seat, released}
 use Rattle.ei_request.proofs.FirstOnes.{changed_here, none_here, changed_none}
 use Rattle.ei_request.proofs.holding.release_seat.Goals as goal

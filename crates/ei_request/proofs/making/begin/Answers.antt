@@ -1,4 +1,4 @@
-use Rattle.std.proofs.Common.{◌≡◌, ℕ, ◌+◌, ◌≤◌, length, arith}
+use Rattle.std.proofs.Common.{◌+◌, length, arith}
 use Rattle.std.specs.Option.{option_copied}
 use Rattle.ei_request.specs.Making.{name_text}
 use Rattle.ei_request.proofs.DeviceRooms.{at_most}

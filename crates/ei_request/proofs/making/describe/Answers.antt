@@ -1,4 +1,4 @@
-use Rattle.std.proofs.Common.{◌≡◌, ℕ, ◌+◌, ◌*◌, ◌≤◌, List, ◌++◌, length, arith, ap, ◌∙◌}
+use Rattle.std.proofs.Common.{◌+◌, ◌*◌, List, ◌++◌, length, arith, ap, ◌∙◌}
 use Rattle.ei_spec.specs.Interface.{ObjectView}
 use Rattle.ei_backend.specs.Endpoint.{endpoint_of}
 use Rattle.ei_request.specs.Connection.{version_in}

@@ -1,4 +1,4 @@
-use Rattle.std.proofs.Common.{◌≡◌, ℕ, ◌+◌, ◌≤◌, length, arith}
+use Rattle.std.proofs.Common.{◌+◌, length, arith}
 use Rattle.ei_request.specs.Making.{setup_room}
 use Rattle.ei_request.proofs.DeviceRooms.{at_most}
 use Rattle.ei_request.proofs.making.end.Goals as goal

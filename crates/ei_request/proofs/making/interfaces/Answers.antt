@@ -1,15 +1,12 @@
-use Rattle.std.proofs.Common.{◌≡◌, ℕ, ◌+◌, ◌*◌, ◌<◌, ◌≤◌, List, ◌++◌, length, take, get_or, sym, ap, ◌∙◌, arith}
-use Rattle.std.proofs.lemmas.List.{length-append}
+use Rattle.std.proofs.Common.{◌+◌, ◌*◌, ◌<◌, List, ◌++◌, length, take, ap, ◌∙◌, arith}
 use Rattle.ei_spec.specs.declared.interface.KnownInterface.{KnownInterface}
 use Rattle.ei_types.specs.declared.capability.DeviceCapability.TheVariants.{Pointer}
 use Rattle.ei_types.specs.Capability.{capability_list}
-use Rattle.ei_backend.specs.Backend.{unsent_of}
 use Rattle.ei_backend.specs.Endpoint.{Endpoint, endpoint_of}
-use Rattle.ei_backend.specs.Outgoing.{HasSpare}
 use Rattle.ei_request.specs.Connection.{version_in}
-use Rattle.ei_request.specs.Making.{announces_all, objects_of, granted, chosen}
+use Rattle.ei_request.specs.Making.{announces_all, objects_of}
 use Rattle.ei_request.proofs.DeviceRooms.{at_most}
-use Rattle.ei_request.proofs.MadeInTurn.{so_far, so_far_more, so_far_all, so_far_few, made_more, listed_more, own_after, client_after, place_left, same_end}
+use Rattle.ei_request.proofs.MadeInTurn.{so_far, so_far_all, made_more, listed_more, client_after, place_left, same_end}
 use Rattle.ei_request.proofs.making.interfaces.Goals as goal
 
 pub loop-one-preserved : goal.loop-one-preserved

@@ -1,4 +1,4 @@
-use Rattle.std.proofs.Common.{◌≡◌, ℕ, List, Option, sym, ap, ◌∙◌}
+use Rattle.std.proofs.Common.{ap, ◌∙◌}
 use Rattle.ei_session.specs.Replies.{name_event}
 use Rattle.ei_request.specs.Making.{is_long_name}
 use Rattle.ei_request.proofs.ItemsInTurn.{long_item}

@@ -1,4 +1,4 @@
-use Rattle.std.proofs.Common.{◌≡◌, ℕ, ◌+◌, ◌≤◌, List, [], ◌∷◌, length, refl, ap, arith}
+use Rattle.std.proofs.Common.{◌+◌, [], ◌∷◌, length, refl, ap, arith}
 use Rattle.ei_spec.specs.Value.{Letters, written}
 use Rattle.ei_backend.specs.Backend.{BackendView, unsent_of}
 use Rattle.ei_request.proofs.Rooms.{ok_at}

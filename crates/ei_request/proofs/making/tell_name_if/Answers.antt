@@ -1,4 +1,4 @@
-use Rattle.std.proofs.Common.{◌≡◌, ℕ, ◌+◌, ◌≤◌, List, length, Option, Some, ap, arith}
+use Rattle.std.proofs.Common.{◌≡◌, ℕ, ◌+◌, List, length, Option, ap, arith}
 use Rattle.std.specs.Borrow.{Bor}
 use Rattle.std.specs.Option.{option_copied}
 use Rattle.ei_spec.specs.Value.{Letters, written}

@@ -1,4 +1,4 @@
-use Rattle.std.proofs.Common.{◌≡◌, ℕ, List, [], ◌∷◌, refl, ap, arith}
+use Rattle.std.proofs.Common.{[], ◌∷◌, refl, ap, arith}
 use Rattle.ei_spec.specs.Value.{Word}
 use Rattle.ei_types.specs.Enums.{device_type_number}
 use Rattle.ei_backend.specs.Backend.{BackendView, unsent_of}

@@ -1,4 +1,4 @@
-use Rattle.std.proofs.Common.{◌≡◌, ℕ, ◌+◌, ◌*◌, ◌≤◌, sym, ap, ◌∙◌, arith}
+use Rattle.std.proofs.Common.{◌+◌, ◌*◌, sym, ap, ◌∙◌, arith}
 use Rattle.ei_types.specs.Capability.{bits_of, capability_list}
 use Rattle.ei_handshake.specs.Handshaker.{sends}
 use Rattle.ei_handshake.proofs.Sending.{sends-nil, sends_more}

@@ -1,7 +1,7 @@
-use Rattle.std.proofs.Common.{◌≡◌, ℕ, ◌+◌, ◌*◌, ◌%◌, ◌^◌, ◌<◌, ◌≤◌, List, ◌∷◌, [], ◌++◌, take, get_or, length, sym, ap, ◌∙◌, arith}
+use Rattle.std.proofs.Common.{ℕ, ◌+◌, ◌*◌, ◌%◌, ◌^◌, List, take, get_or, length, sym, ap, ◌∙◌, arith}
 use Rattle.std.proofs.lemmas.List.{take_more}
 use Rattle.ei_backend.specs.Endpoint.{Endpoint, endpoint_of}
-use Rattle.ei_request.specs.Sending.{destroyed, destroys, destroys_all, serial_after}
+use Rattle.ei_request.specs.Sending.{destroys, destroys_all, serial_after}
 use Rattle.ei_backend.specs.Backend.{BackendView}
 use Rattle.ei_request.proofs.GoneInTurn.{destroys_last, serial_last, less_spare}
 use Rattle.ei_request.proofs.sending.destroy_each.Goals as goal

@@ -1,4 +1,4 @@
-use Rattle.std.proofs.Common.{◌≡◌, ℕ, sym, subst}
+use Rattle.std.proofs.Common.{◌≡◌, sym, subst}
 use Rattle.ei_backend.specs.Backend.{BackendView, unsent_of}
 use Rattle.ei_backend.specs.Outgoing.{HasSpare}
 use Rattle.ei_request.specs.Sending.{destroyed}

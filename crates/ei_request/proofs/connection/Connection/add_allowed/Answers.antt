@@ -1,11 +1,11 @@
-use Rattle.std.proofs.Common.{◌≡◌, ℕ, ◌+◌, ◌*◌, ◌≤◌, List, [], ◌∷◌, ◌++◌, length, refl, sym, ap, ◌∙◌, arith}
+use Rattle.std.proofs.Common.{◌≡◌, ◌+◌, List, [], ◌∷◌, ◌++◌, length, ap, ◌∙◌, arith}
 use Rattle.std.specs.Option.{option_copied}
 use Rattle.ei_spec.specs.declared.interface.KnownInterface.TheVariants as known
 use Rattle.ei_spec.specs.Interface.{ObjectView}
 use Rattle.ei_backend.specs.Endpoint.{endpoint_of}
 use Rattle.ei_request.specs.Connection.{ConnectionView, version_in}
 use Rattle.ei_request.specs.Held.{DeviceView}
-use Rattle.ei_request.specs.Making.{granted, name_text, setup_room, new_device, begins_device}
+use Rattle.ei_request.specs.Making.{granted, name_text, setup_room, begins_device}
 use Rattle.ei_request.proofs.AddedDevice.{made_whole, adds_device, device_is, same_held}
 use Rattle.ei_request.proofs.DeviceRooms.{at_most}
 use Rattle.ei_request.proofs.connection.Connection.add_allowed.Goals as goal

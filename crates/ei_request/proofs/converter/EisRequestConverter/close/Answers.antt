@@ -1,7 +1,7 @@
-use Rattle.std.proofs.Common.{◌≡◌, ℕ, true, ◌<◌, ◌≤◌, ◌++◌, ◌∷◌, [], List, length, sym, ap, ◌∙◌, subst, refl, arith}
+use Rattle.std.proofs.Common.{◌≡◌, ℕ, true, ◌++◌, ◌∷◌, [], List, sym, ap, ◌∙◌, subst, refl, arith}
 use Rattle.std.specs.Prelude.{IsSome}
 use Rattle.ei_request.specs.declared.event.EisRequest.{EisRequest}
-use Rattle.ei_request.specs.Held.{group_of, waiting_of}
+use Rattle.ei_request.specs.Held.{group_of}
 use Rattle.ei_request.specs.Handling.{Times, ClosesWith, device_in, is_some_waiting}
 use Rattle.ei_request.specs.Converter.{ConverterView}
 use Rattle.ei_request.proofs.Closing.{asked_of_clock, not_asked_of_clock, closed_with}
