@@ -1,5 +1,5 @@
 -- An argument's text is that of its content.
-use Rattle.std.proofs.Common.{◌≡◌, ℕ, true, List, [], ◌∷◌, ◌++◌, map, Some, None, refl, ap, ◌∙◌, append_assoc}
+use Rattle.std.proofs.Common.{◌≡◌, ℕ, true, List, [], ◌∷◌, ◌++◌, map, Some, None, refl, ap, ◌∙◌}
 use Rattle.std.specs.Prelude.{codes}
 use Rattle.ei_wire.specs.ArgText.{arg_text}
 use Rattle.ei_wire.specs.declared.arg.Arg.{Arg}
@@ -30,10 +30,9 @@ pub texts_are : (args : List Arg) → commas arg_text args ≡ commas shown_text
 texts_are [] = refl
 texts_are (a ∷ args) = ap (λ (t : List ℕ). t ++ comma_before_each arg_text args) (text_is a) ∙ ap (λ (t : List ℕ). shown_text (shown_of_arg a) ++ t) (behind_are args)
 
--- the line of an event is pushed, and then its newline
-pub event_pushed : (old mid new line : List ℕ) (args : List Arg) (interface : Interface) (id opcode : ℕ) (values : List Value) → line ≡ trace_text true true (Some (bytes_of interface)) id opcode (commas arg_text args) → map shown_of_arg args ≡ shown true interface opcode values →
-    mid ≡ old ++ line → new ≡ mid ++ 10 ∷ [] → new ≡ old ++ event_line interface id opcode values
-event_pushed old mid new line args interface id opcode values is shows pushed ended =
-    let text : line ≡ trace_text true true (Some (bytes_of interface)) id opcode (commas shown_text (shown true interface opcode values)) =
-    is ∙ ap (λ (a : List ℕ). trace_text true true (Some (bytes_of interface)) id opcode a) (texts_are args ∙ ap (λ (l : List Shown). commas shown_text l) shows) in
-    ended ∙ ap (λ (l : List ℕ). l ++ 10 ∷ []) (pushed ∙ ap (λ (l : List ℕ). old ++ l) text) ∙ append_assoc old _ (10 ∷ [])
+-- the line of an event is pushed with its newline
+pub event_pushed : (old new line : List ℕ) (args : List Arg) (interface : Interface) (id opcode : ℕ) (values : List Value) → line ≡ trace_text true true (Some (bytes_of interface)) id opcode (commas arg_text args) ++ 10 ∷ [] →
+    map shown_of_arg args ≡ shown true interface opcode values → new ≡ old ++ line → new ≡ old ++ event_line interface id opcode values
+event_pushed old new line args interface id opcode values is shows pushed =
+    let text : commas arg_text args ≡ commas shown_text (shown true interface opcode values) = texts_are args ∙ ap (λ (l : List Shown). commas shown_text l) shows in
+    pushed ∙ ap (λ (l : List ℕ). old ++ l) (is ∙ ap (λ (a : List ℕ). trace_text true true (Some (bytes_of interface)) id opcode a ++ 10 ∷ []) text)

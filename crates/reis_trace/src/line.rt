@@ -2,7 +2,6 @@
 
 ghost use Rattle.std.specs.Prelude.{◌≡◌, IfOk};
 ghost use Rattle.std.specs.Option.{option_map};
-ghost use Rattle.std.specs.String.{string_bytes};
 ghost use Rattle.ei_spec.specs.Interface.{bytes_of};
 ghost use Rattle.ei_wire.specs.ArgText.{arg_text};
 ghost use Rattle.reis_trace.specs.TraceLine.{trace_text, commas, name_shown, arrow, operation};
@@ -30,30 +29,45 @@ pub fn trace_line(
     ensures { IfOk result (λ line. line ≡ trace_text client incoming (option_map (λ o. bytes_of o.now.interface) object.entry)
         object_id opcode (commas arg_text args.now)) }
 {
-    let line = line_of(alloc, client, incoming, object, object_id, opcode, args)?;
-    EiText::new(alloc, line.as_str())
+    let line = Line {
+        client,
+        incoming,
+        object,
+        object_id,
+        opcode,
+        args,
+    };
+    EiText::new(alloc, format!(in alloc; "{line}")?.as_str())
 }
 
-/// The same as a text that more can be put behind.
-pub(crate) fn line_of(
-    alloc: Global,
-    client: bool,
-    incoming: bool,
-    object: Option<&Object>,
-    object_id: u64,
-    opcode: u32,
-    args: &[Arg<'_>],
-) -> Result<String, NoMemory>
-    ensures { IfOk result (λ line. string_bytes line ≡ trace_text client incoming (option_map (λ o. bytes_of o.now.interface) object.entry)
-        object_id opcode (commas arg_text args.now)) }
-{
-    let interface = object.map(|o| o.interface());
-    let name = operation(client, incoming, interface, opcode);
-    let arrow = arrow(incoming);
-    let interface = name_shown(interface);
-    let name = name_shown(name);
-    let args = Commas(args);
-    Ok(format!(in alloc; "{arrow}{interface}@{object_id:x}.{name}({args})")?)
+/// A message that an end sent or got, which is shown as its line.
+#[derive(Drop)]
+pub(crate) struct Line<'a> {
+    /// Whether the end is a client.
+    pub(crate) client: bool,
+    pub(crate) incoming: bool,
+    pub(crate) object: Option<&'a Object>,
+    pub(crate) object_id: u64,
+    pub(crate) opcode: u32,
+    pub(crate) args: &'a [Arg<'a>],
+}
+
+impl fmt::Display for Line<'_> {
+    ghost use Rattle.std.specs.Prelude.{Some};
+
+    ghost output = { λ l. Some (trace_text l.client l.incoming (option_map (λ o. bytes_of o.now.interface) l.object)
+        l.object_id l.opcode (commas arg_text l.args.now)) };
+
+    fn fmt<W: fmt::Write>(&self, f: &mut fmt::Formatter<W>) -> fmt::Result {
+        let interface = self.object.map(|o| o.interface());
+        let name = operation(self.client, self.incoming, interface, self.opcode);
+        let arrow = arrow(self.incoming);
+        let interface = name_shown(interface);
+        let object_id = self.object_id;
+        let name = name_shown(name);
+        let args = Commas(self.args);
+        write!(f, "{arrow}{interface}@{object_id:x}.{name}({args})")
+    }
 }
 
 /// An arrow before a message that comes in.

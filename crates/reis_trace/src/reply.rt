@@ -8,7 +8,7 @@ ghost use Rattle.reis_trace.specs.Pieces.{bytes_alone};
 ghost use Rattle.reis_trace.specs.Traced.{event_line, traced_bytes};
 ghost use Rattle.reis_trace.specs.SoFar.{answer_line, IsPushed, TracesNext, IsTraced};
 
-use crate::line::line_of;
+use crate::line::Line;
 use crate::one_piece::OnePiece;
 use ei_backend::{MessageEnum, PendingRequestResult};
 use ei_client::{Context, Event};
@@ -119,16 +119,15 @@ fn push_event(alloc: Global, event: &Event, lines: &mut Vec<u8>) -> Result<(), N
 {
     let args = event.args(alloc)?;
     let object = event.object();
-    let line = line_of(
-        alloc,
-        true,
-        true,
-        Some(object),
-        object.id(),
-        event.opcode(),
-        &args,
-    )?;
-    lines.extend_from_slice(line.as_bytes())?;
-    lines.push(b'\n')?;
+    let line = Line {
+        client: true,
+        incoming: true,
+        object: Some(object),
+        object_id: object.id(),
+        opcode: event.opcode(),
+        args: &args,
+    };
+    let text = format!(in alloc; "{line}\n")?;
+    lines.extend_from_slice(text.as_bytes())?;
     Ok(())
 }
