@@ -1,5 +1,5 @@
 -- What a session is between its turns, and how little it holds then.
-use Rattle.std.proofs.Common.{◌≡◌, ◌≤◌, ◌<◌, ℕ, List, length, Bool, true, false, Result, Ok, Err, inl, inr, refl, ap, arith}
+use Rattle.std.proofs.Common.{◌≡◌, ◌≤◌, ◌<◌, ℕ, List, length, true, false, Result, Ok, Err, inl, inr, refl, sym, ap, ◌∙◌, arith}
 use Rattle.std.specs.Prelude.{◌↔◌}
 use Rattle.ei_spec.specs.declared.handle.Handle.{Handle}
 use Rattle.ei_spec.specs.declared.limits.TheConstants.{MOST_MESSAGE_BYTES}
@@ -91,22 +91,10 @@ some_after setup pieces times (Ok turn.Disconnect) t x y h e = let g : false ≡
 some_after setup pieces times (Ok turn.End) t x y h e = let g : false ≡ true = e in absurd cc
 some_after setup pieces times (Err e) t x y h g = let f : false ≡ true = g in absurd cc
 
--- and behind any other answer it is over
-after : (r : Result Turn Error) (t : SessionState) (b : Bool) → goes_on r ≡ b → (goes_on r ≡ true → StandsForSome t) → (goes_on r ≡ false → IsOver t) → IsSession t
-after r t true e some over = inr (some e)
-after r t false e some over = inl (over e)
+-- so does a session that wasn't over
+pub stands_after : (s t : SessionState) (is : IsSession s) (going : IsOver s → ⊥) (r : Result Turn Error) (x y : Around) → ((setup : Setup) (pieces : List Piece) (times : List ℕ) → Stands setup pieces times s → Turns setup pieces times r t x y) → goes_on r ≡ true → StandsForSome t
+stands_after s t is going r x y turns e = let b = stands_for_some s is going in some_after b.setup b.pieces b.times r t x y (turns b.setup b.pieces b.times b.stands) e
 
-module _ (s t : SessionState) (is : IsSession s) (going : IsOver s → ⊥) (r : Result Turn Error) (x y : Around) (turns : (setup : Setup) (pieces : List Piece) (times : List ℕ) → Stands setup pieces times s → Turns setup pieces times r t x y) (over : goes_on r ≡ false → IsOver t) where
-  some : goes_on r ≡ true → StandsForSome t
-  some e = let b = stands_for_some s is going in some_after b.setup b.pieces b.times r t x y (turns b.setup b.pieces b.times b.stands) e
-
-  pub session_after : IsSession t
-  session_after = after r t (goes_on r) refl some over
-
-  no_end : (b : Bool) → goes_on r ≡ b → IsOver t → goes_on r ≡ false
-  no_end true e h = let f = some e in absurd (not_over f.setup f.pieces f.times t f.stands h)
-  no_end false e h = e
-
-  -- it is over exactly behind another answer
-  pub over_exactly : (goes_on r ≡ false) ↔ IsOver t
-  over_exactly = (over, no_end (goes_on r) refl)
+-- it isn't over then
+pub over_exactly : (r : Result Turn Error) (t : SessionState) → goes_on r ≡ true → StandsForSome t → (goes_on r ≡ false) ↔ IsOver t
+over_exactly r t e b = (λ f. let g : true ≡ false = sym e ∙ f in absurd cc, λ over. absurd (not_over b.setup b.pieces b.times t b.stands over))

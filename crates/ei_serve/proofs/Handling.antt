@@ -8,16 +8,18 @@ use Rattle.ei_spec.specs.Stream.{Reading, read}
 use Rattle.ei_spec.proofs.FrontLaws.{shorter}
 use Rattle.ei_spec.proofs.GoesOn.{read_short, read_unlawful, read_accepted, read_final, read_refused}
 use Rattle.ei_session.specs.Setup.{Setup}
+use Rattle.ei_backend.specs.Endpoint.{Endpoint}
 use Rattle.ei_session.specs.Refusals.{Refusal as Cause, Parse, judge}
 use Rattle.ei_session.specs.Served.{Disconnect, IdsExhausted, Refused, answer_at}
 use Rattle.ei_types.specs.declared.error.Error.{Error}
 use Rattle.ei_types.specs.declared.error.Error.TheVariants as error
 use Rattle.ei_wire.specs.declared.error.ParseError.TheVariants as parse_error
 use Rattle.ei_serve.specs.declared.phase.Phase.{Phase}
+use Rattle.ei_serve.specs.declared.phase.Phase.TheVariants as phase
 use Rattle.ei_serve.specs.declared.phase.Step.TheVariants as step
 use Rattle.ei_serve.specs.declared.session.Turn.{Turn}
 use Rattle.ei_serve.specs.Around.{Around}
-use Rattle.ei_serve.specs.Standing.{StandsAt}
+use Rattle.ei_serve.specs.Standing.{StandsAt, unread_in}
 use Rattle.ei_serve.specs.Refusing.{refusal_of}
 use Rattle.ei_serve.specs.Steps.{Goes, RefusesFront, RefusesStep, EndsWith, Waits, HandlesOne, Steps}
 use Rattle.ei_serve.specs.Turning.{HandlesOn, HandlesTo, HandlesToRefusal, RefusesAll, HandlesAll}
@@ -127,6 +129,12 @@ all_read setup past times rest handles n p x y h e =
     let none : length h.unread ≡ 0 = omega (arith, h.fewer, e) in
     let s = read_short (judge setup) h.now h.unread (nothing_left h.unread none) in
     record { used = h.used; stands = rw (h.same ∙ s) (record { waits = refl; phase = h.phase }); goes = rw (h.same ∙ s) h.goes }
+
+-- so many bytes are unread in a phase that stands
+pub unread_at : (setup : Setup) (past : List Raw) (times rest : List ℕ) (handles : List Handle) (p : Phase) → StandsAt setup past times rest handles p → unread_in p ≡ length rest
+unread_at setup past times rest handles (phase.Handshake b h) s = ap (λ (e : Endpoint). length e.unread) s.1.endpoint
+unread_at setup past times rest handles (phase.Connected c) s = ap length s.unread
+unread_at setup past times rest handles phase.Over s = absurd s
 
 -- the rounds ended with as many as there were bytes
 pub all_rounds : (n len rest : ℕ) → len ≤ n → n ≤ len → len ≡ rest → n ≡ rest

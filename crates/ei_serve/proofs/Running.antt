@@ -101,7 +101,7 @@ none_accepted : (setup : Setup) → accepted setup (stream []) ≡ []
 none_accepted setup = ap (λ (r : Reading Cause). r.past) (nothing_read setup)
 
 -- a session that just started stands for no pieces
-pub stands_for_none : (setup : Setup) (s : SessionState) → setup_of s.setup ≡ setup → StandsAt setup [] [] [] [] s.phase → s.taken ≡ 0 → Stands setup [] [] s
+pub stands_for_none : (setup : Setup) (s : SessionState) → setup_of s.start.setup ≡ setup → StandsAt setup [] [] [] [] s.phase → s.taken ≡ 0 → Stands setup [] [] s
 unfolding handle_count
 stands_for_none setup s started phase taken = record {
   started = started;

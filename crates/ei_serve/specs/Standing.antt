@@ -1,5 +1,6 @@
 -- What a session stands for: the pieces that it took.
-use Rattle.std.specs.Prelude.{◌≡◌, ℕ, ◌≤◌, ◌<◌, ◌^◌, ◌⊎◌, false, List, [], length, is_some, codes}
+use Rattle.std.specs.Prelude.{◌≡◌, ℕ, ◌≤◌, ◌<◌, ◌^◌, ◌⊎◌, false, List, [], length, Option, Some, None, is_some, unwrap_or, codes}
+use Rattle.std.specs.Option.{option_map}
 use Rattle.ei_spec.specs.declared.handle.Handle.{Handle}
 use Rattle.ei_spec.specs.declared.interface.KnownInterface.TheVariants as known
 use Rattle.ei_spec.specs.Interface.{Known, ObjectView}
@@ -82,16 +83,25 @@ StandsAt setup past times rest handles (phase.Handshake b h) = (times ≡ []) ×
 StandsAt setup past times rest handles (phase.Connected c) = IsConnected setup past times rest handles c
 StandsAt setup past times rest handles phase.Over = ⊥
 
--- how many bytes wait to be sent in a phase, and how many its ring of unread ones holds
+-- the endpoint of a phase; over, it has none
+abbrev pub context_in : Phase → Option BackendView
+context_in (phase.Handshake b h) = Some b
+context_in (phase.Connected c) = Some c.handle.ctx
+context_in phase.Over = None
+
+-- so many bytes of it, and none where there is none
+abbrev pub counted_in : (BackendView → ℕ) → Phase → ℕ
+counted_in count p = unwrap_or (option_map count (context_in p)) 0
+
+-- how many bytes of a phase are not read, how many wait to be sent, and how many its ring of unread ones holds
+abbrev pub unread_in : Phase → ℕ
+unread_in p = counted_in (λ b. length b.unread) p
+
 abbrev pub unsent_in : Phase → ℕ
-unsent_in (phase.Handshake b h) = length b.unsent
-unsent_in (phase.Connected c) = length c.handle.ctx.unsent
-unsent_in phase.Over = 0
+unsent_in p = counted_in (λ b. length b.unsent) p
 
 abbrev pub capacity_in : Phase → ℕ
-capacity_in (phase.Handshake b h) = b.capacity
-capacity_in (phase.Connected c) = c.handle.ctx.capacity
-capacity_in phase.Over = 0
+capacity_in p = counted_in (λ b. b.capacity) p
 
 -- whether a phase is that of the handshake
 abbrev pub IsShaking : Phase → Type 0
@@ -122,7 +132,7 @@ HoldsFewBytesIn phase.Over = Unit {0}
 -- The session was started with the setup, took these pieces and used these readings, and goes on: it handled the
 -- messages of their stream, and what follows them is unread.
 pub record Stands (setup : Setup) (pieces : List Piece) (times : List ℕ) (s : SessionState) : Type 0 where
-  pub started : setup_of s.setup ≡ setup
+  pub started : setup_of s.start.setup ≡ setup
   pub goes_on : (k : ℕ) → 1 ≤ k → k ≤ length pieces → is_over setup pieces k ≡ false
   pub waits : (reading_of setup (stream pieces)).stop ≡ Waiting
   pub unread : List Handle

@@ -38,7 +38,7 @@ use Rattle.ei_serve.specs.declared.phase.Rejected.{Rejected}
 use Rattle.ei_serve.specs.declared.phase.Step.{Step}
 use Rattle.ei_serve.specs.declared.phase.Step.TheVariants as step
 use Rattle.ei_serve.specs.Refusing.{refusal_of}
-use Rattle.ei_serve.specs.Around.{Around, AreDrawn, LeavesReadings}
+use Rattle.ei_serve.specs.Around.{Around, around, AreDrawn, LeavesReadings}
 use Rattle.ei_serve.specs.Standing.{StandsAt, ShakesHands, IsConnected, most_capacity, quiet, connection_object, connection_table}
 
 -- ---- what a session gives and answers
@@ -217,3 +217,8 @@ Steps setup past times rest handles (Ok step.Waiting) p old new = Waits setup pa
 Steps setup past times rest handles (Ok step.Handled) p old new = HandlesOne setup past times rest handles p old new
 Steps setup past times rest handles (Ok step.Disconnect) p old new = EndsWith setup past times rest false old new
 Steps setup past times rest handles (Err e) p old new = RefusesStep setup past times rest e old new
+
+-- the same during the handshake: nothing is handed out and no reading is taken, whatever was handed out and is left to read
+abbrev pub StepsInHandshake : Setup → List Raw → List ℕ → List ℕ → List Handle → Result Step Error → Phase → Option Piece → Option Piece → Type 0
+StepsInHandshake setup past times rest handles r p old new = (out : List EisRequest) (readings : Option (List ℕ)) →
+    Steps setup past times rest handles r p (around None out old readings) (around None out new readings)

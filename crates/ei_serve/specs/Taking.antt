@@ -42,7 +42,7 @@ with_next pieces piece = pieces ++ piece ∷ []
 
 -- the session took one more piece and has not looked at it
 pub record Holds (setup : Setup) (pieces : List Piece) (times : List ℕ) (piece : Piece) (s : SessionState) : Type 0 where
-  pub started : setup_of s.setup ≡ setup
+  pub started : setup_of s.start.setup ≡ setup
   pub room : length pieces < setup.pieces
   pub unread : List Handle
   pub phase : StandsAt setup (accepted setup (stream pieces)) times ((reading_of setup (stream pieces)).rest ++ piece.bytes) unread s.phase

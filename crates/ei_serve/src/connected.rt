@@ -18,33 +18,36 @@ use crate::phase::{
     Rejected, Step, refuse, refuse_flush, refuse_memory, refuse_parse, refuse_send,
 };
 use crate::policy::{Policy, policy_behind};
-use crate::session::Setup;
+use crate::state::Start;
 use ei_backend::{Clock, PendingRequestResult, Sink};
 use ei_handshake::EisHandshakeResp;
 use ei_request::{EisRequest, EisRequestConverter};
 use ei_server::{Context, Request};
 use ei_types::Error;
 use ei_wire::NoMemory;
-use std::alloc::Global;
 
 /// Goes over to the connection, and announces the seat.
 pub(crate) fn connect<K: Sink>(
-    alloc: Global,
+    start: Start,
     context: Context,
     resp: EisHandshakeResp,
-    setup: Setup,
     sink: &mut K,
 ) -> Result<EisRequestConverter, Error>
     ensures connects { (before : List Raw) (finish : Raw) (after : List ℕ) (handles : List Handle) →
         connected before ≡ false → is_finish finish ≡ true →
-        HandsOver (setup_of setup) before after handles resp context →
-        Connects (setup_of setup) before finish after handles result (K.taken sink.old) (K.taken sink.new) }
+        HandsOver (setup_of start.setup) before after handles resp context →
+        Connects (setup_of start.setup) before finish after handles result (K.taken sink.old) (K.taken sink.new) }
     ensures sink { LentSink K.faults K.later (IsErrOf result error.WriteFault) sink.old sink.new }
     ensures no_read_fault { IsErrOf result error.ReadFault → ⊥ }
 {
-    let mut converter = EisRequestConverter::new(alloc, context, resp, setup.initial_serial);
+    let mut converter = EisRequestConverter::new(
+        start.alloc,
+        context,
+        resp,
+        start.setup.initial_serial,
+    );
     let handle = converter.handle_mut();
-    handle.add_seat(None, setup.capabilities)?;
+    handle.add_seat(None, start.setup.capabilities)?;
     handle.context_mut().flush(sink)?;
     Ok(converter)
 }

@@ -1,6 +1,7 @@
 //! The two phases of a session, message by message.
 
-ghost use Rattle.std.specs.Prelude.{◌≡◌, ◌≤◌, ◌<◌, ◌↔◌, List, Option, [], ℕ, true, false, length, None, Some, IsTrue, IsErrOf, OnOk, OnErr, IfOk, IfErr};
+ghost use Rattle.std.specs.Prelude.{◌≡◌, ◌≤◌, ◌<◌, ◌↔◌, List, [], ℕ, true, false, length, None, Some, IsTrue, IsErrOf, OnOk, OnErr, IfOk, IfErr};
+ghost use Rattle.std.specs.Option.{option_map};
 ghost use Rattle.ei_spec.specs.declared.handle.Handle.{Handle};
 ghost use Rattle.ei_spec.specs.Message.{Raw};
 ghost use Rattle.ei_types.specs.Capability.{all_bits};
@@ -15,14 +16,15 @@ ghost use Rattle.ei_session.specs.Handshake.{connected, is_finish};
 ghost use Rattle.ei_serve.specs.declared.phase.Phase.TheVariants as phases;
 ghost use Rattle.ei_serve.specs.Around.{around};
 ghost use Rattle.ei_serve.specs.Causes.{Greeted, GreetedInPart, RefusesToStart};
-ghost use Rattle.ei_serve.specs.Standing.{unsent_in, capacity_in, IsOpenIn, IsShaking, StandsAt, setup_of};
-ghost use Rattle.ei_serve.specs.Steps.{Steps, AsksToFinishIn, HandsOverIn, ConnectsPhase, told};
+ghost use Rattle.ei_serve.specs.Standing.{context_in, unread_in, unsent_in, capacity_in, IsOpenIn, IsShaking, StandsAt, setup_of};
+ghost use Rattle.ei_serve.specs.Steps.{Steps, StepsInHandshake, AsksToFinishIn, HandsOverIn, ConnectsPhase, told};
 ghost use Rattle.ei_serve.specs.Taking.{ReadsPhase};
 ghost use Rattle.ei_serve.specs.Turning.{HandlesAll};
 
 use crate::connected::{connect, converse};
 use crate::handshaking::{Shaken, shake};
-use crate::session::{Setup, Turn};
+use crate::session::Turn;
+use crate::state::Start;
 use ei_backend::{Clock, Sink, Source};
 use ei_handshake::{EisHandshakeResp, EisHandshaker};
 use ei_request::{EisRequest, EisRequestConverter};
@@ -143,38 +145,36 @@ impl Phase {
         matches!(self, Phase::Connected(_))
     }
 
-    /// How many bytes came and are not read yet.
-    pub(crate) fn unread_len(&self) -> usize
-        ensures { (setup : Started) (past : List Raw) (times rest : List ℕ) (handles : List Handle) → StandsAt setup past times rest handles self.now
-            → result ≡ length rest }
+    /// The endpoint; none where it is over.
+    fn context(&self) -> Option<&Context>
+        ensures { option_map (λ c. c.now) result ≡ context_in self.now }
     {
         match self {
-            Phase::Handshake(context, _) => context.unread_len(),
-            Phase::Connected(converter) => converter.handle().context().unread_len(),
-            Phase::Over => 0,
+            Phase::Handshake(context, _) => Some(context),
+            Phase::Connected(converter) => Some(converter.handle().context()),
+            Phase::Over => None,
         }
+    }
+
+    /// How many bytes came and are not read yet.
+    pub(crate) fn unread_len(&self) -> usize
+        ensures { result ≡ unread_in self.now }
+    {
+        self.context().map_or(0, |context| context.unread_len())
     }
 
     /// How many bytes wait to be sent.
     pub(crate) fn unsent_len(&self) -> usize
         ensures { result ≡ unsent_in self.now }
     {
-        match self {
-            Phase::Handshake(context, _) => context.unsent_len(),
-            Phase::Connected(converter) => converter.handle().context().unsent_len(),
-            Phase::Over => 0,
-        }
+        self.context().map_or(0, |context| context.unsent_len())
     }
 
     /// How many bytes may be unread before the ring that holds them grows.
     pub(crate) fn ring_capacity(&self) -> usize
         ensures { result ≡ capacity_in self.now }
     {
-        match self {
-            Phase::Handshake(context, _) => context.ring_capacity(),
-            Phase::Connected(converter) => converter.handle().context().ring_capacity(),
-            Phase::Over => 0,
-        }
+        self.context().map_or(0, |context| context.ring_capacity())
     }
 
     /// Takes a piece.
@@ -196,16 +196,15 @@ impl Phase {
     #[inline(always)]
     pub(crate) fn step<K: Sink, C: Clock>(
         &mut self,
-        alloc: Global,
-        setup: Setup,
+        start: Start,
         sink: &mut K,
         clock: &mut C,
         out: &mut Vec<EisRequest>,
         why: &mut Error,
     ) -> Result<Step, Rejected>
         ensures steps { (past : List Raw) (times rest : List ℕ) (handles : List Handle) →
-            StandsAt (setup_of setup) past times rest handles self.old →
-            Steps (setup_of setup) past times rest handles (told result why.new) self.new
+            StandsAt (setup_of start.setup) past times rest handles self.old →
+            Steps (setup_of start.setup) past times rest handles (told result why.new) self.new
             (around None out.old.items (K.taken sink.old) (C.readings clock.old)) (around None out.new.items (K.taken sink.new) (C.readings clock.new)) }
         ensures sink { LentSink K.faults K.later (IsErrOf (told result why.new) error.WriteFault) sink.old sink.new }
         ensures no_read_fault { IsErrOf (told result why.new) error.ReadFault → ⊥ }
@@ -213,7 +212,7 @@ impl Phase {
     {
         match self {
             Phase::Connected(converter) => converse(converter, sink, clock, out, why),
-            Phase::Handshake(_, _) => self.step_in_handshake(alloc, setup, sink, why),
+            Phase::Handshake(_, _) => self.step_in_handshake(start, sink, why),
             Phase::Over => Ok(Step::Waiting),
         }
     }
@@ -222,16 +221,13 @@ impl Phase {
     #[inline(never)]
     fn step_in_handshake<K: Sink>(
         &mut self,
-        alloc: Global,
-        setup: Setup,
+        start: Start,
         sink: &mut K,
         why: &mut Error,
     ) -> Result<Step, Rejected>
         requires { IsShaking self.old }
-        ensures steps { (past : List Raw) (times rest : List ℕ) (handles : List Handle) (out : List EisRequest) (readings : Option (List ℕ)) →
-            StandsAt (setup_of setup) past times rest handles self.old →
-            Steps (setup_of setup) past times rest handles (told result why.new) self.new
-            (around None out (K.taken sink.old) readings) (around None out (K.taken sink.new) readings) }
+        ensures steps { (past : List Raw) (times rest : List ℕ) (handles : List Handle) → StandsAt (setup_of start.setup) past times rest handles self.old →
+            StepsInHandshake (setup_of start.setup) past times rest handles (told result why.new) self.new (K.taken sink.old) (K.taken sink.new) }
         ensures sink { LentSink K.faults K.later (IsErrOf (told result why.new) error.WriteFault) sink.old sink.new }
         ensures no_read_fault { IsErrOf (told result why.new) error.ReadFault → ⊥ }
     {
@@ -241,7 +237,7 @@ impl Phase {
         match shake(context, handshaker, why) {
             Ok(Shaken::Waiting) => Ok(Step::Waiting),
             Ok(Shaken::Handled) => Ok(Step::Handled),
-            Ok(Shaken::Finish(handshake)) => self.finish(&handshake, alloc, setup, sink, why),
+            Ok(Shaken::Finish(handshake)) => self.finish(&handshake, start, sink, why),
             Err(rejected) => Err(rejected),
         }
     }
@@ -252,16 +248,14 @@ impl Phase {
     fn finish<K: Sink>(
         &mut self,
         handshake: &Handshake,
-        alloc: Global,
-        setup: Setup,
+        start: Start,
         sink: &mut K,
         why: &mut Error,
     ) -> Result<Step, Rejected>
         requires { IsShaking self.old }
-        ensures steps { (past : List Raw) (times rest : List ℕ) (handles : List Handle) (out : List EisRequest) (readings : Option (List ℕ)) →
-            AsksToFinishIn (setup_of setup) past times rest handles handshake.now self.old →
-            Steps (setup_of setup) past times rest handles (told result why.new) self.new
-            (around None out (K.taken sink.old) readings) (around None out (K.taken sink.new) readings) }
+        ensures steps { (past : List Raw) (times rest : List ℕ) (handles : List Handle) →
+            AsksToFinishIn (setup_of start.setup) past times rest handles handshake.now self.old →
+            StepsInHandshake (setup_of start.setup) past times rest handles (told result why.new) self.new (K.taken sink.old) (K.taken sink.new) }
         ensures sink { LentSink K.faults K.later (IsErrOf (told result why.new) error.WriteFault) sink.old sink.new }
         ensures no_read_fault { IsErrOf (told result why.new) error.ReadFault → ⊥ }
     {
@@ -269,7 +263,7 @@ impl Phase {
             unreachable!();
         };
         match handshaker.finish(context, handshake) {
-            Ok(resp) => match self.connect(alloc, resp, setup, sink) {
+            Ok(resp) => match self.connect(start, resp, sink) {
                 Ok(()) => Ok(Step::Handled),
                 Err(error) => Err(refuse(why, error)),
             },
@@ -280,37 +274,35 @@ impl Phase {
     /// Goes over to the connection.
     fn connect<K: Sink>(
         &mut self,
-        alloc: Global,
+        start: Start,
         resp: EisHandshakeResp,
-        setup: Setup,
         sink: &mut K,
     ) -> Result<(), Error>
         ensures connects { (before : List Raw) (finish : Raw) (after : List ℕ) (handles : List Handle) →
             connected before ≡ false → is_finish finish ≡ true →
-            HandsOverIn (setup_of setup) before after handles resp self.old →
-            ConnectsPhase (setup_of setup) before finish after handles result self.new (K.taken sink.old) (K.taken sink.new) }
+            HandsOverIn (setup_of start.setup) before after handles resp self.old →
+            ConnectsPhase (setup_of start.setup) before finish after handles result self.new (K.taken sink.old) (K.taken sink.new) }
         ensures sink { LentSink K.faults K.later (IsErrOf result error.WriteFault) sink.old sink.new }
         ensures no_read_fault { IsErrOf result error.ReadFault → ⊥ }
     {
         let Phase::Handshake(context, _) = mem::replace(self, Phase::Over) else {
             return Ok(());
         };
-        *self = Phase::Connected(connect(alloc, context, resp, setup, sink)?);
+        *self = Phase::Connected(connect(start, context, resp, sink)?);
         Ok(())
     }
 
     /// Handles every whole message.
     pub(crate) fn handle_messages<K: Sink, C: Clock>(
         &mut self,
-        alloc: Global,
-        setup: Setup,
+        start: Start,
         sink: &mut K,
         clock: &mut C,
         out: &mut Vec<EisRequest>,
     ) -> Result<Turn, Error>
         ensures handles { (past : List Raw) (times rest : List ℕ) (handles : List Handle) →
-            StandsAt (setup_of setup) past times rest handles self.old →
-            HandlesAll (setup_of setup) past times rest handles result self.new
+            StandsAt (setup_of start.setup) past times rest handles self.old →
+            HandlesAll (setup_of start.setup) past times rest handles result self.new
             (around None out.old.items (K.taken sink.old) (C.readings clock.old)) (around None out.new.items (K.taken sink.new) (C.readings clock.new)) }
         ensures sink { LentSink K.faults K.later (IsErrOf result error.WriteFault) sink.old sink.new }
         ensures no_read_fault { IsErrOf result error.ReadFault → ⊥ }
@@ -319,7 +311,7 @@ impl Phase {
         // Each message has bytes, so there are no more messages than bytes.
         let mut why = Error::NoMemory;
         for _message in 0..self.unread_len() {
-            let step = match self.step(alloc, setup, sink, clock, out, &mut why) {
+            let step = match self.step(start, sink, clock, out, &mut why) {
                 Ok(step) => step,
                 Err(_) => return Err(why),
             };

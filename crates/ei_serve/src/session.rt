@@ -12,7 +12,7 @@ ghost use Rattle.ei_serve.specs.Standing.{Stands, IsOver, HoldsLittle, setup_of,
 ghost use Rattle.ei_serve.specs.Turning.{Turns, IsAtEnd, goes_on};
 
 use crate::phase::Phase;
-use crate::state::SessionState;
+use crate::state::{SessionState, Start, goes_on};
 use ei_backend::{Clock, Sink, Source};
 use ei_request::EisRequest;
 use ei_types::{DeviceCapabilities, Error};
@@ -93,8 +93,7 @@ impl Session {
         let phase = Phase::start(alloc, setup.initial_serial, sink)?;
         Ok(Session {
             state: SessionState {
-                alloc,
-                setup,
+                start: Start { alloc, setup },
                 phase,
                 taken: 0,
             },
@@ -168,6 +167,12 @@ impl Session {
         ensures sink { LentSink K.faults K.later (IsErrOf result error.WriteFault) sink.old sink.new }
         ensures clock { LentClock C.later clock.old clock.new }
     {
-        self.state.take_turn(source, sink, clock, out)
+        let came = self.state.take_piece(source);
+        let answer = self.state.answer(came, sink, clock, out);
+        if goes_on(&answer) {
+            return answer;
+        }
+        self.state.phase = Phase::Over;
+        answer
     }
 }

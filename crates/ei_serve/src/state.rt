@@ -1,14 +1,15 @@
-//! What a session holds, and a turn over it.
+//! What a session holds, and the parts of a turn over it.
 
-ghost use Rattle.std.specs.Prelude.{◌≡◌, List, ℕ, ◌<◌, ◌^◌, nat_le, Ok, false, IsErrOf};
+ghost use Rattle.std.specs.Prelude.{◌≡◌, ◌↔◌, List, Option, ℕ, ◌<◌, ◌^◌, nat_le, Ok, false, IsErrOf};
 ghost use Rattle.ei_session.specs.Setup.{Setup as Started};
 ghost use Rattle.ei_types.specs.declared.error.Error.TheVariants as error;
 ghost use Rattle.ei_backend.specs.Outside.{Piece};
 ghost use Rattle.ei_backend.specs.Lent.{LentSource, LentSink, LentClock};
 ghost use Rattle.ei_serve.specs.Around.{around};
-ghost use Rattle.ei_serve.specs.Standing.{Stands, StandsForSome, IsOver};
+ghost use Rattle.ei_serve.specs.Standing.{Stands, StandsForSome};
 ghost use Rattle.ei_serve.specs.Taking.{TakesPiece, piece_came};
 ghost use Rattle.ei_serve.specs.Turning.{Turns, IsAtEnd, goes_on, at_end};
+ghost use Rattle.ei_serve.specs.declared.state.SessionState.{SessionState};
 
 use crate::phase::Phase;
 use crate::session::{Setup, Turn};
@@ -18,79 +19,65 @@ use ei_types::Error;
 use ei_wire::ReadError;
 use std::alloc::Global;
 
+/// What a session starts with: where memory comes from, and the setup.
+#[derive(Clone, Copy)]
+pub(crate) struct Start {
+    pub(crate) alloc: Global,
+    pub(crate) setup: Setup,
+}
+
 /// What a session holds: between two turns, and while one is under way.
 #[derive(Drop)]
 pub(crate) struct SessionState {
-    pub(crate) alloc: Global,
-    pub(crate) setup: Setup,
+    pub(crate) start: Start,
     pub(crate) phase: Phase,
     pub(crate) taken: u32,
 }
 
 impl SessionState {
-    /// The turn. The session is over after an answer other than `GoOn`.
-    pub(crate) fn take_turn<S: Source, K: Sink, C: Clock>(
-        &mut self,
-        source: &mut S,
-        sink: &mut K,
-        clock: &mut C,
-        out: &mut Vec<EisRequest>,
-    ) -> Result<Turn, Error>
-        ensures turns { (setup : Started) (pieces : List Piece) (times : List ℕ) → Stands setup pieces times self.old →
-            Turns setup pieces times result self.new (around (S.left source.old) out.old.items (K.taken sink.old) (C.readings clock.old))
-            (around (S.left source.new) out.new.items (K.taken sink.new) (C.readings clock.new)) }
-        ensures over { goes_on result ≡ false → IsOver self.new }
-        ensures source { LentSource S.faults S.last S.later (IsErrOf result error.ReadFault)
-            (StandsForSome self.old × IsAtEnd result) source.old source.new }
-        ensures sink { LentSink K.faults K.later (IsErrOf result error.WriteFault) sink.old sink.new }
-        ensures clock { LentClock C.later clock.old clock.new }
-    {
-        let answer = self.try_turn(source, sink, clock, out);
-        if goes_on(&answer) {
-            return answer;
-        }
-        self.phase = Phase::Over;
-        answer
-    }
-
-    /// The turn, with the phase left as it is at an answer.
-    fn try_turn<S: Source, K: Sink, C: Clock>(
-        &mut self,
-        source: &mut S,
-        sink: &mut K,
-        clock: &mut C,
-        out: &mut Vec<EisRequest>,
-    ) -> Result<Turn, Error>
-        ensures turns { (setup : Started) (pieces : List Piece) (times : List ℕ) → Stands setup pieces times self.old →
-            Turns setup pieces times result self.new (around (S.left source.old) out.old.items (K.taken sink.old) (C.readings clock.old))
-            (around (S.left source.new) out.new.items (K.taken sink.new) (C.readings clock.new)) }
-        ensures source { LentSource S.faults S.last S.later (IsErrOf result error.ReadFault)
-            (StandsForSome self.old × IsAtEnd result) source.old source.new }
-        ensures sink { LentSink K.faults K.later (IsErrOf result error.WriteFault) sink.old sink.new }
-        ensures clock { LentClock C.later clock.old clock.new }
-    {
-        if !self.take_piece(source)? {
-            return at_end(self.phase.is_connected());
-        }
-        self.phase
-            .handle_messages(self.alloc, self.setup, sink, clock, out)
-    }
-
     /// Takes a piece; false at the source's end.
-    fn take_piece<S: Source>(&mut self, source: &mut S) -> Result<bool, Error>
+    pub(crate) fn take_piece<S: Source>(&mut self, source: &mut S) -> Result<bool, Error>
         ensures takes { (setup : Started) (pieces : List Piece) (times : List ℕ) → Stands setup pieces times self.old →
             TakesPiece setup pieces times self.old result self.new (S.left source.old) (S.left source.new) }
         ensures source { LentSource S.faults S.last S.later (IsErrOf result error.ReadFault)
             (StandsForSome self.old × (result ≡ Ok false)) source.old source.new }
         ensures no_write_fault { IsErrOf result error.WriteFault → ⊥ }
     {
-        let is_full = is_full(self.taken, self.setup.pieces);
+        let is_full = is_full(self.taken, self.start.setup.pieces);
         let read = self.phase.read(source);
         if !piece_came(is_full, read)? {
             return Ok(false);
         }
         self.taken = self.taken.saturating_add(1);
         Ok(true)
+    }
+
+    /// Answers what was taken: handles every message that the piece made whole, or says what the source's end means.
+    pub(crate) fn answer<K: Sink, C: Clock>(
+        &mut self,
+        came: Result<bool, Error>,
+        sink: &mut K,
+        clock: &mut C,
+        out: &mut Vec<EisRequest>,
+    ) -> Result<Turn, Error>
+        requires no_write_fault { IsErrOf came error.WriteFault → ⊥ }
+        // over a session that stood for some pieces before it took this
+        ensures turns { (setup : Started) (pieces : List Piece) (times : List ℕ) (before : SessionState) (left left_new : Option (List Piece)) →
+            Stands setup pieces times before → TakesPiece setup pieces times before came self.old left left_new →
+            Turns setup pieces times result self.new (around left out.old.items (K.taken sink.old) (C.readings clock.old))
+            (around left_new out.new.items (K.taken sink.new) (C.readings clock.new)) }
+        ensures ends { (setup : Started) (pieces : List Piece) (times : List ℕ) (before : SessionState) (left left_new : Option (List Piece)) →
+            Stands setup pieces times before → TakesPiece setup pieces times before came self.old left left_new →
+            IsAtEnd result → came ≡ Ok false }
+        // what source, sink and clock say
+        ensures read_fault { IsErrOf result error.ReadFault ↔ IsErrOf came error.ReadFault }
+        ensures sink { LentSink K.faults K.later (IsErrOf result error.WriteFault) sink.old sink.new }
+        ensures clock { LentClock C.later clock.old clock.new }
+    {
+        if !came? {
+            return at_end(self.phase.is_connected());
+        }
+        self.phase.handle_messages(self.start, sink, clock, out)
     }
 }
 
@@ -127,7 +114,7 @@ fn at_end(is_connected: bool) -> Result<Turn, Error>
 }
 
 /// Whether the session goes on after the answer.
-fn goes_on(answer: &Result<Turn, Error>) -> bool
+pub(crate) fn goes_on(answer: &Result<Turn, Error>) -> bool
     ensures { result ≡ goes_on answer.now }
 {
     matches!(answer, Ok(Turn::GoOn))

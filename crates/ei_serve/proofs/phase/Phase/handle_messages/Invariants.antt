@@ -9,8 +9,8 @@ use Rattle.ei_serve.proofs.phase.Phase.handle_messages.Given as goal
 
 abbrev pub invariant-loop-message : goal.invariant-loop-message
 invariant-loop-message g l = record {
-  handling : (past : List Raw) (times rest : List ℕ) (handles : List Handle) → StandsAt (setup_of l.setup) past times rest handles l.fn.self →
-      Handling (setup_of l.setup) past times rest handles l._message l.self (around None l.fn.out.items (g.K.Sink.taken l.fn.sink) (g.C.Clock.readings l.fn.clock)) (around None l.out.items (g.K.Sink.taken l.sink) (g.C.Clock.readings l.clock));
+  handling : (past : List Raw) (times rest : List ℕ) (handles : List Handle) → StandsAt (setup_of l.start.setup) past times rest handles l.fn.self →
+      Handling (setup_of l.start.setup) past times rest handles l._message l.self (around None l.fn.out.items (g.K.Sink.taken l.fn.sink) (g.C.Clock.readings l.fn.clock)) (around None l.out.items (g.K.Sink.taken l.sink) (g.C.Clock.readings l.clock));
   sink : LentSink g.K.Sink.faults g.K.Sink.later ⊥ l.fn.sink l.sink;
   clock : LentClock g.C.Clock.later l.fn.clock l.clock;
 }
