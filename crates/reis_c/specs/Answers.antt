@@ -1,8 +1,8 @@
 -- What a call answers to C.
-use Rattle.std.specs.Prelude.{◌≡◌, ℕ, nat_lt, List, ◌++◌, length, drop, Option, Some, None, Result, Ok, Err, if◌then◌else◌}
+use Rattle.std.specs.Prelude.{◌≡◌, ◌≢◌, ℕ, nat_lt, List, ◌++◌, length, drop, Option, Some, None, IsSome, Result, Ok, Err, if◌then◌else◌}
 use Rattle.reis_server.specs.declared.server.CallError.{CallError}
 use Rattle.reis_server.specs.declared.server.CallError.TheVariants as call_error
-use Rattle.reis_c.specs.declared.numbers.TheConstants.{OK, OVER, EMPTY, TOO_LONG, TOO_MANY_HANDLES, NOTHING, NO_ROOM, NOT_UNSENT}
+use Rattle.reis_c.specs.declared.numbers.TheConstants.{OK, NO_MEMORY, OVER, EMPTY, TOO_LONG, TOO_MANY_HANDLES, NOTHING, NO_ROOM, NOT_UNSENT}
 
 -- the number of what a call of the server answers
 abbrev pub answer_number : Result Unit CallError → ℕ
@@ -29,3 +29,7 @@ pub record WritesNone (old : List ℕ) (answer size : ℕ) (new : List ℕ) : Ty
 abbrev pub Writes : Option (List ℕ) → List ℕ → ℕ → ℕ → List ℕ → Type 0
 Writes None old answer size new = WritesNone old answer size new
 Writes (Some text) old answer size new = WritesText text old answer size new
+
+-- The same of a text that memory is wanted for: where that ran out there is a text, and it isn't written.
+abbrev pub WritesMade : Option (List ℕ) → List ℕ → ℕ → ℕ → List ℕ → Type 0
+WritesMade text old answer size new = (answer ≡ NO_MEMORY → IsSome text) × (answer ≢ NO_MEMORY → Writes text old answer size new)

@@ -19,6 +19,10 @@ OnSession None answer None Works = answer ≡ NO_SESSION
 OnSession (Some old) answer (Some new) Works = Works old new
 OnSession old answer new Works = ⊥
 
+-- A call reads the session that is there, and leaves it as it is.
+abbrev pub ReadsSession : Option Held → ℕ → Option Held → (Held → Type 0) → Type 0
+ReadsSession old answer new Says = OnSession old answer new (λ a b. (b ≡ a) × Says a)
+
 -- it was started with the setup: nothing was fed to it, nothing taken from it, and it goes on
 pub record IsStarted (setup : Setup) (held : Held) : Type 0 where
   pub serves : IsServing setup [] nothing [] held.server

@@ -3,8 +3,8 @@
 ghost use Rattle.std.specs.Prelude.{◌≡◌, ◌≢◌, ◌<◌, ◌≤◌, ◌⊎◌, ◌↔◌, IsSome, is_some, if◌then◌else◌, None, Some};
 ghost use Rattle.std.specs.Option.{option_and_then};
 ghost use Rattle.ei_types.specs.Capability.{all_bits};
-ghost use Rattle.reis_c.specs.Answers.{Writes};
-ghost use Rattle.reis_c.specs.Calls.{OnSession, IsStarted, Feeds, TakesEnd, HandsReplies, HandsRequest};
+ghost use Rattle.reis_c.specs.Answers.{Writes, WritesMade};
+ghost use Rattle.reis_c.specs.Calls.{OnSession, ReadsSession, IsStarted, Feeds, TakesEnd, HandsReplies, HandsRequest};
 ghost use Rattle.reis_c.specs.Ending.{end_number, end_text};
 ghost use Rattle.reis_c.specs.Flat.{text_in};
 ghost use Rattle.reis_c.specs.declared.held.Held.{Held};
@@ -148,8 +148,8 @@ pub extern "C" fn reis_c_request_text(
     text: &mut [u8],
     length: &mut usize,
 ) -> u32
-    ensures written { OnSession session.old.held result session.new.held (λ old new. (new ≡ old)
-        × Writes (option_and_then text_in old.last) text.old result length.new text.new) }
+    ensures written { ReadsSession session.old.held result session.new.held
+        (λ held. Writes (option_and_then text_in held.last) text.old result length.new text.new) }
     ensures none { result ≡ NO_SESSION → (length.new ≡ 0) × (text.new ≡ text.old) }
 {
     *length = 0;
@@ -161,8 +161,8 @@ pub extern "C" fn reis_c_request_text(
 /// `NO_SESSION`.
 #[unsafe(no_mangle)]
 pub extern "C" fn reis_c_end(alloc: Global, session: &mut ReisSession, end: &mut u32) -> u32
-    ensures told { OnSession session.old.held result session.new.held (λ old new. (new ≡ old) × (result ≡ OK)
-        × (end.new ≡ end_number old.server.answer)) }
+    ensures told { ReadsSession session.old.held result session.new.held (λ held. (result ≡ OK)
+        × (end.new ≡ end_number held.server.answer)) }
     ensures none { result ≢ OK → end.new ≡ end_number None }
 {
     *end = end_number(None);
@@ -182,9 +182,8 @@ pub extern "C" fn reis_c_end_text(
     text: &mut [u8],
     length: &mut usize,
 ) -> u32
-    ensures written { OnSession session.old.held result session.new.held (λ old new. (new ≡ old)
-        × (result ≡ NO_MEMORY → IsSome (end_text old.server.answer))
-        × (result ≢ NO_MEMORY → Writes (end_text old.server.answer) text.old result length.new text.new)) }
+    ensures written { ReadsSession session.old.held result session.new.held
+        (λ held. WritesMade (end_text held.server.answer) text.old result length.new text.new) }
     ensures none { (result ≡ NO_SESSION) ⊎ (result ≡ NO_MEMORY) → (length.new ≡ 0) × (text.new ≡ text.old) }
 {
     *length = 0;
