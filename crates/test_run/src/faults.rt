@@ -1,7 +1,7 @@
 //! Runs in which one call of the outside fails.
 
 use crate::options::{Options, Row};
-use crate::running::{Ran, ran_over};
+use crate::running::{Ran, Trial};
 use std::alloc::Global;
 use test_table::Stop;
 
@@ -19,7 +19,7 @@ pub(crate) fn fetch_faults(alloc: Global, row: &Row) -> Result<String, Stop> {
     let mut options = row.options;
     for call in 1..=MANY {
         options.fetch = call;
-        let ran = ran_of(alloc, row, &options)?;
+        let ran = ran_of(alloc, row, options)?;
         if ran.status != READ_FAULT {
             return Ok(format!(in alloc; "{} faults, then {}", call - 1, ran.status)?);
         }
@@ -29,11 +29,11 @@ pub(crate) fn fetch_faults(alloc: Global, row: &Row) -> Result<String, Stop> {
 
 /// `put-faults WORD ..`: the same of the output, where what was written is a front of what a run without a fault writes.
 pub(crate) fn put_faults(alloc: Global, row: &Row) -> Result<String, Stop> {
-    let whole = ran_of(alloc, row, &row.options)?;
+    let whole = ran_of(alloc, row, row.options)?;
     let mut options = row.options;
     for call in 1..=MANY {
         options.put = call;
-        let ran = ran_of(alloc, row, &options)?;
+        let ran = ran_of(alloc, row, options)?;
         if !whole.written.starts_with(&ran.written) {
             return Ok(format!(in alloc; "no front at call {call}")?);
         }
@@ -45,7 +45,13 @@ pub(crate) fn put_faults(alloc: Global, row: &Row) -> Result<String, Stop> {
 }
 
 /// The run of the row with these options.
-fn ran_of(alloc: Global, row: &Row, options: &Options) -> Result<Ran, Stop> {
+fn ran_of(alloc: Global, row: &Row, options: Options) -> Result<Ran, Stop> {
     let words = row.started_with(alloc)?;
-    ran_over(alloc, &words, options, options.cuts, &row.text)
+    let trial = Trial {
+        words: &words,
+        options,
+        cut: options.cuts,
+        text: &row.text,
+    };
+    trial.ran(alloc)
 }

@@ -21,7 +21,13 @@ pub(crate) fn run_call(alloc: Global, row: &Row) -> Result<String, Stop> {
     let words = row.started_with(alloc)?;
     let mut said = String::new(alloc);
     for cut in row.options.cuts.split(',') {
-        let ran = ran_over(alloc, &words, &row.options, cut, &row.text)?;
+        let trial = Trial {
+            words: &words,
+            options: row.options,
+            cut,
+            text: &row.text,
+        };
+        let ran = trial.ran(alloc)?;
         let text = ran_text(alloc, &ran)?;
         if !said.is_empty() && said != text {
             return Ok(format!(in alloc; "in cuts of {cut}: {text}")?);
@@ -37,57 +43,46 @@ fn ran_text(alloc: Global, ran: &Ran) -> Result<String, AllocError> {
     format!(in alloc; "{} {text}", ran.status)
 }
 
-/// A run of these words over the text.
-pub(crate) fn ran_over(
-    alloc: Global,
-    words: &[EiText],
-    options: &Options,
-    cut: &str,
-    text: &[u8],
-) -> Result<Ran, Stop> {
-    if options.is_std {
-        ran_over_std(alloc, words, options, cut, text)
-    } else {
-        ran_in_memory(alloc, words, options, text)
+/// What a run is given: its words, the text that it reads and in which cut, and what a row says of the outside.
+#[derive(Clone, Copy)]
+pub(crate) struct Trial<'a> {
+    pub(crate) words: &'a [EiText],
+    pub(crate) options: Options<'a>,
+    pub(crate) cut: &'a str,
+    pub(crate) text: &'a [u8],
+}
+
+impl Trial<'_> {
+    /// The run over the outside that the options name.
+    pub(crate) fn ran(&self, alloc: Global) -> Result<Ran, Stop> {
+        if self.options.is_std {
+            self.ran_over_std(alloc)
+        } else {
+            self.ran_in_memory(alloc)
+        }
     }
-}
 
-/// A run over the types in memory.
-fn ran_in_memory(
-    alloc: Global,
-    words: &[EiText],
-    options: &Options,
-    text: &[u8],
-) -> Result<Ran, Stop> {
-    let mut input = options.memory_text(alloc, text)?;
-    let mut output = options.tray(alloc)?;
-    let mut clock = options.readings(alloc)?;
-    let status = run(alloc, words, &mut input, &mut output, &mut clock);
-    Ok(Ran {
-        status,
-        written: output.bytes().to_vec(alloc)?,
-    })
-}
+    /// The run over the types in memory.
+    fn ran_in_memory(&self, alloc: Global) -> Result<Ran, Stop> {
+        let mut input = self.options.memory_text(alloc, self.text)?;
+        let mut output = self.options.tray(alloc)?;
+        let mut clock = self.options.readings(alloc)?;
+        let status = run(alloc, self.words, &mut input, &mut output, &mut clock);
+        Ok(Ran {
+            status,
+            written: output.bytes().to_vec(alloc)?,
+        })
+    }
 
-/// A run over the outside of the system.
-fn ran_over_std(
-    alloc: Global,
-    words: &[EiText],
-    options: &Options,
-    cut: &str,
-    text: &[u8],
-) -> Result<Ran, Stop> {
-    let mut written = Vec::new(alloc);
-    let ticks = options.ticks(alloc)?;
-    let mut input = StdInput::new(options.reader(cut, text)?);
-    let status = status_over(
-        alloc,
-        words,
-        &mut input,
-        options.writer(&mut written),
-        &ticks,
-    );
-    Ok(Ran { status, written })
+    /// The run over the outside of the system.
+    fn ran_over_std(&self, alloc: Global) -> Result<Ran, Stop> {
+        let mut written = Vec::new(alloc);
+        let ticks = self.options.ticks(alloc)?;
+        let mut input = StdInput::new(self.options.reader(self.cut, self.text)?);
+        let writer = self.options.writer(&mut written);
+        let status = status_over(alloc, self.words, &mut input, writer, &ticks);
+        Ok(Ran { status, written })
+    }
 }
 
 /// The status of a run over this input, into this writer.
