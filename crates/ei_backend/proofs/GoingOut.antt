@@ -66,20 +66,23 @@ flushes held old n (Ok u) bytes handles taken has le all rest kept took =
     took ∙ ap Some (same_piece _ _ _ _ (ap (λ (l : List ℕ). held.bytes ++ l) front) (ap (λ (l : List Handle). held.handles ++ l) beside_it))
 flushes held old n (Err e) bytes handles taken has le all rest kept took = (n, le, took, same_piece _ _ _ _ rest kept)
 
--- a message has its header
-pub has_header : (m : Raw) → 16 ≤ length (bytes_of m)
-unfolding bytes_of header
-has_header m = omega (arith, length-append (le8 m.id ++ (le4 (size m) ++ le4 m.opcode)) m.body, length-append (le8 m.id) (le4 (size m) ++ le4 m.opcode), length-append (le4 (size m)) (le4 m.opcode), len8 m.id, len4 (size m), len4 m.opcode)
+-- a header has 16 bytes
+pub header_length : (id len opcode : ℕ) → length (header id len opcode) ≡ 16
+unfolding header
+header_length id len opcode =
+    omega (arith, length-append (le8 id) (le4 len ++ le4 opcode), length-append (le4 len) (le4 opcode), len8 id, len4 len, len4 opcode)
+
+-- a message has as many bytes as its header says
+pub message_length : (m : Raw) → length (bytes_of m) ≡ size m
+unfolding bytes_of
+message_length m = omega (arith, length-append (header m.id (size m) m.opcode) m.body, header_length m.id (size m) m.opcode)
 
 pub message_waits : (before now : List ℕ) (m : Raw) (handles : List Handle) → now ≡ before ++ bytes_of m → HasBytes now handles
-message_waits before now m handles e = λ none. absurd (omega (arith, has_header m, length-append before (bytes_of m), ap (λ (l : List ℕ). length l) e, none))
+message_waits before now m handles e = λ none.
+    absurd (omega (arith, message_length m, length-append before (bytes_of m), ap (λ (l : List ℕ). length l) e, none))
 
 -- where a message was written behind the bytes, or nothing was
 pub message_waits_if : {E : Type 0} (result : Result (Unit {0}) E) (before now : List ℕ) (m : Raw) (held handles : List Handle) →
     OnOk result (now ≡ before ++ bytes_of m) → OnErr result (now ≡ before) → OnErr result (handles ≡ held) → HasBytes before held → HasBytes now handles
 message_waits_if (Ok u) before now m held handles e same kept has = message_waits before now m handles e
 message_waits_if (Err x) before now m held handles e same kept has = λ none. kept ∙ has (ap (λ (l : List ℕ). length l) (sym same) ∙ none)
-
-pub message_length : (m : Raw) → length (bytes_of m) ≡ size m
-unfolding bytes_of header
-message_length m = omega (arith, length-append (le8 m.id ++ (le4 (size m) ++ le4 m.opcode)) m.body, length-append (le8 m.id) (le4 (size m) ++ le4 m.opcode), length-append (le4 (size m)) (le4 m.opcode), len8 m.id, len4 (size m), len4 m.opcode)

@@ -15,7 +15,8 @@ use Rattle.ei_spec.proofs.RowNames.{row_of_name}
 use Rattle.ei_backend.specs.Table.{TableView, Announced, accept, found, own_end, peer_end}
 use Rattle.ei_backend.specs.Message.{announce, with_new}
 use Rattle.ei_backend.specs.Step.{reading}
-use Rattle.ei_backend.specs.Backend.{BackendView, FrontAnswer, Waits, Refused, Gone, Message, Answers, Brings, next, sent, removed, with_announced, after_row, unsent_of}
+use Rattle.ei_backend.specs.Backend.{BackendView, FrontAnswer, Waits, Refused, Gone, Message, Answers, Brings, next, sent, removed, with_announced}
+use Rattle.ei_backend.specs.Backend.{after_row, unsent_of}
 use Rattle.ei_backend.specs.Sends.{AreOfRow, IsAnnounced, row_size}
 use Rattle.ei_backend.specs.Typed.{piece_of, behind, new_object, new_of, HasSent, HasCome, IsRead, HandsOut}
 use Rattle.ei_backend.specs.declared.message.PendingRequestResult.{PendingRequestResult}

@@ -1,7 +1,6 @@
 -- What a source, a sink, an input and a clock in memory show, and how they count.
-use Rattle.std.specs.Prelude.{◌<◌, ◌≤◌, ℕ, ◌+◌, ◌-◌, ◌^◌, min, List, [], ◌∷◌, length, Result, Ok, Err}
+use Rattle.std.specs.Prelude.{◌≡◌, ◌<◌, ◌≤◌, ◌↔◌, ℕ, ◌+◌, ◌-◌, ◌^◌, min, List, [], ◌∷◌, ◌++◌, length, Contains, Result, Ok, Err}
 use Rattle.ei_spec.specs.Piece.{Piece}
-use Rattle.ei_backend.specs.declared.outside.Fault.{Fault}
 use Rattle.ei_backend.specs.declared.outside.PutError.{PutError}
 use Rattle.ei_backend.specs.declared.outside.PutError.TheVariants as put_errors
 use Rattle.ei_backend.specs.declared.outside.Taken.{Taken}
@@ -14,29 +13,23 @@ pub record FailingView : Type 0 where
   pub calls : ℕ
   pub faults : ℕ
 
--- a source: the pieces left, the calls that fail, the calls and faults so far, the last answer
+-- a source: the pieces left, which calls fail, the last answer
 pub record PiecesView : Type 0 where
   pub left : List Piece
-  pub fails : List ℕ
-  pub calls : ℕ
-  pub faults : ℕ
+  pub failing : FailingView
   pub last : LastAnswer
 
--- a sink: what it took, the calls that fail, the calls, faults and wants of memory so far
+-- a sink: what it took, which calls fail, the wants of memory so far
 pub record TrayView : Type 0 where
   pub held : Piece
-  pub fails : List ℕ
-  pub calls : ℕ
-  pub faults : ℕ
+  pub failing : FailingView
   pub wants : ℕ
 
--- an input: the text left, the bytes given, the calls that fail, the calls and faults so far, the last answer
+-- an input: the text left, the bytes given, which calls fail, the last answer
 pub record TextView : Type 0 where
   pub left : List ℕ
   pub given : List ℕ
-  pub fails : List ℕ
-  pub calls : ℕ
-  pub faults : ℕ
+  pub failing : FailingView
   pub last : LastAnswer
 
 -- a clock: the readings left
@@ -53,21 +46,27 @@ pub record IsPiece (piece : Piece) : Type 0 where
 abbrev pub counted : ℕ → ℕ
 counted n = min (n + 1) (2 ^ 64 - 1)
 
+-- no call fails, and there was none
+abbrev pub never_failing : FailingView
+never_failing = record { fails = []; calls = 0; faults = 0 }
+
+-- the call of that number fails too
+abbrev pub added : ℕ → FailingView → FailingView
+added call failing = record failing { fails = failing.fails ++ call ∷ [] }
+
+-- a call was counted: it failed exactly where its number was to fail, and only then a fault was counted
+pub record CountsCall (failed : Type 0) (old new : FailingView) : Type 0 where
+  pub fails : failed ↔ Contains old.fails (counted old.calls)
+  pub calls : new.calls ≡ counted old.calls
+  pub faults : failed → new.faults ≡ counted old.faults
+  pub kept : ¬ failed → new.faults ≡ old.faults
+  pub later : old.faults ≤ new.faults
+  pub same_fails : new.fails ≡ old.fails
+
 -- the sizes of the first piece, or none where there is no piece
 abbrev pub first_sizes : List Piece → Taken
 first_sizes [] = record { bytes = 0; handles = 0 }
 first_sizes (p ∷ ps) = record { bytes = length p.bytes; handles = length p.handles }
-
--- the count of faults after a call
-abbrev pub faults_after : {T : Type 0} → Result T Fault → ℕ → ℕ
-faults_after (Ok x) faults = faults
-faults_after (Err e) faults = counted faults
-
--- the count of faults after a put: want of memory is none
-abbrev pub faults_after_put : Result ℕ PutError → ℕ → ℕ
-faults_after_put (Ok n) faults = faults
-faults_after_put (Err put_errors.Fault) faults = counted faults
-faults_after_put (Err put_errors.NoMemory) faults = faults
 
 -- the count of wants of memory after a put: a fault is none
 abbrev pub wants_after_put : Result ℕ PutError → ℕ → ℕ

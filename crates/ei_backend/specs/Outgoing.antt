@@ -1,5 +1,7 @@
 -- What waits to be sent, and how it goes out.
-use Rattle.std.specs.Prelude.{◌≡◌, ℕ, zero, suc, ◌+◌, ◌≤◌, max, List, [], map, length, take, drop, Option, Some, Result, Ok, Err}
+use Rattle.std.specs.Prelude.{◌≡◌, ℕ, zero, suc, ◌+◌, ◌≤◌, max, List, [], ◌++◌, map, length, take, drop, vec_len, vec_capacity}
+use Rattle.std.specs.Prelude.{Option, Some, Result, Ok, Err, IsOk, OnOk, OnErr}
+use Rattle.std.specs.Global.{Vec}
 use Rattle.std.specs.List.{flat_map}
 use Rattle.ei_spec.specs.declared.handle.Handle.{Handle}
 use Rattle.ei_spec.specs.Piece.{Piece}
@@ -51,6 +53,13 @@ args_body args = flat_map written (map value_of_arg args)
 -- the handles of arguments
 abbrev pub args_handles : List Arg → List Handle
 args_handles args = flat_map handles_of (map value_of_arg args)
+
+-- bytes are put behind others, or nothing is; a refusal comes only where room was missing, and no room is lost
+pub record Appends {E : Type 0} (bytes : List ℕ) (old new : Vec ℕ) (result : Result (Unit {0}) E) : Type 0 where
+  pub ok : OnOk result (new.items ≡ old.items ++ bytes)
+  pub err : OnErr result (new.items ≡ old.items)
+  pub succeeds : vec_len old + length bytes ≤ vec_capacity old → IsOk result
+  pub capacity : vec_capacity old ≤ vec_capacity new
 
 -- these bytes and handles wait, and so many of each may
 abbrev pub buffered : List ℕ → List Handle → ℕ → ℕ → Buffered

@@ -1,7 +1,7 @@
 //! Which calls of a party in memory fail.
 
-ghost use Rattle.std.specs.Prelude.{◌≡◌, ◌≤◌, ◌↔◌, false, [], ◌∷◌, ◌++◌, OnOk, OnErr, IsTrue, Contains};
-ghost use Rattle.ei_backend.specs.Memory.{FailingView, counted};
+ghost use Rattle.std.specs.Prelude.{◌≡◌, OnOk, OnErr, IsTrue};
+ghost use Rattle.ei_backend.specs.Memory.{CountsCall, added, never_failing};
 
 use ei_wire::NoMemory;
 use std::alloc::Global;
@@ -26,7 +26,7 @@ impl Model for Failing {
 impl Failing {
     /// No call fails.
     pub(crate) fn never(alloc: Global) -> Failing
-        ensures { result ≡ record { fails = []; calls = 0; faults = 0 } }
+        ensures { result ≡ never_failing }
     {
         Failing {
             numbers: Vec::new(alloc),
@@ -37,7 +37,7 @@ impl Failing {
 
     /// The call of that number fails.
     pub(crate) fn add(&mut self, call: u32) -> Result<(), NoMemory>
-        ensures ok { OnOk result (self.new ≡ record self.old { fails = self.old.fails ++ call ∷ [] }) }
+        ensures ok { OnOk result (self.new ≡ added call self.old) }
         ensures err { OnErr result (self.new ≡ self.old) }
     {
         self.numbers.push(u64::from(call))?;
@@ -46,12 +46,7 @@ impl Failing {
 
     /// Counts a call, and answers whether it fails.
     pub(crate) fn fails_next(&mut self) -> bool
-        ensures fails { IsTrue result ↔ Contains self.old.fails (counted self.old.calls) }
-        ensures calls { self.new.calls ≡ counted self.old.calls }
-        ensures faults { IsTrue result → self.new.faults ≡ counted self.old.faults }
-        ensures kept { result ≡ false → self.new.faults ≡ self.old.faults }
-        ensures later { self.old.faults ≤ self.new.faults }
-        ensures same_fails { self.new.fails ≡ self.old.fails }
+        ensures { CountsCall (IsTrue result) self.old self.new }
     {
         self.count = self.count.saturating_add(1);
         let fails = self.numbers.contains(&self.count);

@@ -1,8 +1,8 @@
 //! A text in memory.
 
-ghost use Rattle.std.specs.Prelude.{◌≡◌, ◌<◌, ◌≤◌, ◌↔◌, min, [], ◌∷◌, ◌++◌, Some, drop, length, OnOk, OnErr, IfOk, IsErr, Contains};
+ghost use Rattle.std.specs.Prelude.{◌≡◌, ◌<◌, ◌≤◌, min, [], Some, drop, length, OnOk, OnErr, IfOk, IsErr};
 ghost use Rattle.ei_backend.specs.Outside.{Fetches, Gives, HasCause, last_fetched};
-ghost use Rattle.ei_backend.specs.Memory.{TextView, counted, faults_after};
+ghost use Rattle.ei_backend.specs.Memory.{TextView, CountsCall, added, never_failing};
 
 use crate::failing::Failing;
 use crate::outside::{Fault, Input, LastAnswer};
@@ -28,9 +28,7 @@ impl Model for MemoryText {
     ghost view = { λ s. record {
       left = drop s.next s.text.items;
       given = take s.next s.text.items;
-      fails = s.failing.fails;
-      calls = s.failing.calls;
-      faults = s.failing.faults;
+      failing = s.failing;
       last = s.last;
     } };
 
@@ -41,7 +39,7 @@ impl MemoryText {
     /// An input that gives this text, and never fails.
     pub fn new(alloc: Global, text: &[u8]) -> Result<MemoryText, NoMemory>
         ensures { IfOk result (λ t. t ≡
-            record { left = text.now; given = []; fails = []; calls = 0; faults = 0; last = LastAnswer.Nothing }) }
+            record { left = text.now; given = []; failing = never_failing; last = LastAnswer.Nothing }) }
     {
         Ok(MemoryText {
             text: text.to_vec(alloc)?,
@@ -53,7 +51,7 @@ impl MemoryText {
 
     /// The `fetch` of that number, from 1, fails and moves nothing.
     pub fn fail_at(&mut self, call: u32) -> Result<(), NoMemory>
-        ensures ok { OnOk result (self.new ≡ record self.old { fails = self.old.fails ++ call ∷ [] }) }
+        ensures ok { OnOk result (self.new ≡ record self.old { failing = added call self.old.failing }) }
         ensures err { OnErr result (self.new ≡ self.old) }
     {
         self.failing.add(call)
@@ -67,7 +65,7 @@ impl Input for MemoryText {
 
     ghost last = { λ s. s.last };
 
-    ghost faults = { λ s. s.faults };
+    ghost faults = { λ s. s.failing.faults };
 
     ghost later = { λ _ _. Unit {0} };
 
@@ -81,17 +79,13 @@ impl Input for MemoryText {
         ensures text { Fetches (Some self.old.left) (Some self.new.left) result bytes.new }
         ensures given { Gives self.old.given self.new.given result bytes.new }
         ensures last { self.new.last ≡ last_fetched result }
-        ensures cause { HasCause self.old.faults self.new.faults result }
+        ensures cause { HasCause self.old.failing.faults self.new.failing.faults result }
         // beyond the trait's: which calls fail, and all that there is room for
-        ensures fails { IsErr result ↔ Contains self.old.fails (counted self.old.calls) }
+        ensures counts { CountsCall (IsErr result) self.old.failing self.new.failing }
         ensures whole { IfOk result (λ n. n ≡ min (length self.old.left) (length bytes.old)) }
         // what the slice holds besides
         ensures behind { IfOk result (λ n. drop n bytes.new ≡ drop n bytes.old) }
         ensures err { OnErr result (bytes.new ≡ bytes.old) }
-        // what it counts, and what stays
-        ensures calls { self.new.calls ≡ counted self.old.calls }
-        ensures faults { self.new.faults ≡ faults_after result self.old.faults }
-        ensures same_fails { self.new.fails ≡ self.old.fails }
     {
         if self.failing.fails_next() {
             self.last = LastAnswer::Fault;

@@ -9,7 +9,7 @@ ghost use Rattle.ei_wire.specs.declared.error.SendError.TheVariants as send_erro
 ghost use Rattle.ei_wire.specs.declared.error.FlushError.TheVariants as flush_error;
 ghost use Rattle.ei_backend.specs.Outside.{Piece, with_more};
 ghost use Rattle.ei_backend.specs.Lent.{LentSinkWants};
-ghost use Rattle.ei_backend.specs.Outgoing.{nothing, no_room, more_room, HasRoomFor, args_body, args_handles};
+ghost use Rattle.ei_backend.specs.Outgoing.{Appends, nothing, no_room, more_room, HasRoomFor, args_body, args_handles};
 ghost use Rattle.ei_backend.specs.Outgoing.{with_message, beside, kept_beside, StopsAfter, Flushes};
 
 use crate::outside::{PutError, Sink};
@@ -106,7 +106,7 @@ impl Outgoing {
     ///
     /// `MessageTooLong` exactly where the message would have more than 1048576 bytes, `NoMemory`.
     #[inline(always)]
-    #[tactic(auto, using(crate::proofs::InWords::body_length))]
+    #[tactic(auto, using(crate::proofs::GoingOut::message_length, crate::proofs::InWords::body_length))]
     pub(crate) fn send(
         &mut self,
         object_id: u64,
@@ -179,11 +179,8 @@ fn body_size(args: &[Arg<'_>]) -> Result<u64, SendError>
 
 /// Appends the header of a message, or nothing.
 fn push_header(out: &mut Vec<u8>, id: u64, len: u32, opcode: u32) -> Result<(), NoMemory>
-    ensures ok { OnOk result (out.new.items ≡ out.old.items ++ header id len opcode) }
-    ensures err { OnErr result (out.new.items ≡ out.old.items) }
+    ensures appends { Appends (header id len opcode) out.old out.new result }
     ensures len { OnOk result (vec_len out.new ≡ vec_len out.old + 16) }
-    ensures succeeds { vec_len out.old + 16 ≤ vec_capacity out.old → IsOk result }
-    ensures capacity { vec_capacity out.old ≤ vec_capacity out.new }
 {
     let header = Header {
         object_id: id,
@@ -214,7 +211,7 @@ fn push_args(out: &mut Vec<u8>, handles: &mut Vec<Handle>, args: &[Arg<'_>]) -> 
 
 /// Appends a message, whatever its arguments are, or nothing.
 #[inline(never)]
-#[tactic(auto, unfolding(ei_spec::specs::Message::bytes_of))]
+#[tactic(auto, using(crate::proofs::GoingOut::header_length), unfolding(ei_spec::specs::Message::bytes_of))]
 fn write_message(
     bytes: &mut Vec<u8>,
     handles: &mut Vec<Handle>,

@@ -1,8 +1,8 @@
 //! A source of the pieces that were pushed.
 
-ghost use Rattle.std.specs.Prelude.{◌≡◌, ◌<◌, ◌≤◌, ◌↔◌, [], ◌∷◌, ◌++◌, Some, drop, length, OnOk, OnErr, IfOk, IsErr, Contains};
+ghost use Rattle.std.specs.Prelude.{◌≡◌, ◌<◌, ◌≤◌, [], ◌∷◌, ◌++◌, Some, drop, length, OnOk, OnErr, IfOk, IsErr};
 ghost use Rattle.ei_backend.specs.Outside.{IsPieceSize, TakesTold, HasCause, last_of};
-ghost use Rattle.ei_backend.specs.Memory.{PiecesView, counted, first_sizes, faults_after};
+ghost use Rattle.ei_backend.specs.Memory.{PiecesView, CountsCall, added, first_sizes, never_failing};
 ghost use Rattle.ei_spec.specs.declared.limits.TheConstants.{MOST_PIECE_BYTES, MOST_PIECE_HANDLES};
 
 use crate::failing::Failing;
@@ -34,9 +34,9 @@ impl Model for StoredPiece {
 #[derive(Drop)]
 pub struct Pieces {
     alloc: Global,
+    failing: Failing,
     stored: Vec<StoredPiece>,
     next: usize,
-    failing: Failing,
     last: LastAnswer,
 }
 
@@ -48,9 +48,7 @@ impl Model for Pieces {
 
     ghost view = { λ s. record {
       left = drop s.next s.stored.items;
-      fails = s.failing.fails;
-      calls = s.failing.calls;
-      faults = s.failing.faults;
+      failing = s.failing;
       last = s.last;
     } };
 
@@ -61,15 +59,23 @@ impl Pieces {
     /// A source with no piece, which never fails.
     pub fn new(alloc: Global) -> Pieces
         ensures { result ≡
-            record { left = []; fails = []; calls = 0; faults = 0; last = LastAnswer.Nothing } }
+            record { left = []; failing = never_failing; last = LastAnswer.Nothing } }
     {
         Pieces {
             alloc,
+            failing: Failing::never(alloc),
             stored: Vec::new(alloc),
             next: 0,
-            failing: Failing::never(alloc),
             last: LastAnswer::Nothing,
         }
+    }
+
+    /// The `take` of that number, from 1, fails and moves nothing.
+    pub fn fail_at(&mut self, call: u32) -> Result<(), NoMemory>
+        ensures ok { OnOk result (self.new ≡ record self.old { failing = added call self.old.failing }) }
+        ensures err { OnErr result (self.new ≡ self.old) }
+    {
+        self.failing.add(call)
     }
 
     /// Adds a piece behind the others: 1 to 65536 bytes, and at most 64 handles.
@@ -89,20 +95,12 @@ impl Pieces {
         self.stored.push(piece)?;
         Ok(())
     }
-
-    /// The `take` of that number, from 1, fails and moves nothing.
-    pub fn fail_at(&mut self, call: u32) -> Result<(), NoMemory>
-        ensures ok { OnOk result (self.new ≡ record self.old { fails = self.old.fails ++ call ∷ [] }) }
-        ensures err { OnErr result (self.new ≡ self.old) }
-    {
-        self.failing.add(call)
-    }
 }
 
 impl Source for Pieces {
     ghost left = { λ s. Some s.left };
 
-    ghost faults = { λ s. s.faults };
+    ghost faults = { λ s. s.failing.faults };
 
     ghost last = { λ s. s.last };
 
@@ -117,10 +115,10 @@ impl Source for Pieces {
         requires handle_room { MOST_PIECE_HANDLES ≤ length handles.old }
         ensures size { IfOk result IsPieceSize }
         ensures pieces { TakesTold (Some self.old.left) (Some self.new.left) result bytes.new handles.new }
-        ensures cause { HasCause self.old.faults self.new.faults result }
+        ensures cause { HasCause self.old.failing.faults self.new.failing.faults result }
         ensures last { self.new.last ≡ last_of result }
         // beyond the trait's: which calls fail, and the whole piece
-        ensures fails { IsErr result ↔ Contains self.old.fails (counted self.old.calls) }
+        ensures counts { CountsCall (IsErr result) self.old.failing self.new.failing }
         ensures whole { IfOk result (λ taken. taken ≡ first_sizes self.old.left) }
         // what the slices hold besides the piece
         ensures behind { IfOk result (λ taken. drop taken.bytes bytes.new ≡ drop taken.bytes bytes.old) }
@@ -128,10 +126,6 @@ impl Source for Pieces {
             drop taken.handles handles.new ≡ drop taken.handles handles.old) }
         ensures err { OnErr result (bytes.new ≡ bytes.old) }
         ensures handles_err { OnErr result (handles.new ≡ handles.old) }
-        // what it counts, and what stays
-        ensures calls { self.new.calls ≡ counted self.old.calls }
-        ensures faults { self.new.faults ≡ faults_after result self.old.faults }
-        ensures same_fails { self.new.fails ≡ self.old.fails }
     {
         if self.failing.fails_next() {
             self.last = LastAnswer::Fault;

@@ -1,8 +1,8 @@
 //! A sink that keeps what it takes.
 
-ghost use Rattle.std.specs.Prelude.{◌≡◌, ◌↔◌, [], ◌∷◌, ◌++◌, Some, length, OnOk, OnErr, IfOk, IsErrOf, Contains};
+ghost use Rattle.std.specs.Prelude.{◌≡◌, [], ◌++◌, Some, length, OnOk, OnErr, IfOk, IsErrOf};
 ghost use Rattle.ei_backend.specs.Outside.{HasPutCause, HasPutWant, Puts, IsPutSize, with_more};
-ghost use Rattle.ei_backend.specs.Memory.{TrayView, counted, faults_after_put, wants_after_put};
+ghost use Rattle.ei_backend.specs.Memory.{TrayView, CountsCall, added, never_failing, wants_after_put};
 
 use crate::failing::Failing;
 use crate::outside::{PutError, Sink};
@@ -27,9 +27,7 @@ impl Model for Tray {
 
     ghost view = { λ s. record {
       held = record { bytes = s.bytes.items; handles = s.handles.items };
-      fails = s.failing.fails;
-      calls = s.failing.calls;
-      faults = s.failing.faults;
+      failing = s.failing;
       wants = s.wants;
     } };
 }
@@ -38,7 +36,7 @@ impl Tray {
     /// A sink that took nothing yet, and never fails.
     pub fn new(alloc: Global) -> Tray
         ensures { result ≡
-            record { held = record { bytes = []; handles = [] }; fails = []; calls = 0; faults = 0; wants = 0 } }
+            record { held = record { bytes = []; handles = [] }; failing = never_failing; wants = 0 } }
     {
         Tray {
             bytes: Vec::new(alloc),
@@ -46,6 +44,14 @@ impl Tray {
             failing: Failing::never(alloc),
             wants: 0,
         }
+    }
+
+    /// The `put` of that number, from 1, fails and takes nothing.
+    pub fn fail_at(&mut self, call: u32) -> Result<(), NoMemory>
+        ensures ok { OnOk result (self.new ≡ record self.old { failing = added call self.old.failing }) }
+        ensures err { OnErr result (self.new ≡ self.old) }
+    {
+        self.failing.add(call)
     }
 
     /// The bytes that it took.
@@ -60,14 +66,6 @@ impl Tray {
         ensures { result.now ≡ self.now.held.handles }
     {
         &self.handles
-    }
-
-    /// The `put` of that number, from 1, fails and takes nothing.
-    pub fn fail_at(&mut self, call: u32) -> Result<(), NoMemory>
-        ensures ok { OnOk result (self.new ≡ record self.old { fails = self.old.fails ++ call ∷ [] }) }
-        ensures err { OnErr result (self.new ≡ self.old) }
-    {
-        self.failing.add(call)
     }
 }
 
@@ -95,7 +93,7 @@ fn extend_both(
 impl Sink for Tray {
     ghost taken = { λ s. Some s.held };
 
-    ghost faults = { λ s. s.faults };
+    ghost faults = { λ s. s.failing.faults };
 
     ghost wants = { λ s. s.wants };
 
@@ -108,18 +106,14 @@ impl Sink for Tray {
     fn put(&mut self, bytes: &[u8], handles: &[Handle]) -> Result<usize, PutError>
         ensures size { IfOk result (λ n. IsPutSize n bytes.now) }
         ensures taken { Puts (Some self.old.held) (Some self.new.held) result bytes.now handles.now }
-        ensures cause { HasPutCause self.old.faults self.new.faults result }
+        ensures cause { HasPutCause self.old.failing.faults self.new.failing.faults result }
         ensures want { HasPutWant self.old.wants self.new.wants result }
         // beyond the trait's: which calls fail, and all that was handed to it
-        ensures fails { IsErrOf result PutError.Fault ↔ Contains self.old.fails (counted self.old.calls) }
+        ensures counts { CountsCall (IsErrOf result PutError.Fault) self.old.failing self.new.failing }
+        ensures wants { self.new.wants ≡ wants_after_put result self.old.wants }
         ensures all { IfOk result (λ n. n ≡ length bytes.now) }
         ensures ok { OnOk result (self.new.held ≡ with_more bytes.now handles.now self.old.held) }
         ensures err { OnErr result (self.new.held ≡ self.old.held) }
-        // what it counts, and what stays
-        ensures calls { self.new.calls ≡ counted self.old.calls }
-        ensures faults { self.new.faults ≡ faults_after_put result self.old.faults }
-        ensures wants { self.new.wants ≡ wants_after_put result self.old.wants }
-        ensures same_fails { self.new.fails ≡ self.old.fails }
     {
         if self.failing.fails_next() {
             return Err(PutError::Fault);

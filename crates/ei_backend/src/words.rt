@@ -1,11 +1,10 @@
 //! Short messages: their arguments are numbers alone, a few words of 32 bits.
 
-ghost use Rattle.std.specs.Prelude.{◌≡◌, ◌≤◌, ◌+◌, ◌*◌, ◌++◌, take, length, vec_len, vec_capacity};
-ghost use Rattle.std.specs.Prelude.{IfSome, IsSome, IsOk, OnOk, OnErr, []};
+ghost use Rattle.std.specs.Prelude.{◌≡◌, ◌≤◌, ◌+◌, ◌*◌, ◌++◌, take, length, IfSome, IsSome, []};
 ghost use Rattle.ei_spec.specs.Value.{written, handles_of};
 ghost use Rattle.ei_spec.specs.Message.{bytes_of, header, le4, le8};
 ghost use Rattle.ei_wire.specs.Gives.{value_of_arg};
-ghost use Rattle.ei_backend.specs.Outgoing.{args_body, args_handles};
+ghost use Rattle.ei_backend.specs.Outgoing.{Appends, args_body, args_handles};
 ghost use Rattle.ei_backend.specs.Words.{word_bytes, of_words};
 
 use ei_wire::{Arg, Header, NoMemory};
@@ -84,10 +83,7 @@ pub(crate) fn write_words(
     count: usize,
 ) -> Result<(), NoMemory>
     requires { count ≤ MOST_WORDS }
-    ensures ok { OnOk result (out.new.items ≡ out.old.items ++ bytes_of (of_words object_id opcode (take count words.now))) }
-    ensures err { OnErr result (out.new.items ≡ out.old.items) }
-    ensures succeeds { vec_len out.old + (16 + 4 * count) ≤ vec_capacity out.old → IsOk result }
-    ensures capacity { vec_capacity out.old ≤ vec_capacity out.new }
+    ensures { Appends (bytes_of (of_words object_id opcode (take count words.now))) out.old out.new result }
 {
     match count {
         0 => append::<0>(out, object_id, opcode, words),
@@ -109,10 +105,7 @@ fn append<const N: usize>(
     words: &[u32; MOST_WORDS],
 ) -> Result<(), NoMemory>
     requires { N ≤ MOST_WORDS }
-    ensures ok { OnOk result (out.new.items ≡ out.old.items ++ bytes_of (of_words object_id opcode (take N words.now))) }
-    ensures err { OnErr result (out.new.items ≡ out.old.items) }
-    ensures succeeds { vec_len out.old + (16 + 4 * N) ≤ vec_capacity out.old → IsOk result }
-    ensures capacity { vec_capacity out.old ≤ vec_capacity out.new }
+    ensures { Appends (bytes_of (of_words object_id opcode (take N words.now))) out.old out.new result }
 {
     let mut message = [0; MOST_SHORT_BYTES];
     put_message::<N>(&mut message, object_id, opcode, words);

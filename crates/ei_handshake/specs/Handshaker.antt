@@ -125,14 +125,8 @@ abbrev pub IsSecond : Bool → Error → Type 0
 IsSecond came (error.Handshake handshake_error.DuplicateEvent) = came ≡ true
 IsSecond came e = ⊥
 
--- what takes memory to keep
-abbrev pub TakesMemory : Asked → Type 0
-TakesMemory (asked.InterfaceVersion name version) = Unit {0}
-TakesMemory other = ⊥
-
--- how what is told may be refused
+-- how what is told may be refused: it came before
 abbrev pub RefusesTold : Error → HandshakerView → BackendView → Asked → HandshakerView → BackendView → Type 0
-RefusesTold error.NoMemory h b m new sent = TakesMemory m × Same h b new sent
 RefusesTold e h b m new sent = IsSecond (is_repeated h m) e × Same h b new sent
 
 -- what is told is kept, or refused

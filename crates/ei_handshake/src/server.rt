@@ -95,8 +95,8 @@ impl EisHandshaker {
     /// `NonHandshakeEvent` exactly for a request of another interface; `DuplicateEvent` exactly for a second
     /// name or context type; `MissingInterface` exactly at a `finish` before which ei_connection, ei_callback
     /// or ei_pingpong wasn't announced; `IdsExhausted` exactly at any other `finish` where no own id is left
-    /// for the connection. The last two leave the events of the versions buffered. `NoMemory` at an
-    /// announcement or a `finish`: then nothing is kept or buffered, and only more memory may be ready.
+    /// for the connection. The last two leave the events of the versions buffered. `NoMemory` at a `finish` alone:
+    /// then nothing is buffered, and only more memory may be ready.
     pub fn handle_request(
         &mut self,
         ctx: &mut Context,

@@ -14,7 +14,8 @@ use Rattle.ei_request.specs.Connection.{ConnectionView, version_in}
 use Rattle.ei_request.specs.Keys.{DeviceKey}
 use Rattle.ei_request.specs.Held.{SeatView, DeviceView}
 use Rattle.ei_request.specs.Sending.{next_object}
-use Rattle.ei_request.specs.Making.{granted, granted_by, has_keyboard, announces_all, objects_of, object_of, begins_device, ends_device, new_device, makes_device, AddsDevice}
+use Rattle.ei_request.specs.Making.{granted, granted_by, has_keyboard, announces_all, objects_of, object_of, begins_device, ends_device, new_device}
+use Rattle.ei_request.specs.Making.{makes_device, AddsDevice}
 use Rattle.ei_request.specs.declared.making.DeviceSetup.{DeviceSetup}
 use Rattle.ei_request.proofs.MadeInTurn.{same_objects}
 

@@ -1,5 +1,6 @@
 -- The items of a device's description, told one after another.
-use Rattle.std.proofs.Common.{◌≡◌, ℕ, ◌+◌, ◌<◌, ◌≤◌, zero, suc, Bool, true, false, ◌||◌, List, [], ◌∷◌, ◌++◌, length, take, get_or, Option, Some, None, refl, sym, ap, ◌∙◌, append_assoc, arith}
+use Rattle.std.proofs.Common.{◌≡◌, ℕ, ◌+◌, ◌<◌, ◌≤◌, zero, suc, Bool, true, false, ◌||◌, List, [], ◌∷◌, ◌++◌, length, take, get_or, Option, Some}
+use Rattle.std.proofs.Common.{None, refl, sym, ap, ◌∙◌, append_assoc, arith}
 use Rattle.std.specs.Borrow.{Bor}
 use Rattle.std.specs.Prelude.{nat_lt, codes}
 use Rattle.std.specs.List.{list_any}
@@ -18,7 +19,8 @@ use Rattle.ei_handshake.specs.Handshaker.{sends}
 use Rattle.ei_session.specs.Arguments.{event}
 use Rattle.ei_session.specs.Replies.{name_event}
 use Rattle.ei_request.specs.Sending.{sends_on, device_name_event}
-use Rattle.ei_request.specs.Making.{setup_event, setup_events, setup_handle, setup_handles, tells_item, is_long_item, is_long_name, is_long_description, item_letters}
+use Rattle.ei_request.specs.Making.{setup_event, setup_events, setup_handle, setup_handles, tells_item, is_long_item, is_long_name}
+use Rattle.ei_request.specs.Making.{is_long_description, item_letters}
 use Rattle.ei_request.specs.declared.making.DeviceSetup.{DeviceSetup}
 use Rattle.ei_request.specs.declared.making.DeviceSetup.TheVariants as setup
 

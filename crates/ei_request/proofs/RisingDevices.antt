@@ -1,5 +1,6 @@
 -- Devices whose ids rise: what a search by halves finds, and what keeps them rising.
-use Rattle.std.proofs.Common.{◌≡◌, ◌≢◌, ℕ, zero, suc, ◌-◌, ◌<◌, ◌≤◌, Bool, true, false, cond, eqb, ltb, leb, ◌&&◌, List, [], ◌∷◌, ◌++◌, length, get_or, Some, None, Result, Ok, Err, OnOk, OnErr, refl, sym, ap, ◌∙◌, arith}
+use Rattle.std.proofs.Common.{◌≡◌, ◌≢◌, ℕ, zero, suc, ◌-◌, ◌<◌, ◌≤◌, Bool, true, false, cond, eqb, ltb, leb, ◌&&◌, List, [], ◌∷◌, ◌++◌, length}
+use Rattle.std.proofs.Common.{get_or, Some, None, Result, Ok, Err, OnOk, OnErr, refl, sym, ap, ◌∙◌, arith}
 use Rattle.std.specs.Prelude.{nat_eq, nat_lt, position}
 use Rattle.std.specs.List.{list_any, filter, position_or_len}
 use Rattle.std.specs.List.Sorted.{IsPartitionedBy, IsPartitionPoint}
@@ -7,9 +8,11 @@ use Rattle.std.proofs.lemmas.List.Sums.{position_or_len_is}
 use Rattle.std.proofs.lemmas.Bool.Decides.{nat_tests}
 use Rattle.ei_spec.specs.Interface.{ObjectView}
 use Rattle.ei_request.specs.Keys.{DeviceKey}
-use Rattle.ei_request.specs.Held.{DeviceView, is_device, is_of_key, has_interface, changed_first, without_first, without_interface, emptied, untouched, has_touch, takes_input}
+use Rattle.ei_request.specs.Held.{DeviceView, is_device, is_of_key, has_interface, changed_first, without_first, without_interface, emptied}
+use Rattle.ei_request.specs.Held.{untouched, has_touch, takes_input}
 use Rattle.ei_request.specs.declared.input.Input.{Input}
-use Rattle.ei_request.specs.declared.input.Input.TheVariants.{PointerMotion, PointerMotionAbsolute, Button, ScrollDelta, ScrollStop, ScrollCancel, ScrollDiscrete, KeyboardKey}
+use Rattle.ei_request.specs.declared.input.Input.TheVariants.{PointerMotion, PointerMotionAbsolute, Button, ScrollDelta, ScrollStop, ScrollCancel}
+use Rattle.ei_request.specs.declared.input.Input.TheVariants.{ScrollDiscrete, KeyboardKey}
 use Rattle.ei_request.specs.declared.input.Input.TheVariants.{TouchDown, TouchMotion, TouchUp, TouchCancel, TextKeysym, TextUtf8}
 use Rattle.ei_request.specs.Rising.{ObjectsRise, DevicesRise, Rise, IsOnlyPlace}
 

@@ -10,7 +10,8 @@ use Rattle.ei_spec.specs.Message.{Raw, Front, Short, Unlawful, Whole, front}
 use Rattle.ei_spec.specs.Stream.{Refused as RefusedSo}
 use Rattle.ei_spec.proofs.Faults.{IsNoHeader}
 use Rattle.ei_backend.specs.Table.{TableView, found}
-use Rattle.ei_backend.specs.Backend.{BackendView, BodyOutcome, FrontAnswer, Waits, Refused, Gone, Message, said_of, of_outcome, of_target, of_front, body_read, next, Answers, Brings}
+use Rattle.ei_backend.specs.Backend.{BackendView, BodyOutcome, FrontAnswer, Waits, Refused, Gone, Message, said_of, of_outcome, of_target, of_front}
+use Rattle.ei_backend.specs.Backend.{body_read, next, Answers, Brings}
 use Rattle.ei_backend.specs.declared.message.PendingRequestResult.TheVariants as pending
 use Rattle.ei_wire.specs.Gives.{fault_of}
 use Rattle.ei_wire.specs.declared.error.ParseError.{ParseError}

@@ -14,7 +14,8 @@ use Rattle.ei_serve.specs.declared.session.Turn.{Turn}
 use Rattle.ei_serve.specs.declared.session.Turn.TheVariants as turn
 use Rattle.ei_serve.specs.declared.state.SessionState.{SessionState}
 use Rattle.ei_serve.specs.Around.{Around}
-use Rattle.ei_serve.specs.Standing.{Stands, StandsAt, IsOpenIn, StandsForSome, IsOver, IsSession, HoldsFewBytesIn, HoldsLittle, most_capacity, unsent_in, unsent_of, capacity_in, capacity_of}
+use Rattle.ei_serve.specs.Standing.{Stands, StandsAt, IsOpenIn, StandsForSome, IsOver, IsSession, HoldsFewBytesIn, HoldsLittle, most_capacity}
+use Rattle.ei_serve.specs.Standing.{unsent_in, unsent_of, capacity_in, capacity_of}
 use Rattle.ei_serve.specs.Turning.{Turns, goes_on}
 use Rattle.ei_serve.proofs.FewUnread.{unread_few}
 

@@ -1,5 +1,6 @@
 -- Every whole message, one after another.
-use Rattle.std.proofs.Common.{◌≡◌, ℕ, ◌+◌, ◌≤◌, Bool, true, false, cond, Some, None, List, [], ◌∷◌, ◌++◌, length, Option, Result, Ok, Err, refl, ap, sym, subst, ◌∙◌, append_assoc, arith}
+use Rattle.std.proofs.Common.{◌≡◌, ℕ, ◌+◌, ◌≤◌, Bool, true, false, cond, Some, None, List, [], ◌∷◌, ◌++◌, length, Option, Result, Ok, Err, refl, ap}
+use Rattle.std.proofs.Common.{sym, subst, ◌∙◌, append_assoc, arith}
 use Rattle.std.proofs.lemmas.List.{append-nil}
 use Rattle.ei_spec.specs.declared.handle.Handle.{Handle}
 use Rattle.ei_spec.specs.Reading.{HeaderLength}

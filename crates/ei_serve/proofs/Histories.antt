@@ -12,7 +12,8 @@ use Rattle.ei_spec.proofs.GoesOn as goes_on
 use Rattle.ei_session.specs.Setup.{Setup}
 use Rattle.ei_session.specs.Handshake.{connected}
 use Rattle.ei_session.specs.Refusals.{Refusal as Cause, judge}
-use Rattle.ei_session.specs.Served.{Answer, Disconnect, End, UnexpectedEof, IdsExhausted, PieceLimit, HandleLimit, Refused, Outcome, answer_of, answer_at, is_waiting}
+use Rattle.ei_session.specs.Served.{Answer, Disconnect, End, UnexpectedEof, IdsExhausted, PieceLimit, HandleLimit, Refused, Outcome, answer_of}
+use Rattle.ei_session.specs.Served.{answer_at, is_waiting}
 use Rattle.ei_session.specs.Served.{too_many_handles, at_end, reading_of, read_first, is_over, over_at}
 use Rattle.ei_session.specs.Served.{reading_of, accepted, read_first, is_over, over_at, session}
 use Rattle.ei_session.proofs.AllParts.{session_over, session_end}

@@ -1,5 +1,6 @@
 -- A whole session, turn by turn.
-use Rattle.std.proofs.Common.{◌≡◌, ℕ, zero, suc, ◌+◌, ◌-◌, ◌≤◌, ◌<◌, inl, inr, Bool, true, false, cond, List, [], ◌∷◌, ◌++◌, length, take, drop, get_or, Option, Some, None}
+use Rattle.std.proofs.Common.{◌≡◌, ℕ, zero, suc, ◌+◌, ◌-◌, ◌≤◌, ◌<◌, inl, inr, Bool, true, false, cond, List, [], ◌∷◌, ◌++◌, length, take, drop}
+use Rattle.std.proofs.Common.{get_or, Option, Some, None}
 use Rattle.std.proofs.Common.{Result, Ok, Err, refl, ap, sym, subst, ◌∙◌, append_assoc, arith}
 use Rattle.std.specs.Prelude.{map, OnOk, IfErr, IsErrOf, IsSome}
 use Rattle.std.proofs.lemmas.Bool.{cases_lt, lt-ltb}
@@ -17,7 +18,8 @@ use Rattle.ei_session.specs.Refusals.{Refusal as Cause}
 use Rattle.ei_session.specs.Requests.{Request, slot, framed}
 use Rattle.ei_session.specs.Replies.{greeting}
 use Rattle.ei_session.specs.Events.{replies}
-use Rattle.ei_session.specs.Served.{Answer, Disconnect, End, UnexpectedEof, IdsExhausted, PieceLimit, HandleLimit, Refused, Outcome, answer_at, at_end, is_waiting, is_over, IsGood}
+use Rattle.ei_session.specs.Served.{Answer, Disconnect, End, UnexpectedEof, IdsExhausted, PieceLimit, HandleLimit, Refused, Outcome, answer_at}
+use Rattle.ei_session.specs.Served.{at_end, is_waiting, is_over, IsGood}
 use Rattle.ei_session.specs.Served.{session, is_over, reading_of, accepted, IsValid}
 use Rattle.ei_session.specs.Complete.{AreComplete}
 use Rattle.ei_session.proofs.AllParts.{replies_prefix}
@@ -39,7 +41,8 @@ use Rattle.ei_serve.specs.Turning.{Closes, ClosesRefused, Finds, Stays, BreaksOf
 use Rattle.ei_serve.specs.Serving.{AnswersAs, IsDecided, IsCutShort, IsOfSession, IsSourceEnd, TookPieces, HandsOut, LeftReadings, Replied, RepliedInPart}
 use Rattle.ei_serve.specs.Serving.{RepliedAtLeast, ReadValid, Handled, TookToTheEnd, TookToPiece, TookAllOf, CutShort}
 use Rattle.ei_serve.proofs.Going.{drop_none, none_more, more_more, gives_none, gives_then, drawn_then, leaves_then}
-use Rattle.ei_serve.proofs.Histories.{GoesOn as GoingOn, IsEarly, IsStopped, end_is_no_stop, goes_on_more, going, stopped, too_many_pieces, too_many_handles_come, session_front}
+use Rattle.ei_serve.proofs.Histories.{GoesOn as GoingOn, IsEarly, IsStopped, end_is_no_stop, goes_on_more, going, stopped, too_many_pieces}
+use Rattle.ei_serve.proofs.Histories.{too_many_handles_come, session_front}
 use Rattle.ei_serve.proofs.Histories.{over_early, front_same, accepted_front, handled_front, handled_next}
 use Rattle.ei_serve.proofs.Running.{Running, Took, took_more, replied_then}
 

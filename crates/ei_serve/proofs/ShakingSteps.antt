@@ -34,7 +34,8 @@ use Rattle.ei_session.specs.ByMeaning.{shake_refusal}
 use Rattle.ei_session.specs.Replies.{connection_event, settled_events}
 use Rattle.ei_session.proofs.OneMore.{connected_more}
 use Rattle.ei_session.proofs.SettledMapLaws.{other_map}
-use Rattle.ei_handshake.specs.Handshaker.{Completes, Handles, HandshakerView, KeepsButFinish, IsSecond, RefusesFinish, RefusesOther, RefusesTold, told, is_repeated, with_version, has_required, hands_over, kept_events, sends}
+use Rattle.ei_handshake.specs.Handshaker.{Completes, Handles, HandshakerView, KeepsButFinish, IsSecond, RefusesFinish, RefusesOther, RefusesTold}
+use Rattle.ei_handshake.specs.Handshaker.{told, is_repeated, with_version, has_required, hands_over, kept_events, sends}
 use Rattle.ei_handshake.specs.Versions.{VersionMap}
 use Rattle.ei_handshake.specs.declared.server.EisHandshakeResp.{EisHandshakeResp}
 use Rattle.ei_handshake.proofs.Sending.{sends-append}
@@ -45,7 +46,8 @@ use Rattle.ei_serve.specs.Standing.{ShakesHands, connection_table, handshake_tab
 use Rattle.ei_serve.specs.Steps.{AsksToFinish, HandsOver, Refuses, RefusesFront}
 use Rattle.ei_serve.proofs.ShakingAsked.{says_of_front}
 use Rattle.ei_serve.proofs.Endpoints.{Memory, memory_of, quiet_with, backend_is}
-use Rattle.ei_serve.proofs.ShakingFront.{Front, all_known, announced_none, announced_this, context_came, finishes, front_of, gone_refused, judged, name_came, only_shaking, shake_of}
+use Rattle.ei_serve.proofs.ShakingFront.{Front, all_known, announced_none, announced_this, context_came, finishes, front_of, gone_refused, judged}
+use Rattle.ei_serve.proofs.ShakingFront.{name_came, only_shaking, shake_of}
 use Rattle.ei_serve.proofs.ShakingFront.{unread_refused}
 
 -- ---- asking
@@ -110,7 +112,6 @@ module _ (h : HandshakerView) (b : BackendView) (new : HandshakerView) where
   second_inner e came d = absurd d
 
   told_inner : (e : Error) (a : Asked) → RefusesTold e h b a new b → IsInner e
-  told_inner error.NoMemory a d = tt
   told_inner e a d = second_inner e (is_repeated h a) d.0
 
   pub finish_inner : (sent : BackendView) (e : Error) (id : ℕ) → RefusesFinish e id h b new sent → IsInner e
@@ -315,7 +316,6 @@ module _ (setup : Setup) (past : List Raw) (rest : List ℕ) (handles : List Han
   refused_second e a f d = absurd d
 
   refused_told : (e : Error) (a : Asked) (f : Front rest handles (memory_of first) a b) (sent : BackendView) (new : HandshakerView) → RefusesTold e h b a new sent → Refuses setup past rest e
-  refused_told error.NoMemory a f sent new d = tt
   refused_told e a f sent new d = refused_second e a f d.0
 
   refused_handling : (r : Request) (e : Error) (sent : BackendView) (new : HandshakerView) → IsFront rest handles (memory_of first) b r → Handles h b r (Err e) new sent → Refuses setup past rest e

@@ -1,5 +1,6 @@
 -- What becomes of a converter with one more request, and with what the policy does behind it.
-use Rattle.std.proofs.Common.{◌≡◌, ◌≢◌, ◌≤◌, ◌+◌, ℕ, Bool, true, false, cond, eqb, ◌||◌, List, [], ◌∷◌, ◌++◌, length, Option, Some, None, refl, sym, ap, ◌∙◌, subst, arith}
+use Rattle.std.proofs.Common.{◌≡◌, ◌≢◌, ◌≤◌, ◌+◌, ℕ, Bool, true, false, cond, eqb, ◌||◌, List, [], ◌∷◌, ◌++◌, length, Option, Some, None, refl, sym}
+use Rattle.std.proofs.Common.{ap, ◌∙◌, subst, arith}
 use Rattle.std.specs.Prelude.{map, find, nat_lt, slice_index}
 use Rattle.std.proofs.lemmas.Bool.{eqb-true}
 use Rattle.std.proofs.lemmas.Bool.Decides.{nat_tests}
@@ -14,7 +15,8 @@ use Rattle.ei_backend.specs.Endpoint.{endpoint_of}
 use Rattle.ei_types.specs.declared.capability.DeviceCapabilities.{DeviceCapabilities}
 use Rattle.ei_session.specs.Setup.{Setup, seat_id}
 use Rattle.ei_session.specs.Inputs.{Input as Asked}
-use Rattle.ei_session.specs.Meaning.{Meaning, meaning, Shakes, Syncs, Disconnects, Pongs, ReleasesSeat, Binds, RequestsDevice, Closes, Starts, Stops, Frames, Readies, Releases, Inputs}
+use Rattle.ei_session.specs.Meaning.{Meaning, meaning, Shakes, Syncs, Disconnects, Pongs, ReleasesSeat, Binds, RequestsDevice, Closes, Starts, Stops}
+use Rattle.ei_session.specs.Meaning.{Frames, Readies, Releases, Inputs}
 use Rattle.ei_session.specs.ByMeaning.{mask_in, callback_in, disconnects}
 use Rattle.ei_session.specs.Devices.{not_empty, is_past, next_id, exhausts}
 use Rattle.ei_session.specs.Objects.{Entry, object}
@@ -36,7 +38,8 @@ use Rattle.ei_request.specs.Converter.{ConverterView}
 use Rattle.ei_request.specs.Sending.{destroys_all, serial_after}
 use Rattle.ei_request.specs.Making.{granted_by}
 use Rattle.ei_request.specs.Removing.{RemovesDevice}
-use Rattle.ei_request.specs.Handling.{handled, queues, hands_out, closes, gives_up, closed_of, ready_of, start_of, stop_of, bind_of, request_device_of, set_of, device_in, is_some_waiting, closes_group, Times}
+use Rattle.ei_request.specs.Handling.{handled, queues, hands_out, closes, gives_up, closed_of, ready_of, start_of, stop_of, bind_of}
+use Rattle.ei_request.specs.Handling.{request_device_of, set_of, device_in, is_some_waiting, closes_group, Times}
 use Rattle.ei_standing.specs.Standing.{IsHeld, TookOne, with_table, inputs_of, used_by, seat_of, device_of, seat_held, request_in_code, plain_in_code}
 use Rattle.ei_standing.proofs.ToDevices.{There, device_itself, held_there}
 use Rattle.ei_standing.proofs.FrameLaw.{after_frame}

@@ -11,7 +11,8 @@ use Rattle.ei_spec.specs.declared.handle.Handle.{Handle as Descriptor}
 use Rattle.ei_spec.specs.declared.interface.KnownInterface.{KnownInterface}
 use Rattle.ei_spec.specs.Value.{Kind, U32, I32, U64, I64, Float, Text, Nullable, Handle, New, Choice, OpenChoice, Value, Word, Long, Signed, SignedLong}
 use Rattle.ei_spec.specs.Value.{Letters}
-use Rattle.ei_spec.specs.Reading.{Fault, Unread, Read, number_at, text_at, some_text, or_null, choice_at, of_bytes, of_handle, ◌>>=◌, read, ArgumentStop, stopping}
+use Rattle.ei_spec.specs.Reading.{Fault, Unread, Read, number_at, text_at, some_text, or_null, choice_at, of_bytes, of_handle, ◌>>=◌, read}
+use Rattle.ei_spec.specs.Reading.{ArgumentStop, stopping}
 use Rattle.ei_spec.specs.Reading.{◌then◌, all_at}
 use Rattle.ei_spec.specs.Rows.{Row, row_at, row_named}
 use Rattle.ei_spec.specs.Table.{table}

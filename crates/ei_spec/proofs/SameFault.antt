@@ -5,7 +5,8 @@ use Rattle.std.specs.Int.{w32, w64, cast_signed}
 use Rattle.ei_spec.specs.declared.handle.Handle.{Handle as Descriptor}
 use Rattle.ei_spec.specs.Value.{Kind, U32, I32, U64, I64, Float, Text, Nullable, Handle, New, Choice, OpenChoice, Value, Word, Long, Signed, SignedLong}
 use Rattle.ei_spec.specs.Value.{Letters}
-use Rattle.ei_spec.specs.Reading.{Fault, NoFd, ◌>>=◌, Unread, Read, number_at, text_at, some_text, or_null, choice_at, of_bytes, of_handle, read, ArgumentStop, ◌then◌}
+use Rattle.ei_spec.specs.Reading.{Fault, NoFd, ◌>>=◌, Unread, Read, number_at, text_at, some_text, or_null, choice_at, of_bytes, of_handle, read}
+use Rattle.ei_spec.specs.Reading.{ArgumentStop, ◌then◌}
 use Rattle.ei_spec.specs.Reading.{stopping, all_at}
 
 -- the same bytes are left, and as many handles are taken; or the same refusal came

@@ -37,7 +37,8 @@ use Rattle.ei_request.specs.Removing.{RemovesDevice}
 use Rattle.ei_request.specs.Handling.{closes, closed_of, device_in, handled}
 use Rattle.ei_standing.specs.Standing.{object_of, device_of, IsDevice, IsHeldAt, AreDevices, IsHeld, TookOne, used_by}
 use Rattle.ei_request.proofs.FirstOnes.{any_some}
-use Rattle.ei_standing.proofs.RisingDevices.{all_of, find_same, without_same, find_kept, find_none_kept, find_gone, rises_kept, first_gone, gone_changed, found_changed}
+use Rattle.ei_standing.proofs.RisingDevices.{all_of, find_same, without_same, find_kept, find_none_kept, find_gone, rises_kept, first_gone}
+use Rattle.ei_standing.proofs.RisingDevices.{gone_changed, found_changed}
 use Rattle.ei_standing.proofs.HeldPlainly.{has_left, all_held, are_devices}
 use Rattle.ei_standing.proofs.ToDevices.{There, release_is, releases_so, item_so, input_so, device_itself, to_device, held_there}
 use Rattle.ei_standing.proofs.ClosingLaws.{closing_frames, closing_queue}

@@ -1,5 +1,5 @@
 -- What a function that reads says of what reading gives, and the values that arguments stand for.
-use Rattle.std.specs.Prelude.{◌≡◌, Option, Some, None, Result, Ok, Err}
+use Rattle.std.specs.Prelude.{◌≡◌, IsErr, Option, Some, None, Result, Ok, Err}
 use Rattle.ei_spec.specs.Value.{Kind, Text, Nullable, Value, Word, Long, Signed, SignedLong, Letters, Null, Fd}
 use Rattle.ei_spec.specs.Reading.{Fault, EndOfMessage, Utf8, InvalidId, NoFd, InvalidOpcode}
 use Rattle.ei_spec.specs.Reading.{InvalidVariant, InvalidInterface, HeaderLength, MessageLength, InvalidNull}
@@ -64,3 +64,9 @@ abbrev pub MayStop : Kind → ParseError → Type 0
 MayStop Text e = Unit {0}
 MayStop Nullable e = Unit {0}
 MayStop k e = IsFault e
+
+-- the shorter way takes nothing where reading refuses; and a text it may leave to the general way
+abbrev pub Leaves : {Y : Type 0} → Kind → Result Y Fault → Type 0
+Leaves Text read = Unit {0}
+Leaves Nullable read = Unit {0}
+Leaves kind read = IsErr read

@@ -5,7 +5,7 @@ ghost use Rattle.std.specs.Prelude.{OnOk, OnErr, Ok, Err, Some, None, IfSome, If
 ghost use Rattle.std.specs.Option.{option_map};
 ghost use Rattle.ei_spec.specs.Value.{Kind, U32, I32, U64, I64, Float, Text, Nullable, Handle as HandleKind, Choice, Value};
 ghost use Rattle.ei_spec.specs.Value.{Word, Long, Signed, SignedLong, Letters, Fd, written, handles_of, IsOf, HasSpelling, text_bytes};
-ghost use Rattle.ei_wire.specs.Gives.{Gives, MayStop, value_of_arg};
+ghost use Rattle.ei_wire.specs.Gives.{Gives, Leaves, MayStop, value_of_arg};
 ghost use Rattle.ei_wire.specs.Kinds.{IsArgOf, IsEnum};
 ghost use Rattle.ei_spec.specs.Reading.{read, or_null, Unread, Fault};
 ghost use Rattle.ei_spec.specs.Spelling.{Begins, Follows};
@@ -138,6 +138,7 @@ pub trait OwnedArg: Sized {
     /// wrong, or takes what this call leaves to it.
     fn parse_lawful(stream: &mut ByteStream<'_>) -> Option<Self>
         ensures read { IfSome result (λ x. read kind stream.old ≡ Ok (value x, stream.new)) }
+        ensures refused { IfNone result (Leaves kind (read kind stream.old)) }
         ensures none { IfNone result (stream.new ≡ stream.old) }
     {
         match Self::parse(stream) {

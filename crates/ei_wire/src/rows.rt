@@ -1,6 +1,6 @@
 //! Reading the arguments of a row at once.
 
-ghost use Rattle.std.specs.Prelude.{[], ◌∷◌, IfSome};
+ghost use Rattle.std.specs.Prelude.{[], ◌∷◌, ◌<◌, length, IfSome, IfNone};
 ghost use Rattle.ei_spec.specs.Reading.{all_at};
 ghost use Rattle.ei_wire.specs.Rows.{IsWhole, ReadsArguments};
 
@@ -67,7 +67,8 @@ where
 /// the stream stands then.
 #[inline]
 pub fn lawful_none(bytes: &mut ByteStream<'_>) -> Option<()>
-    ensures { IfSome result (λ _. IsWhole [] [] bytes.old bytes.new) }
+    ensures whole { IfSome result (λ _. IsWhole [] [] bytes.old bytes.new) }
+    ensures left { IfNone result (0 < length bytes.old.bytes) }
 {
     if bytes.rest() == 0 { Some(()) } else { None }
 }

@@ -1,6 +1,6 @@
 //! Reading the arguments of a message.
 
-ghost use Rattle.std.specs.Prelude.{◌≡◌, ℕ, List, length, IfOk, IfErr, IfSome, IfNone, OnErr, Ok, Err, ◌≤◌, ◌<◌, ◌+◌, ◌^◌, Some, None, true, nat_eq};
+ghost use Rattle.std.specs.Prelude.{◌≡◌, ℕ, List, length, IfOk, IfErr, IfSome, IfNone, IsErr, OnErr, Ok, Err, ◌≤◌, ◌<◌, ◌+◌, ◌^◌, Some, None, true, nat_eq};
 ghost use Rattle.std.specs.List.{list_any};
 ghost use Rattle.std.specs.Int.{w32, w64};
 ghost use Rattle.ei_wire.specs.Gives.{Gives, IsFault, MayStop};
@@ -105,6 +105,7 @@ impl<'a> ByteStream<'a> {
     #[inline]
     pub(crate) fn lawful_word(&mut self) -> Option<u32>
         ensures read { IfSome result (λ n. read U32 self.old ≡ Ok (Word n, self.new)) }
+        ensures refused { IfNone result (IsErr (read U32 self.old)) }
         ensures none { IfNone result (self.new ≡ self.old) }
     {
         let (front, rest) = self.bytes.split_first_chunk::<4>()?;
@@ -128,6 +129,7 @@ impl<'a> ByteStream<'a> {
     #[inline]
     pub(crate) fn lawful_long(&mut self) -> Option<u64>
         ensures read { IfSome result (λ n. read U64 self.old ≡ Ok (Long n, self.new)) }
+        ensures refused { IfNone result (IsErr (read U64 self.old)) }
         ensures none { IfNone result (self.new ≡ self.old) }
     {
         let (front, rest) = self.bytes.split_first_chunk::<8>()?;
@@ -213,11 +215,12 @@ impl<'a> ByteStream<'a> {
         Some(EiText::name(interface))
     }
 
-    /// Takes the number of a variant at the front, if it is one of these. `None`: nothing is taken.
+    /// Takes the number of a variant at the front. `None` exactly where `choice` refuses: nothing is taken.
     #[inline]
     pub fn lawful_choice(&mut self, name: &'static str, values: &[u32]) -> Option<u32>
         ensures read { IfSome result (λ n. read (Choice name.now values.now) self.old ≡ Ok (Word n, self.new)) }
         ensures listed { IfSome result (λ n. list_any (nat_eq n) values.now ≡ true) }
+        ensures refused { IfNone result (IsErr (read (Choice name.now values.now) self.old)) }
         ensures none { IfNone result (self.new ≡ self.old) }
     {
         let (front, rest) = self.bytes.split_first_chunk::<4>()?;

@@ -1,5 +1,6 @@
 -- What each call does to the session behind the word.
 use Rattle.std.specs.Prelude.{◌≡◌, ◌≢◌, ℕ, ◌++◌, List, [], ◌∷◌, length, take, drop, map, min, Option, Some, None, is_some}
+use Rattle.std.specs.Option.{option_and_then}
 use Rattle.ei_spec.specs.Piece.{Piece}
 use Rattle.ei_session.specs.Setup.{Setup}
 use Rattle.ei_backend.specs.Outside.{with_more}
@@ -7,7 +8,8 @@ use Rattle.ei_request.specs.declared.event.EisRequest.{EisRequest}
 use Rattle.reis_server.specs.Fed.{Fed, fed_of}
 use Rattle.reis_server.specs.Serving.{IsServing, nothing, IsInputEnd, IsNoInputEnd, feed_answer, end_answer, unsent_after}
 use Rattle.reis_c.specs.Answers.{answer_number}
-use Rattle.reis_c.specs.Flat.{flat}
+use Rattle.reis_c.specs.Ending.{end_text}
+use Rattle.reis_c.specs.Flat.{flat, text_in}
 use Rattle.reis_c.specs.Handles.{handle_of, number_of}
 use Rattle.reis_c.specs.declared.flat.ReisRequest.{ReisRequest}
 use Rattle.reis_c.specs.declared.held.Held.{Held}
@@ -22,6 +24,14 @@ OnSession old answer new Works = ⊥
 -- A call reads the session that is there, and leaves it as it is.
 abbrev pub ReadsSession : Option Held → ℕ → Option Held → (Held → Type 0) → Type 0
 ReadsSession old answer new Says = OnSession old answer new (λ a b. (b ≡ a) × Says a)
+
+-- the text of the request that was handed out last, where it has one
+abbrev pub last_text : Held → Option (List ℕ)
+last_text held = option_and_then text_in held.last
+
+-- the text of the error that ended it, where one did
+abbrev pub ending_text : Held → Option (List ℕ)
+ending_text held = end_text held.server.answer
 
 -- it was started with the setup: nothing was fed to it, nothing taken from it, and it goes on
 pub record IsStarted (setup : Setup) (held : Held) : Type 0 where

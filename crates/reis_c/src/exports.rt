@@ -1,16 +1,15 @@
 //! What C calls. No call requires anything: what is wrong is answered.
 
 ghost use Rattle.std.specs.Prelude.{◌≡◌, ◌≢◌, ◌<◌, ◌≤◌, ◌⊎◌, ◌↔◌, IsSome, is_some, if◌then◌else◌, None, Some};
-ghost use Rattle.std.specs.Option.{option_and_then};
 ghost use Rattle.ei_types.specs.Capability.{all_bits};
 ghost use Rattle.reis_c.specs.Answers.{Writes, WritesMade};
 ghost use Rattle.reis_c.specs.Calls.{OnSession, ReadsSession, IsStarted, Feeds, TakesEnd, HandsReplies, HandsRequest};
-ghost use Rattle.reis_c.specs.Ending.{end_number, end_text};
-ghost use Rattle.reis_c.specs.Flat.{text_in};
+ghost use Rattle.reis_c.specs.Calls.{last_text, ending_text};
+ghost use Rattle.reis_c.specs.Ending.{end_number};
 ghost use Rattle.reis_c.specs.declared.held.Held.{Held};
 
 use crate::ending::end_number;
-use crate::flat::{ReisRequest, text_in};
+use crate::flat::ReisRequest;
 use crate::held::Held;
 use crate::numbers::{CAPABILITIES, HAS_SESSION, NO_MEMORY, NO_SESSION, NOTHING, OK};
 use crate::slot::ReisSession;
@@ -148,8 +147,7 @@ pub extern "C" fn reis_c_request_text(
     text: &mut [u8],
     length: &mut usize,
 ) -> u32
-    ensures written { ReadsSession session.old.held result session.new.held
-        (λ held. Writes (option_and_then text_in held.last) text.old result length.new text.new) }
+    ensures written { ReadsSession session.old.held result session.new.held (λ held. Writes (last_text held) text.old result length.new text.new) }
     ensures none { result ≡ NO_SESSION → (length.new ≡ 0) × (text.new ≡ text.old) }
 {
     *length = 0;
@@ -182,8 +180,7 @@ pub extern "C" fn reis_c_end_text(
     text: &mut [u8],
     length: &mut usize,
 ) -> u32
-    ensures written { ReadsSession session.old.held result session.new.held
-        (λ held. WritesMade (end_text held.server.answer) text.old result length.new text.new) }
+    ensures written { ReadsSession session.old.held result session.new.held (λ held. WritesMade (ending_text held) text.old result length.new text.new) }
     ensures none { (result ≡ NO_SESSION) ⊎ (result ≡ NO_MEMORY) → (length.new ≡ 0) × (text.new ≡ text.old) }
 {
     *length = 0;

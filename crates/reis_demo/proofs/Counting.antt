@@ -12,7 +12,8 @@ use Rattle.ei_session.specs.Setup.{Setup}
 use Rattle.ei_session.specs.Handshake.{version}
 use Rattle.ei_session.specs.Inputs.{Input, PointerMotion, PointerMotionAbsolute, Button, ScrollDelta, ScrollStop, ScrollCancel, ScrollDiscrete}
 use Rattle.ei_session.specs.Inputs.{KeyboardKey, TouchDown, TouchMotion, TouchUp, TouchCancel, TextKeysym, TextUtf8}
-use Rattle.ei_session.specs.Requests.{Request, slot, framed, Plain as Asked, Bind, RequestDevice, Ready, DeviceClosed, DeviceStartEmulating, DeviceStopEmulating, Disconnect}
+use Rattle.ei_session.specs.Requests.{Request, slot, framed, Plain as Asked, Bind, RequestDevice, Ready, DeviceClosed, DeviceStartEmulating}
+use Rattle.ei_session.specs.Requests.{DeviceStopEmulating, Disconnect}
 use Rattle.ei_standing.specs.Standing.{handed_as, request_in_code}
 use Rattle.reis_demo.specs.Summary.{is_input, is_input_request}
 

@@ -1,5 +1,6 @@
 -- The messages of the generated stream pass: none is refused, and the objects that they go to stay.
-use Rattle.std.proofs.Common.{◌≡◌, ℕ, zero, suc, ◌+◌, ◌%◌, ◌^◌, ◌<◌, ◌≤◌, true, false, List, [], ◌∷◌, ◌++◌, length, Some, None, refl, ap, ◌∙◌, arith, append_assoc}
+use Rattle.std.proofs.Common.{◌≡◌, ℕ, zero, suc, ◌+◌, ◌%◌, ◌^◌, ◌<◌, ◌≤◌, true, false, List, [], ◌∷◌, ◌++◌, length, Some, None, refl, ap, ◌∙◌, arith}
+use Rattle.std.proofs.Common.{append_assoc}
 use Rattle.std.specs.Prelude.{pos, negsuc, nat_eq, codes}
 use Rattle.std.specs.List.{list_any}
 use Rattle.ei_spec.specs.declared.interface.KnownInterface.{KnownInterface}
@@ -28,7 +29,8 @@ use Rattle.ei_session.proofs.JudgedMeans.{judge_asked, exhausts_asked}
 use Rattle.ei_session.proofs.KeptByRequests.{plainly_device, stays_connected}
 use Rattle.ei_session.proofs.ReadBack.{reads_back}
 use Rattle.ei_session.proofs.RowsMean.{asks_means}
-use Rattle.reis_demo.specs.Generated.{demo_setup, requested, button_id, chooser, drawn, drawn_state, drawn_input, drawn_inputs, frame_at, group_size, drawn_group, after_group, groups_from, disconnect_message, opening}
+use Rattle.reis_demo.specs.Generated.{demo_setup, requested, button_id, chooser, drawn, drawn_state, drawn_input, drawn_inputs, frame_at, group_size}
+use Rattle.reis_demo.specs.Generated.{drawn_group, after_group, groups_from, disconnect_message, opening}
 use Rattle.reis_demo.specs.Generated.{introduction, announcement, objects_announced, capabilities_announced, finish_message, begins_to_send}
 
 -- ---- the objects that the client sends to

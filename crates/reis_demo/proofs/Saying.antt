@@ -7,8 +7,10 @@ use Rattle.std.specs.Int.{w32, w64, to_le_bytes}
 use Rattle.ei_spec.specs.Message.{Raw, message, header, bytes_of, all_bytes}
 use Rattle.ei_session.specs.Worked.{device_id}
 use Rattle.ei_session.specs.WorkedWhole.{pointer_id, keyboard_id, scroll_id}
-use Rattle.reis_demo.specs.Generated.{button_id, chooser, drawn, drawn_state, after_draws, drawn_input, drawn_inputs, frame_at, group_size, drawn_group, after_group, groups_from, disconnect_message}
-use Rattle.reis_demo.specs.Generated.{introduction, objects_announced, capabilities_announced, finish_message, begins_to_send, opening, generated_messages, generated_bytes}
+use Rattle.reis_demo.specs.Generated.{button_id, chooser, drawn, drawn_state, after_draws, drawn_input, drawn_inputs, frame_at, group_size}
+use Rattle.reis_demo.specs.Generated.{drawn_group, after_group, groups_from, disconnect_message}
+use Rattle.reis_demo.specs.Generated.{introduction, objects_announced, capabilities_announced, finish_message, begins_to_send, opening}
+use Rattle.reis_demo.specs.Generated.{generated_messages, generated_bytes}
 use Rattle.reis_demo.specs.Script.{unsaid}
 use Rattle.reis_demo.specs.declared.script.Script.{Script}
 

@@ -1,5 +1,6 @@
 -- How many bytes the generated stream has.
-use Rattle.std.proofs.Common.{◌≡◌, ℕ, zero, suc, ◌+◌, ◌-◌, ◌*◌, ◌%◌, ◌<◌, ◌≤◌, true, false, List, [], ◌∷◌, ◌++◌, length, refl, sym, ap, ◌∙◌, arith, length-append}
+use Rattle.std.proofs.Common.{◌≡◌, ℕ, zero, suc, ◌+◌, ◌-◌, ◌*◌, ◌%◌, ◌<◌, ◌≤◌, true, false, List, [], ◌∷◌, ◌++◌, length, refl, sym, ap, ◌∙◌, arith}
+use Rattle.std.proofs.Common.{length-append}
 use Rattle.std.proofs.lemmas.Grind.{flat_map-append}
 use Rattle.ei_spec.specs.Message.{Raw, bytes_of, all_bytes}
 use Rattle.ei_spec.proofs.Cuts.{size_is}
@@ -7,8 +8,10 @@ use Rattle.ei_session.proofs.AllOpen.{all_open}
 use Rattle.reis_demo.specs.Script.{unsaid}
 use Rattle.reis_demo.specs.declared.script.Script.{Script}
 use Rattle.reis_demo.proofs.Saying.{open_unsaid, all_said}
-use Rattle.reis_demo.specs.Generated.{drawn, after_draws, chooser, drawn_input, drawn_inputs, frame_at, group_size, drawn_group, after_group, groups_from, disconnect_message}
-use Rattle.reis_demo.specs.Generated.{introduction, announcement, objects_announced, capabilities_announced, finish_message, begins_to_send, opening, generated_messages, generated_bytes}
+use Rattle.reis_demo.specs.Generated.{drawn, after_draws, chooser, drawn_input, drawn_inputs, frame_at, group_size, drawn_group, after_group}
+use Rattle.reis_demo.specs.Generated.{groups_from, disconnect_message}
+use Rattle.reis_demo.specs.Generated.{introduction, announcement, objects_announced, capabilities_announced, finish_message, begins_to_send, opening}
+use Rattle.reis_demo.specs.Generated.{generated_messages, generated_bytes}
 
 joined_length : (a b : List Raw) → length (all_bytes (a ++ b)) ≡ length (all_bytes a) + length (all_bytes b)
 joined_length a b = ap (λ (x : List ℕ). length x) (flat_map-append bytes_of a b) ∙ length-append (all_bytes a) (all_bytes b)

@@ -11,7 +11,7 @@ use std::alloc::Global;
 #[derive(Drop)]
 pub(crate) struct Replies {
     tray: Tray,
-    ghost unfailing: { tray.fails ≡ [] },
+    ghost unfailing: { tray.failing.fails ≡ [] },
 }
 
 impl Replies {

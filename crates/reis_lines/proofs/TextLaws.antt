@@ -3,7 +3,8 @@ use Rattle.std.proofs.Common.{◌≡◌, ◌<◌, ◌≤◌, ◌⊎◌, inl, inr
 use Rattle.std.proofs.Common.{length-append, length-drop, arith, Some}
 use Rattle.std.proofs.lemmas.List.{append-nil, take-append-drop, length-take-le, take_all, take_at, take_more, drop_all}
 use Rattle.std.specs.Prelude.{Bool, true, false, ◌==◌, ◌||◌, nat_lt, if◌then◌else◌, Option, None}
-use Rattle.reis_lines.specs.Text.{has_newline, before_newline, onto, split, line_bytes, piece_before, pieces_of_lines, pieces_of, bad_line_before, bad_line_of_lines}
+use Rattle.reis_lines.specs.Text.{has_newline, before_newline, onto, split, line_bytes, piece_before, pieces_of_lines, pieces_of, bad_line_before}
+use Rattle.reis_lines.specs.Text.{bad_line_of_lines}
 use Rattle.reis_lines.specs.Text.{bad_line_of}
 use Rattle.reis_lines.specs.Held.{FindsNewline, line_len, line_skip}
 

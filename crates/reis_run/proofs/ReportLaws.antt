@@ -9,7 +9,7 @@ use Rattle.ei_session.specs.Refusals.{Refusal}
 use Rattle.ei_session.specs.Served.{Answer, Disconnect, End, UnexpectedEof, IdsExhausted, PieceLimit, HandleLimit, Refused, session, accepted, IsGood}
 use Rattle.ei_session.specs.Complete.{AreComplete}
 use Rattle.ei_session.proofs.Completing.{complete_ends}
-use Rattle.ei_backend.specs.Memory.{TrayView}
+use Rattle.ei_backend.specs.Memory.{TrayView, never_failing}
 use Rattle.ei_backend.specs.Outside.{with_more}
 use Rattle.ei_standing.specs.Standing.{request_in_code}
 use Rattle.ei_request.specs.declared.event.EisRequest.{EisRequest}
@@ -30,7 +30,7 @@ use Rattle.reis_run.specs.declared.session.LastLine.TheVariants as last_line
 
 -- a tray that took nothing
 abbrev pub empty_tray : TrayView
-empty_tray = record { held = record { bytes = []; handles = [] }; fails = []; calls = 0; faults = 0; wants = 0 }
+empty_tray = record { held = record { bytes = []; handles = [] }; failing = never_failing; wants = 0 }
 
 requests_of : (setup : Setup) (messages : List Raw) (readings : Option (List ℕ)) (old new requests : List EisRequest) → HandsOut setup messages readings old new → old ≡ [] → requests ≡ new → AreRequests setup messages readings requests
 requests_of setup messages readings old new requests h none same = record {

@@ -16,7 +16,8 @@ use Rattle.ei_session.specs.Handshake.{version}
 use Rattle.ei_session.specs.Requests.{slot, framed}
 use Rattle.ei_session.specs.Events.{replies}
 use Rattle.ei_session.specs.Refusals.{Refusal as Cause}
-use Rattle.ei_session.specs.Served.{Answer, Outcome, Disconnect, End, UnexpectedEof, IdsExhausted, PieceLimit, HandleLimit, Refused, session, is_over, is_waiting, reading_of, accepted}
+use Rattle.ei_session.specs.Served.{Answer, Outcome, Disconnect, End, UnexpectedEof, IdsExhausted, PieceLimit, HandleLimit, Refused, session, is_over}
+use Rattle.ei_session.specs.Served.{is_waiting, reading_of, accepted}
 use Rattle.ei_session.proofs.AllParts.{framed_readings, replies_prefix}
 use Rattle.ei_backend.specs.Outside.{with_more}
 use Rattle.ei_request.specs.declared.event.EisRequest.{EisRequest}

@@ -1,5 +1,6 @@
 -- What the replies announce has rising ids.
-use Rattle.std.proofs.Common.{◌≡◌, ℕ, ◌+◌, ◌<◌, ◌≤◌, ◌%◌, ◌^◌, Bool, true, false, cond, ◌&&◌, leb, List, [], ◌∷◌, ◌++◌, length, Option, Some, None, option_map, refl, sym, ap, subst, ◌∙◌, arith}
+use Rattle.std.proofs.Common.{◌≡◌, ℕ, ◌+◌, ◌<◌, ◌≤◌, ◌%◌, ◌^◌, Bool, true, false, cond, ◌&&◌, leb, List, [], ◌∷◌, ◌++◌, length, Option, Some, None}
+use Rattle.std.proofs.Common.{option_map, refl, sym, ap, subst, ◌∙◌, arith}
 use Rattle.std.specs.Prelude.{is_some}
 use Rattle.std.specs.List.{filter_map}
 use Rattle.std.proofs.lemmas.Bool.Decides.{nat_tests}
@@ -15,12 +16,14 @@ use Rattle.ei_types.specs.Capability.{capabilities, has_bit}
 use Rattle.ei_session.specs.Setup.{Setup, connection_id, seat_id}
 use Rattle.ei_session.specs.Arguments.{whole, row_args}
 use Rattle.ei_session.specs.Handshake.{connected, is_the_finish, settled, version}
-use Rattle.ei_session.specs.Replies.{greeting, settled_event, connection_event, seat_event, capability_event, done_event, settled_events, capability_events, finish_events}
+use Rattle.ei_session.specs.Replies.{greeting, settled_event, connection_event, seat_event, capability_event, done_event, settled_events}
+use Rattle.ei_session.specs.Replies.{capability_events, finish_events}
 use Rattle.ei_session.specs.Devices.{interfaces_of, made, next_id, is_past, exhausts}
 use Rattle.ei_session.specs.Objects.{Entry, object, gone}
 use Rattle.ei_session.specs.Serial.{serial}
 use Rattle.ei_session.specs.Refusals.{synced}
-use Rattle.ei_session.specs.Events.{invalid_object_event, callback_event, device_event, device_type_event, interface_event, interface_events, device_done_event, resumed_event, device_events}
+use Rattle.ei_session.specs.Events.{invalid_object_event, callback_event, device_event, device_type_event, interface_event, interface_events}
+use Rattle.ei_session.specs.Events.{device_done_event, resumed_event, device_events}
 use Rattle.ei_session.specs.Events.{destroyed_event, destroyed_events, callback_events, reply_by, reply, replies}
 use Rattle.ei_session.specs.NextIds.{next_own}
 use Rattle.ei_session.specs.Told.{row_of, ReadsAs}
@@ -28,7 +31,8 @@ use Rattle.ei_session.proofs.Choices.{some_is, none_some}
 use Rattle.ei_session.proofs.AllParts.{replies_more}
 use Rattle.ei_session.proofs.ObjectShape.{at_finish}
 use Rattle.ei_session.proofs.NextLaws.{own_first, own_finish, own_made, own_device, own_other}
-use Rattle.ei_session.proofs.EventRows.{known_again, connection_row, reads_connection, seat_row, reads_seat, device_row, reads_device, interface_row, reads_interface}
+use Rattle.ei_session.proofs.EventRows.{known_again, connection_row, reads_connection, seat_row, reads_seat, device_row, reads_device, interface_row}
+use Rattle.ei_session.proofs.EventRows.{reads_interface}
 use Rattle.ei_session.proofs.TellingReplies.{version_small}
 
 -- ---- what an event announces

@@ -17,7 +17,7 @@ pub(crate) struct Narrow {
 impl Sink for Narrow {
     ghost taken = { λ _. None };
 
-    ghost faults = { λ n. n.tray.faults };
+    ghost faults = { λ n. n.tray.failing.faults };
 
     ghost wants = { λ n. n.tray.wants };
 

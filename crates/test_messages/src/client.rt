@@ -3,14 +3,14 @@
 use crate::end::{End, HALF, MINUS_ONE, ONE, TWO, send_by, send_to};
 use crate::proxies::shown;
 use crate::targets::proxy;
-use ei_backend::{Interface, Kind, Object, PendingRequestResult, Pieces, Tray};
+use ei_backend::{Interface, Kind, Object, PendingRequestResult};
 use ei_client::{
     Button, Connection, Context, Device, Event, Handshake, Keyboard, Pingpong, Pointer,
     PointerAbsolute, Proxy, Scroll, Seat, Text, Touchscreen, connection, device, handshake, seat,
 };
 use ei_spec::KnownInterface;
 use ei_types::{ButtonState, ContextType, KeyState};
-use ei_wire::{FlushError, NoMemory, ReadError, SendError};
+use ei_wire::{NoMemory, SendError};
 use std::alloc::{AllocError, Global};
 
 impl End for Context {
@@ -22,20 +22,8 @@ impl End for Context {
         Context::new(alloc)
     }
 
-    fn read(&mut self, pieces: &mut Pieces) -> Result<usize, ReadError> {
-        self.read(pieces)
-    }
-
-    fn flush(&mut self, tray: &mut Tray) -> Result<(), FlushError> {
-        self.flush(tray)
-    }
-
     fn next(&mut self) -> Result<Option<PendingRequestResult<Event>>, NoMemory> {
         self.pending_event()
-    }
-
-    fn unread_len(&self) -> usize {
-        self.unread_len()
     }
 
     fn send(&mut self, interface: KnownInterface, opcode: u32) -> Result<(), SendError> {

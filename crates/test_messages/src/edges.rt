@@ -1,4 +1,5 @@
-//! What the table doesn't hold: an end without a text, the longest name, and proxies that an object doesn't have.
+//! What the table doesn't hold: an end without a text, the longest name, proxies that an object doesn't have, and the calls
+//! of each end's own context.
 
 use crate::end::End;
 use crate::joined::in_pieces;
@@ -22,7 +23,39 @@ pub(crate) fn show<R: Print + AllocGlobal>(rt: &R) -> Result<(), Stop> {
         )?;
     }
     println!(rt; "other proxies: {}", other_proxies(rt.alloc())?)?;
+    println!(rt; "a client: {}", client_calls(rt.alloc())?)?;
+    println!(rt; "a server: {}", server_calls(rt.alloc())?)?;
     Ok(())
+}
+
+/// What the calls of that end's own context do: it sends the version of its handshake, and five bytes come.
+macro_rules! own_calls {
+    ($end:ident, $alloc:ident) => {{
+        let mut context = $end::Context::new($alloc)?;
+        let handshake = context.handshake().ok_or(Stop::Object)?;
+        handshake.handshake_version(&mut context, 1)?;
+        let waiting = context.unsent_len();
+        let mut tray = Tray::new($alloc);
+        context.flush(&mut tray)?;
+        let read = context.read(&mut in_pieces($alloc, &[1, 2, 3, 4, 5], &[], 65536)?)?;
+        format!(
+            in $alloc;
+            "{waiting} bytes wait, {} left, {} sent, {read} read, {} unread",
+            context.unsent_len(),
+            tray.bytes().len(),
+            context.unread_len()
+        )?
+    }};
+}
+
+/// Those of a client.
+fn client_calls(alloc: Global) -> Result<String, Stop> {
+    Ok(own_calls!(ei_client, alloc))
+}
+
+/// Those of a server.
+fn server_calls(alloc: Global) -> Result<String, Stop> {
+    Ok(own_calls!(ei_server, alloc))
 }
 
 /// The bytes of the event that ends a connection without a text, and whether the connection is alive then.
@@ -98,7 +131,7 @@ fn letters_read<E: End>(alloc: Global, sent: &Tray) -> Result<usize, Stop> {
 /// Lets all the bytes come.
 fn take_all<E: End>(end: &mut E, pieces: &mut Pieces, bytes: &[u8]) -> Result<(), ReadError> {
     for _ in bytes.chunks(65536) {
-        end.read(pieces)?;
+        end.backend_mut().read(pieces)?;
     }
     Ok(())
 }

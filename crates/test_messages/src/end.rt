@@ -1,8 +1,8 @@
 //! An end of the protocol, as the tests see it.
 
-use ei_backend::{HasBackend, Kind, MessageEnum, Object, PendingRequestResult, Pieces, Tray};
+use ei_backend::{HasBackend, Kind, MessageEnum, Object, PendingRequestResult};
 use ei_spec::KnownInterface;
-use ei_wire::{FlushError, NoMemory, RawFloat, ReadError, SendError};
+use ei_wire::{NoMemory, RawFloat, SendError};
 use std::alloc::{AllocError, Global};
 use std::fmt;
 
@@ -24,15 +24,8 @@ pub(crate) trait End: HasBackend + Drop {
 
     fn new(alloc: Global) -> Result<Self, NoMemory>;
 
-    fn read(&mut self, pieces: &mut Pieces) -> Result<usize, ReadError>;
-
-    fn flush(&mut self, tray: &mut Tray) -> Result<(), FlushError>;
-
     /// The next message that is whole.
     fn next(&mut self) -> Result<Option<PendingRequestResult<Self::Message>>, NoMemory>;
-
-    /// How many bytes came and are not read yet.
-    fn unread_len(&self) -> usize;
 
     /// Sends the message of that opcode to the object of the interface, with the arguments that the table has.
     /// Nothing where the interface has no such message of this end.

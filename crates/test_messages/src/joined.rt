@@ -32,7 +32,8 @@ pub(crate) fn in_pieces(
 /// A fresh end to which the bytes of a row came, with these handles.
 fn after<E: End>(alloc: Global, row: &Row, handles: &[Handle]) -> Result<E, Stop> {
     let mut end: E = with_targets(alloc)?;
-    end.read(&mut in_pieces(alloc, &row.bytes, handles, 65536)?)?;
+    end.backend_mut()
+        .read(&mut in_pieces(alloc, &row.bytes, handles, 65536)?)?;
     Ok(end)
 }
 
@@ -49,7 +50,7 @@ pub(crate) fn read_alone<E: End>(
     if !is_nothing(second.as_str()) {
         write!(text, " | then {second}")?;
     }
-    let left = end.unread_len();
+    let left = end.backend().unread_len();
     if left > 0 {
         write!(text, " | {left} bytes left")?;
     }
@@ -78,7 +79,7 @@ pub(crate) fn send<S: End>(alloc: Global, rows: &[Row]) -> Result<Sent, Stop> {
     let mut sender: S = with_targets(alloc)?;
     send_rows(&mut sender, rows)?;
     let mut tray = Tray::new(alloc);
-    sender.flush(&mut tray)?;
+    sender.backend_mut().flush(&mut tray)?;
     let objects = objects(alloc, &sender)?;
     Ok(Sent { tray, objects })
 }
@@ -98,12 +99,12 @@ pub(crate) fn carried<R: End>(alloc: Global, sent: &Tray, size: usize) -> Result
     let mut pieces = in_pieces(alloc, sent.bytes(), sent.handles(), size)?;
     let mut messages = Vec::new(alloc);
     for _ in sent.bytes().chunks(size.max(1)) {
-        reader.read(&mut pieces)?;
+        reader.backend_mut().read(&mut pieces)?;
         push_answers(alloc, &mut messages, &mut reader)?;
     }
     Ok(Received {
         messages,
-        bytes_left: reader.unread_len(),
+        bytes_left: reader.backend().unread_len(),
         handles_left: reader.backend().unread_handles(),
         objects: objects(alloc, &reader)?,
     })
@@ -115,7 +116,7 @@ fn push_answers<R: End>(
     messages: &mut Vec<String>,
     reader: &mut R,
 ) -> Result<(), Stop> {
-    for _ in 0..reader.unread_len() {
+    for _ in 0..reader.backend().unread_len() {
         let text = answer(alloc, reader)?;
         if is_nothing(text.as_str()) {
             break;

@@ -32,7 +32,7 @@ impl Outlet {
 impl Sink for Outlet {
     ghost taken = { λ _. None };
 
-    ghost faults = { λ o. o.tray.faults };
+    ghost faults = { λ o. o.tray.failing.faults };
 
     ghost wants = { λ o. o.wants };
 

@@ -7,7 +7,8 @@ use Rattle.ei_serve.proofs.Causes.{err_as, no_risen}
 use Rattle.ei_serve.proofs.Lent.{as_err, err_back, sink_passed, sink_unfailed, sink_ok}
 use Rattle.ei_serve.proofs.BetweenTurns.{not_over}
 use Rattle.ei_serve.proofs.Running.{starts, goes_on}
-use Rattle.ei_serve.proofs.Serves.{greeted, greeted_in_part, not_started, no_start_read, no_start_end, failed, disconnects, ends, no_end, too_many_turns, start_is_of_session, sure}
+use Rattle.ei_serve.proofs.Serves.{greeted, greeted_in_part, not_started, no_start_read, no_start_end, failed, disconnects, ends, no_end}
+use Rattle.ei_serve.proofs.Serves.{too_many_turns, start_is_of_session, sure}
 use Rattle.ei_serve.proofs.Serves.{turn_is_of_session}
 use Rattle.ei_serve.proofs.serve_loop.serve.Goals as goal
 
