@@ -1,11 +1,9 @@
 -- Requests that close an open group.
-use Rattle.std.proofs.Common.{◌≡◌, ℕ, ◌<◌, ◌≤◌, Bool, true, false, List, [], ◌∷◌, ◌++◌, length, Option, Some, None, Result, Ok, Err, refl, sym, ap}
-use Rattle.std.proofs.Common.{◌∙◌, subst, arith}
+use Rattle.std.proofs.Common.{◌≡◌, ℕ, Bool, true, List, [], ◌∷◌, ◌++◌, length, Option, Some, None, Result, Ok, Err, refl, sym, ap}
+use Rattle.std.proofs.Common.{◌∙◌, subst}
 use Rattle.std.specs.Prelude.{OnOk, OnErr, IfErr, IsSome, nat_lt}
-use Rattle.std.proofs.lemmas.Bool.Decides.{nat_tests}
 use Rattle.ei_types.specs.declared.error.Error.{Error}
 use Rattle.ei_types.specs.declared.error.Error.TheVariants as error
-use Rattle.ei_backend.specs.Outside.{ReadsClock}
 use Rattle.ei_session.specs.Meaning.{Meaning, Closes, Starts, Stops, Readies}
 use Rattle.ei_server.specs.declared.device.Request.{Request}
 use Rattle.ei_server.specs.declared.device.Request.TheVariants as request
@@ -25,17 +23,10 @@ some_waiting : (o : Option DeviceView) → is_some_waiting o ≡ nat_lt 0 (lengt
 some_waiting None = refl
 some_waiting (Some d) = refl
 
-pub asked_of_clock : (o : Option DeviceView) (time : ℕ) (before after : Option (List ℕ)) → 0 < length (waiting_of o) →
-    ((told : List ℕ) → before ≡ Some told → ReadsClock told after time) → Times true (is_some_waiting o) time before after
-asked_of_clock o time before after some reads =
-    let is : is_some_waiting o ≡ true = some_waiting o ∙ grind (arith, nat_tests) in
-    subst (λ (b : Bool). Times true b time before after) (sym is) reads
-
-pub not_asked_of_clock : (o : Option DeviceView) (time : ℕ) (before after : Option (List ℕ)) → length (waiting_of o) ≤ 0 →
-    after ≡ before → Times true (is_some_waiting o) time before after
-not_asked_of_clock o time before after none same =
-    let is : is_some_waiting o ≡ false = some_waiting o ∙ grind (arith, nat_tests) in
-    subst (λ (b : Bool). Times true b time before after) (sym is) same
+pub times_of_clock : (o : Option DeviceView) (waiting time : ℕ) (before after : Option (List ℕ)) → waiting ≡ length (waiting_of o) →
+    Times true (nat_lt 0 waiting) time before after → Times true (is_some_waiting o) time before after
+times_of_clock o waiting time before after count times =
+    subst (λ (b : Bool). Times true b time before after) (ap (nat_lt 0) count ∙ sym (some_waiting o)) times
 
 -- ---- what is done
 

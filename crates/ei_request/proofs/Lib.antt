@@ -6,6 +6,7 @@ pub mod GoneInTurn
 pub mod IdsInTurn
 pub mod ItemsInTurn
 pub mod MadeInTurn
+pub mod Obeying
 pub mod Offering
 pub mod RisingDevices
 pub mod Rooms

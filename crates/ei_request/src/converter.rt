@@ -1,6 +1,6 @@
 //! The server's converter.
 
-ghost use Rattle.std.specs.Prelude.{◌≡◌, ◌++◌, [], ℕ, length, true, List, Option, OnOk, OnErr, IfOk, IfErr, IsSome, None, find};
+ghost use Rattle.std.specs.Prelude.{◌≡◌, ◌++◌, [], ℕ, length, nat_lt, true, List, Option, OnOk, OnErr, IfOk, IfErr, IsSome, None, find};
 ghost use Rattle.std.specs.Borrow.{sem};
 ghost use Rattle.ei_types.specs.declared.error.Error.TheVariants as error;
 ghost use Rattle.ei_backend.specs.Lent.{LentClock};
@@ -10,7 +10,7 @@ ghost use Rattle.ei_request.specs.Converter.{first_of, rest_of};
 ghost use Rattle.ei_request.specs.Typed.{connection_meaning, seat_meaning, device_meaning};
 ghost use Rattle.ei_request.specs.Held.{is_seat, has_interface};
 ghost use Rattle.ei_request.specs.Refusing.{asked_refusal, mask_refusal, Tells};
-ghost use Rattle.ei_request.specs.Handling.{Handles, HandlesTo, obeys, hands_out, closes_group, queued_of, ClosesWith, device_in, set_of};
+ghost use Rattle.ei_request.specs.Handling.{Handles, HandlesTo, obeys, hands_out, closes_group, queued_of, ClosesWith, Times, device_in, set_of};
 ghost use Rattle.ei_request.specs.Lending.{LendsHandle};
 
 use crate::connection::Connection;
@@ -278,12 +278,21 @@ impl EisRequestConverter {
     {
         let waiting = self.handle.waiting(id);
         self.queue.reserve_group(waiting)?;
-        let time = if waiting > 0 { clock.now() } else { 0 };
+        let time = made_time(clock, waiting);
         let serial = self.handle.last_serial();
         self.handle.hand_out(&mut self.queue, id, serial, time);
         self.queue.push_reserved(request);
         Ok(())
     }
+}
+
+/// The time of a frame that is made for so many inputs: the clock's next reading. Where no input waits no frame is made, and the
+/// clock isn't asked.
+fn made_time<C: Clock>(clock: &mut C, waiting: usize) -> u64
+    ensures time { Times true (nat_lt 0 waiting) result (C.readings clock.old) (C.readings clock.new) }
+    ensures clock { LentClock C.later clock.old clock.new }
+{
+    if waiting > 0 { clock.now() } else { 0 }
 }
 
 /// What a request to the device becomes in the queue.
