@@ -28,34 +28,60 @@ pub(crate) fn show<R: Print + AllocGlobal>(rt: &R) -> Result<(), Stop> {
     Ok(())
 }
 
-/// What the calls of that end's own context do: it sends the version of its handshake, and five bytes come.
+/// What the calls of an end's own context do: it sends the version of its handshake, and a piece comes.
 macro_rules! own_calls {
-    ($end:ident, $alloc:ident) => {{
-        let mut context = $end::Context::new($alloc)?;
-        let handshake = context.handshake().ok_or(Stop::Object)?;
-        handshake.handshake_version(&mut context, 1)?;
-        let waiting = context.unsent_len();
-        let mut tray = Tray::new($alloc);
-        context.flush(&mut tray)?;
-        let read = context.read(&mut in_pieces($alloc, &[1, 2, 3, 4, 5], &[], 65536)?)?;
-        format!(
+    ($alloc:ident, $context:ident, $pieces:ident, $tray:ident) => {{
+        {
+            let handshake = $context.handshake().ok_or(Stop::Object)?;
+            handshake.handshake_version($context, 1)?;
+        }
+        let waiting = $context.unsent_len();
+        $context.flush($tray)?;
+        let read = $context.read($pieces)?;
+        Ok(format!(
             in $alloc;
             "{waiting} bytes wait, {} left, {} sent, {read} read, {} unread",
-            context.unsent_len(),
-            tray.bytes().len(),
-            context.unread_len()
-        )?
+            $context.unsent_len(),
+            $tray.bytes().len(),
+            $context.unread_len()
+        )?)
     }};
 }
 
-/// Those of a client.
-fn client_calls(alloc: Global) -> Result<String, Stop> {
-    Ok(own_calls!(ei_client, alloc))
+/// Those of a client, over these.
+fn client_over(
+    alloc: Global,
+    context: &mut ei_client::Context,
+    pieces: &mut Pieces,
+    tray: &mut Tray,
+) -> Result<String, Stop> {
+    own_calls!(alloc, context, pieces, tray)
 }
 
-/// Those of a server.
+/// Those of a server, over these.
+fn server_over(
+    alloc: Global,
+    context: &mut ei_server::Context,
+    pieces: &mut Pieces,
+    tray: &mut Tray,
+) -> Result<String, Stop> {
+    own_calls!(alloc, context, pieces, tray)
+}
+
+/// Those of a client to which five bytes come.
+fn client_calls(alloc: Global) -> Result<String, Stop> {
+    let mut pieces = in_pieces(alloc, &[1, 2, 3, 4, 5], &[], 65536)?;
+    let mut tray = Tray::new(alloc);
+    let mut context = ei_client::Context::new(alloc)?;
+    client_over(alloc, &mut context, &mut pieces, &mut tray)
+}
+
+/// Those of a server to which five bytes come.
 fn server_calls(alloc: Global) -> Result<String, Stop> {
-    Ok(own_calls!(ei_server, alloc))
+    let mut pieces = in_pieces(alloc, &[1, 2, 3, 4, 5], &[], 65536)?;
+    let mut tray = Tray::new(alloc);
+    let mut context = ei_server::Context::new(alloc)?;
+    server_over(alloc, &mut context, &mut pieces, &mut tray)
 }
 
 /// The bytes of the event that ends a connection without a text, and whether the connection is alive then.
