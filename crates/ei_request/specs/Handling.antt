@@ -156,12 +156,6 @@ abbrev pub Times : Bool → Bool → ℕ → Option (List ℕ) → Option (List 
 Times true true time before after = (told : List ℕ) → before ≡ Some told → ReadsClock told after time
 Times closing waiting time before after = after ≡ before
 
--- An open group of the device is closed, and the request is queued behind it. The clock is asked where a frame is made.
-pub record ClosesWith (old : ConverterView) (id : ℕ) (request : EisRequest) (before after : Option (List ℕ)) (new : ConverterView) : Type 0 where
-  pub time : ℕ
-  pub clock : Times true (is_some_waiting (device_in old id)) time before after
-  pub does : new ≡ closes old id time (λ device. request) (device_in old id)
-
 -- The request is taken: nothing refuses it, the clock is asked where a frame is made, and the converter does what it asks.
 pub record TakesRequest (old : ConverterView) (id version : ℕ) (meaning : Meaning) (before after : Option (List ℕ)) (new : ConverterView) : Type 0 where
   pub time : ℕ

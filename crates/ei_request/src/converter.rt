@@ -1,6 +1,6 @@
 //! The server's converter.
 
-ghost use Rattle.std.specs.Prelude.{◌≡◌, ◌++◌, [], ℕ, length, nat_lt, true, List, Option, OnOk, OnErr, IfOk, IfErr, IsSome, None, find};
+ghost use Rattle.std.specs.Prelude.{◌≡◌, ◌++◌, [], ℕ, length, nat_lt, true, List, Option, OnOk, OnErr, IfOk, IfErr, None, find};
 ghost use Rattle.std.specs.Borrow.{sem};
 ghost use Rattle.ei_types.specs.declared.error.Error.TheVariants as error;
 ghost use Rattle.ei_backend.specs.Lent.{LentClock};
@@ -10,7 +10,7 @@ ghost use Rattle.ei_request.specs.Converter.{first_of, rest_of};
 ghost use Rattle.ei_request.specs.Typed.{connection_meaning, seat_meaning, device_meaning};
 ghost use Rattle.ei_request.specs.Held.{is_seat, has_interface};
 ghost use Rattle.ei_request.specs.Refusing.{asked_refusal, mask_refusal, Tells};
-ghost use Rattle.ei_request.specs.Handling.{Handles, HandlesTo, obeys, hands_out, closes_group, queued_of, ClosesWith, Times, device_in, set_of};
+ghost use Rattle.ei_request.specs.Handling.{Handles, HandlesTo, obeys, hands_out, closes_group, queued_of, Times, device_in, set_of};
 ghost use Rattle.ei_request.specs.Lending.{LendsHandle};
 
 use crate::connection::Connection;
@@ -164,7 +164,10 @@ impl EisRequestConverter {
                 }
                 self.handle.call_back(&callback)?;
             }
-            connection::Request::Disconnect => self.queue.push(EisRequest::Disconnect)?,
+            connection::Request::Disconnect => {
+                self.queue.reserve(1)?;
+                self.queue.push_reserved(EisRequest::Disconnect);
+            }
         }
         Ok(())
     }
@@ -178,16 +181,18 @@ impl EisRequestConverter {
             seat::Request::Release => self.handle.release_seat(id)?,
             seat::Request::Bind { capabilities } => {
                 if let Some((seat, capabilities)) = self.masked(id, capabilities)? {
+                    self.queue.reserve(1)?;
                     self.queue
-                        .push(EisRequest::Bind(event::Bind { seat, capabilities }))?;
+                        .push_reserved(EisRequest::Bind(event::Bind { seat, capabilities }));
                 }
             }
             seat::Request::RequestDevice { capabilities } => {
                 if let Some((seat, capabilities)) = self.masked(id, capabilities)? {
-                    self.queue.push(EisRequest::RequestDevice(event::RequestDevice {
+                    self.queue.reserve(1)?;
+                    self.queue.push_reserved(EisRequest::RequestDevice(event::RequestDevice {
                         seat,
                         capabilities,
-                    }))?;
+                    }));
                 }
             }
         }
@@ -234,7 +239,8 @@ impl EisRequestConverter {
         }
     }
 
-    /// A request to the device of that id that isn't a frame. It closes an open group, if the device is held.
+    /// A request to the device of that id that isn't a frame. If the device is held, what waits on it is handed out with a
+    /// made frame, and the request behind it, which is made only once there is room for all.
     #[inline(never)]
     fn handle_closing<C: Clock>(
         &mut self,
@@ -250,8 +256,14 @@ impl EisRequestConverter {
         let Some(held) = self.handle.find_device(id) else {
             return Ok(());
         };
-        let queued = queued_of(held.device().copy(), request);
-        self.close(clock, id, queued)
+        let waiting = self.handle.waiting(id);
+        self.queue.reserve_group(waiting)?;
+        let device = held.device().copy();
+        let time = made_time(clock, waiting);
+        let serial = self.handle.last_serial();
+        self.handle.hand_out(&mut self.queue, id, serial, time);
+        self.queue.push_reserved(queued_of(device, request));
+        Ok(())
     }
 
     /// Hands out what waits on the device of that id with a frame, if it is held.
@@ -263,25 +275,6 @@ impl EisRequestConverter {
         let waiting = self.handle.waiting(id);
         self.queue.reserve_group(waiting)?;
         self.handle.hand_out(&mut self.queue, id, serial, time);
-        Ok(())
-    }
-
-    /// Hands out what waits on the device of that id with a made frame, and the request behind it. The device is held.
-    #[inline(never)]
-    fn close<C: Clock>(&mut self, clock: &mut C, id: u64, request: EisRequest) -> Result<(), Error>
-        requires held { IsSome (device_in self.old id) }
-        ensures ok { OnOk result (ClosesWith self.old id request (C.readings clock.old) (C.readings clock.new) self.new) }
-        ensures err { OnErr result (self.new ≡ self.old) }
-        ensures only { IfErr result (λ e. e ≡ error.NoMemory) }
-        ensures kept { OnErr result (clock.new ≡ clock.old) }
-        ensures clock { LentClock C.later clock.old clock.new }
-    {
-        let waiting = self.handle.waiting(id);
-        self.queue.reserve_group(waiting)?;
-        let time = made_time(clock, waiting);
-        let serial = self.handle.last_serial();
-        self.handle.hand_out(&mut self.queue, id, serial, time);
-        self.queue.push_reserved(request);
         Ok(())
     }
 }

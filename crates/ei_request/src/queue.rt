@@ -58,7 +58,7 @@ impl Queue {
     }
 
     /// Makes room for so many more.
-    fn reserve(&mut self, additional: usize) -> Result<(), AllocError>
+    pub(crate) fn reserve(&mut self, additional: usize) -> Result<(), AllocError>
         ensures items { self.new.items ≡ self.old.items }
         ensures ok { OnOk result (additional ≤ self.new.room) }
     {
@@ -73,16 +73,6 @@ impl Queue {
         ensures room { self.new.room + 1 ≡ self.old.room }
     {
         self.rest.push_reserved(request);
-    }
-
-    /// Adds a request. A refusal is want of memory.
-    pub(crate) fn push(&mut self, request: EisRequest) -> Result<(), AllocError>
-        ensures ok { OnOk result (self.new.items ≡ self.old.items ++ request ∷ []) }
-        ensures err { OnErr result (self.new.items ≡ self.old.items) }
-    {
-        self.reserve(1)?;
-        self.push_reserved(request);
-        Ok(())
     }
 
     /// Takes the oldest.

@@ -1,5 +1,5 @@
 -- A session on its way: what it took, gave and replied since its start.
-use Rattle.std.proofs.Common.{◌≡◌, ℕ, zero, suc, ◌+◌, ◌≤◌, List, [], ◌∷◌, ◌++◌, length, take, drop, Option, Some, refl, ap, sym, subst, ◌∙◌, arith}
+use Rattle.std.proofs.Common.{◌≡◌, ℕ, zero, suc, ◌+◌, ◌≤◌, List, [], ◌∷◌, ◌++◌, length, take, drop, Option, Some, None, refl, ap, sym, subst, ◌∙◌, arith}
 use Rattle.std.specs.Prelude.{slice_get}
 use Rattle.std.proofs.lemmas.List.{length-append, drop-drop}
 use Rattle.std.proofs.lemmas.Grind.{flat_map-append}
@@ -99,6 +99,10 @@ nothing_read setup = refl
 
 none_accepted : (setup : Setup) → accepted setup (stream []) ≡ []
 none_accepted setup = ap (λ (r : Reading Cause). r.past) (nothing_read setup)
+
+-- of a sink that told nothing before, anything is behind that
+pub untold_replied : (setup : Setup) (messages : List Raw) (new : Option Piece) → Replied setup messages None new
+untold_replied setup messages new held told = absurd cc
 
 -- a session that just started stands for no pieces
 pub stands_for_none : (setup : Setup) (s : SessionState) → setup_of s.start.setup ≡ setup → StandsAt setup [] [] [] [] s.phase → s.taken ≡ 0 → Stands setup [] [] s

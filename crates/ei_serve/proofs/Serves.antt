@@ -39,7 +39,8 @@ use Rattle.ei_serve.specs.Taking.{Hands, HasNone, with_next}
 use Rattle.ei_serve.specs.Refusing.{refusal_of, IsRefused}
 use Rattle.ei_serve.specs.Turning.{Closes, ClosesRefused, Finds, Stays, BreaksOff, Turns, IsAtEnd}
 use Rattle.ei_serve.specs.Serving.{AnswersAs, IsDecided, IsCutShort, IsOfSession, IsSourceEnd, TookPieces, HandsOut, LeftReadings, Replied, RepliedInPart}
-use Rattle.ei_serve.specs.Serving.{RepliedAtLeast, ReadValid, Handled, TookToTheEnd, TookToPiece, TookAllOf, CutShort}
+use Rattle.ei_serve.specs.Serving.{RepliedAtLeast, ReadValid, TookToTheEnd, TookToPiece, TookAllOf, CutShort}
+use Rattle.ei_serve.specs.Whole.{Serves}
 use Rattle.ei_serve.proofs.Going.{drop_none, none_more, more_more, gives_none, gives_then, drawn_then, leaves_then}
 use Rattle.ei_serve.proofs.Histories.{GoesOn as GoingOn, IsEarly, IsStopped, end_is_no_stop, goes_on_more, going, stopped, too_many_pieces}
 use Rattle.ei_serve.proofs.Histories.{too_many_handles_come, session_front}
@@ -233,17 +234,6 @@ at_least_front setup before messages x y more e r held told =
     (all_bytes p.0, r held told ∙ ap (λ (t : List ℕ). Some (with_more t [] held)) bytes)
 
 -- ---- all that is said of a session over pieces that were told
-
-pub record Serves (setup : Setup) (told : List Piece) (result : Result HowEnded Error) (old new : Around) : Type 0 where
-  pub answer : AnswersAs (session setup told).answer result
-  pub requests : IsDecided result → HandsOut setup (session setup told).handled old.readings old.out new.out
-  pub replies : IsDecided result → Replied setup (session setup told).handled old.took new.took
-  pub readings : IsDecided result → LeftReadings setup (session setup told).handled old.readings new.readings
-  pub valid : OnOk result (ReadValid setup told new.left (session setup told).handled)
-  pub taken : IsDecided result → TookAllOf setup told new.left result
-  pub pieces : (k : ℕ) × (k ≤ setup.pieces + 1) × TookPieces told new.left k
-  pub handled : IsErrOf result error.ReadFault → Handled setup told new.left old.readings old.out new.out old.took new.took
-  pub cut_short : IsCutShort result → CutShort setup told new.left old.readings old.out new.out old.took new.took
 
 no_fault : (r : Result HowEnded Error) → IsDecided r → IsErrOf r error.ReadFault → ⊥
 no_fault (Err error.ReadFault) d e = d
@@ -538,6 +528,11 @@ pub sure : (setup : Setup) (told : List Piece) (e : Error) (r : Result HowEnded 
 sure setup told e r x z same c serves rf wf =
     subst (λ (q : Result HowEnded Error). IfErr q (λ q. q ≡ error.NoMemory)) (sym same)
     (sure_by (session setup told).answer e (complete_ends setup told c).good (subst (λ (q : Result HowEnded Error). AnswersAs (session setup told).answer q) same serves.answer) rf wf)
+
+-- the same of any result
+pub sure_of : (setup : Setup) (told : List Piece) (r : Result HowEnded Error) (x z : Around) → AreComplete setup told → Serves setup told r x z → (IsErrOf r error.ReadFault → ⊥) → (IsErrOf r error.WriteFault → ⊥) → IfErr r (λ q. q ≡ error.NoMemory)
+sure_of setup told (Ok how) x z c serves rf wf = tt
+sure_of setup told (Err e) x z c serves rf wf = sure setup told e (Err e) x z refl c serves (λ q. rf (ap (λ (f : Error). Err f) q)) (λ q. wf (ap (λ (f : Error). Err f) q))
 
 -- an error of the source's end is that of the turn
 no_end_by : (e : Error) → IsSourceEnd (Err e) → IsAtEnd (Err e)

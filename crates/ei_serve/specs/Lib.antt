@@ -8,6 +8,7 @@ pub mod Steps
 pub mod Taking
 pub mod Turning
 pub mod Serving
+pub mod Whole
 pub mod Policy
 -- what the clauses cite of the crates below
 pub use Rattle.ei_spec.specs.Message

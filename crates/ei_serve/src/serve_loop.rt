@@ -1,15 +1,17 @@
 //! A whole session.
 
-ghost use Rattle.std.specs.Prelude.{◌≡◌, ◌≤◌, ◌+◌, ℕ, List, Some, IsErrOf, IfErr, OnOk};
+ghost use Rattle.std.specs.Prelude.{◌≡◌, ◌≤◌, ◌+◌, ℕ, List, [], Option, Some, IsErrOf, IfErr, OnOk};
 ghost use Rattle.ei_types.specs.Capability.{bits_of, all_bits};
 ghost use Rattle.ei_types.specs.declared.error.Error.TheVariants as error;
 ghost use Rattle.ei_session.specs.Served.{session};
 ghost use Rattle.ei_session.specs.Complete.{AreComplete};
 ghost use Rattle.ei_backend.specs.Outside.{Piece, Rose};
 ghost use Rattle.ei_backend.specs.Lent.{LentSource, LentSink, LentClock};
-ghost use Rattle.ei_serve.specs.Standing.{setup_of};
+ghost use Rattle.ei_serve.specs.Around.{around};
+ghost use Rattle.ei_serve.specs.Standing.{Stands, setup_of};
 ghost use Rattle.ei_serve.specs.Serving.{AnswersAs, IsDecided, IsCutShort, IsOfSession, IsSourceEnd, TookPieces, TookAllOf, HandsOut, LeftReadings, Replied};
 ghost use Rattle.ei_serve.specs.Serving.{ReadValid, Handled, CutShort};
+ghost use Rattle.ei_serve.specs.Whole.{Serves};
 
 use crate::session::{Ended, Session, Setup, Turn};
 use ei_backend::{Clock, Sink, Source};
@@ -70,6 +72,31 @@ pub fn serve<S: Source, K: Sink, C: Clock>(
     ensures clock { LentClock C.later clock.old clock.new }
 {
     let mut session = Session::start(alloc, setup, sink)?;
+    take_turns(&mut session, source, sink, clock, setup, out)
+}
+
+/// Takes the turns of a session that has just started, until one of them ends it.
+fn take_turns<S: Source, K: Sink, C: Clock>(
+    session: &mut Session,
+    source: &mut S,
+    sink: &mut K,
+    clock: &mut C,
+    setup: Setup,
+    out: &mut Vec<EisRequest>,
+) -> Result<Ended, Error>
+    requires started { Stands (setup_of setup) [] [] session.old }
+    // over a source that tells its pieces, where the sink has the greeting behind what it held before: the session that the definitions say
+    ensures serves { (before : Option Piece) → Replied (setup_of setup) [] before (K.taken sink.old) →
+        (told : List Piece) → S.left source.old ≡ Some told →
+        Serves (setup_of setup) told result (around (S.left source.old) out.old.items before (C.readings clock.old))
+        (around (S.left source.new) out.new.items (K.taken sink.new) (C.readings clock.new)) }
+    // over any source
+    ensures only { IfErr result IsOfSession }
+    // what source, sink and clock say
+    ensures source { LentSource S.faults S.last S.later (IsErrOf result error.ReadFault) (IsSourceEnd result) source.old source.new }
+    ensures sink { LentSink K.faults K.later (IsErrOf result error.WriteFault) sink.old sink.new }
+    ensures clock { LentClock C.later clock.old clock.new }
+{
     for _turn in 0..u64::from(setup.pieces) + 1 {
         match session.turn(source, sink, clock, out)? {
             Turn::GoOn => {}
