@@ -1,11 +1,10 @@
 //! The client's end: its proxies, and its requests, each with the arguments that the table has.
 
-use crate::end::{End, HALF, MINUS_ONE, ONE, TWO, send_by, send_to};
+use crate::end::{End, HALF, MINUS_ONE, ONE, Sends, TWO, send_by, send_to, without_proxy};
 use crate::proxies::shown;
-use crate::targets::proxy;
 use ei_backend::{Interface, Kind, Object, PendingRequestResult};
 use ei_client::{
-    Button, Connection, Context, Device, Event, Handshake, Keyboard, Pingpong, Pointer,
+    Button, Callback, Connection, Context, Device, Event, Handshake, Keyboard, Pingpong, Pointer,
     PointerAbsolute, Proxy, Scroll, Seat, Text, Touchscreen, connection, device, handshake, seat,
 };
 use ei_spec::KnownInterface;
@@ -46,112 +45,147 @@ impl End for Context {
     fn text_of<K: Kind + Drop>(
         &self,
         alloc: Global,
-        object: Object,
+        object: &Object,
     ) -> Result<Option<String>, AllocError> {
         shown::<Proxy<K>, Context>(alloc, self, object)
     }
 }
 
-fn send_handshake(context: &mut Context, opcode: u32) -> Result<(), SendError> {
-    send_by! { context, opcode, handshake: Handshake,
-        0 => handshake.handshake_version(context, 4),
-        1 => handshake.finish(context),
-        2 => handshake.context_type(context, ContextType::Receiver),
-        3 => handshake.name(context, "abc"),
-        4 => handshake.interface_version(context, "ab", 7),
+impl Sends<Context> for Handshake {
+    fn send(&self, context: &mut Context, opcode: u32) -> Result<(), SendError> {
+        match opcode {
+            0 => self.handshake_version(context, 4),
+            1 => self.finish(context),
+            2 => self.context_type(context, ContextType::Receiver),
+            3 => self.name(context, "abc"),
+            4 => self.interface_version(context, "ab", 7),
+            _ => Ok(()),
+        }
     }
 }
 
-fn send_connection(context: &mut Context, opcode: u32) -> Result<(), SendError> {
-    send_by! { context, opcode, connection: Connection,
-        0 => {
-            connection.sync(context, 3)?;
-            Ok(())
-        },
-        1 => connection.disconnect(context),
+impl Sends<Context> for Connection {
+    fn send(&self, context: &mut Context, opcode: u32) -> Result<(), SendError> {
+        match opcode {
+            0 => without_proxy(self.sync(context, 3)),
+            1 => self.disconnect(context),
+            _ => Ok(()),
+        }
     }
 }
 
 /// A client sends nothing to a callback.
-fn send_callback(_context: &mut Context, _opcode: u32) -> Result<(), SendError> {
-    Ok(())
-}
-
-fn send_ping(context: &mut Context, opcode: u32) -> Result<(), SendError> {
-    send_by! { context, opcode, ping: Pingpong,
-        0 => ping.done(context, 0x0102_0304_0506_0708),
+impl Sends<Context> for Callback {
+    fn send(&self, _context: &mut Context, _opcode: u32) -> Result<(), SendError> {
+        Ok(())
     }
 }
 
-fn send_seat(context: &mut Context, opcode: u32) -> Result<(), SendError> {
-    send_by! { context, opcode, seat: Seat,
-        0 => seat.release(context),
-        1 => seat.bind(context, 127),
-        2 => seat.request_device(context, 33),
+impl Sends<Context> for Pingpong {
+    fn send(&self, context: &mut Context, opcode: u32) -> Result<(), SendError> {
+        match opcode {
+            0 => self.done(context, 0x0102_0304_0506_0708),
+            _ => Ok(()),
+        }
     }
 }
 
-fn send_device(context: &mut Context, opcode: u32) -> Result<(), SendError> {
-    send_by! { context, opcode, device: Device,
-        0 => device.release(context),
-        1 => device.start_emulating(context, 5, 6),
-        2 => device.stop_emulating(context, 7),
-        3 => device.frame(context, 8, 1000),
-        4 => device.ready(context),
+impl Sends<Context> for Seat {
+    fn send(&self, context: &mut Context, opcode: u32) -> Result<(), SendError> {
+        match opcode {
+            0 => self.release(context),
+            1 => self.bind(context, 127),
+            2 => self.request_device(context, 33),
+            _ => Ok(()),
+        }
     }
 }
 
-fn send_pointer(context: &mut Context, opcode: u32) -> Result<(), SendError> {
-    send_by! { context, opcode, pointer: Pointer,
-        0 => pointer.release(context),
-        1 => pointer.motion_relative(context, MINUS_ONE, ONE),
+impl Sends<Context> for Device {
+    fn send(&self, context: &mut Context, opcode: u32) -> Result<(), SendError> {
+        match opcode {
+            0 => self.release(context),
+            1 => self.start_emulating(context, 5, 6),
+            2 => self.stop_emulating(context, 7),
+            3 => self.frame(context, 8, 1000),
+            4 => self.ready(context),
+            _ => Ok(()),
+        }
     }
 }
 
-fn send_absolute(context: &mut Context, opcode: u32) -> Result<(), SendError> {
-    send_by! { context, opcode, pointer: PointerAbsolute,
-        0 => pointer.release(context),
-        1 => pointer.motion_absolute(context, HALF, TWO),
+impl Sends<Context> for Pointer {
+    fn send(&self, context: &mut Context, opcode: u32) -> Result<(), SendError> {
+        match opcode {
+            0 => self.release(context),
+            1 => self.motion_relative(context, MINUS_ONE, ONE),
+            _ => Ok(()),
+        }
     }
 }
 
-fn send_scroll(context: &mut Context, opcode: u32) -> Result<(), SendError> {
-    send_by! { context, opcode, scroll: Scroll,
-        0 => scroll.release(context),
-        1 => scroll.scroll(context, TWO, MINUS_ONE),
-        2 => scroll.scroll_discrete(context, -120, 120),
-        3 => scroll.scroll_stop(context, 0, 1, 2),
+impl Sends<Context> for PointerAbsolute {
+    fn send(&self, context: &mut Context, opcode: u32) -> Result<(), SendError> {
+        match opcode {
+            0 => self.release(context),
+            1 => self.motion_absolute(context, HALF, TWO),
+            _ => Ok(()),
+        }
     }
 }
 
-fn send_button(context: &mut Context, opcode: u32) -> Result<(), SendError> {
-    send_by! { context, opcode, button: Button,
-        0 => button.release(context),
-        1 => button.button(context, 273, ButtonState::Released),
+impl Sends<Context> for Scroll {
+    fn send(&self, context: &mut Context, opcode: u32) -> Result<(), SendError> {
+        match opcode {
+            0 => self.release(context),
+            1 => self.scroll(context, TWO, MINUS_ONE),
+            2 => self.scroll_discrete(context, -120, 120),
+            3 => self.scroll_stop(context, 0, 1, 2),
+            _ => Ok(()),
+        }
     }
 }
 
-fn send_keyboard(context: &mut Context, opcode: u32) -> Result<(), SendError> {
-    send_by! { context, opcode, keyboard: Keyboard,
-        0 => keyboard.release(context),
-        1 => keyboard.key(context, 31, KeyState::Press),
+impl Sends<Context> for Button {
+    fn send(&self, context: &mut Context, opcode: u32) -> Result<(), SendError> {
+        match opcode {
+            0 => self.release(context),
+            1 => self.button(context, 273, ButtonState::Released),
+            _ => Ok(()),
+        }
     }
 }
 
-fn send_touchscreen(context: &mut Context, opcode: u32) -> Result<(), SendError> {
-    send_by! { context, opcode, touchscreen: Touchscreen,
-        0 => touchscreen.release(context),
-        1 => touchscreen.down(context, 11, ONE, TWO),
-        2 => touchscreen.motion(context, 12, TWO, ONE),
-        3 => touchscreen.up(context, 13),
-        4 => touchscreen.cancel(context, 14),
+impl Sends<Context> for Keyboard {
+    fn send(&self, context: &mut Context, opcode: u32) -> Result<(), SendError> {
+        match opcode {
+            0 => self.release(context),
+            1 => self.key(context, 31, KeyState::Press),
+            _ => Ok(()),
+        }
     }
 }
 
-fn send_text(context: &mut Context, opcode: u32) -> Result<(), SendError> {
-    send_by! { context, opcode, text: Text,
-        0 => text.release(context),
-        1 => text.keysym(context, 98, KeyState::Released),
-        2 => text.utf8(context, "xé"),
+impl Sends<Context> for Touchscreen {
+    fn send(&self, context: &mut Context, opcode: u32) -> Result<(), SendError> {
+        match opcode {
+            0 => self.release(context),
+            1 => self.down(context, 11, ONE, TWO),
+            2 => self.motion(context, 12, TWO, ONE),
+            3 => self.up(context, 13),
+            4 => self.cancel(context, 14),
+            _ => Ok(()),
+        }
+    }
+}
+
+impl Sends<Context> for Text {
+    fn send(&self, context: &mut Context, opcode: u32) -> Result<(), SendError> {
+        match opcode {
+            0 => self.release(context),
+            1 => self.keysym(context, 98, KeyState::Released),
+            2 => self.utf8(context, "xé"),
+            _ => Ok(()),
+        }
     }
 }

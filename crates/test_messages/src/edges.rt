@@ -15,25 +15,28 @@ use std::io::Print;
 
 /// Shows each.
 pub(crate) fn show<R: Print + AllocGlobal>(rt: &R) -> Result<(), Stop> {
-    println!(rt; "without a text: {}", without_a_text(rt.alloc())?)?;
-    for count in &[1048555, 1048556] {
-        println!(rt;
-            "a name of {count} bytes: {}",
-            name_carried(rt.alloc(), *count)?
-        )?;
-    }
-    println!(rt; "other proxies: {}", other_proxies(rt.alloc())?)?;
-    println!(rt; "a client: {}", client_calls(rt.alloc())?)?;
-    println!(rt; "a server: {}", server_calls(rt.alloc())?)?;
+    let alloc = rt.alloc();
+    show_found(rt, "without a text", without_a_text(alloc))?;
+    show_found(rt, "a name of 1048555 bytes", name_carried(alloc, 1048555))?;
+    show_found(rt, "a name of 1048556 bytes", name_carried(alloc, 1048556))?;
+    show_found(rt, "other proxies", other_proxies(alloc))?;
+    show_found(rt, "a client", client_calls(alloc))?;
+    show_found(rt, "a server", server_calls(alloc))
+}
+
+/// Shows what was found, behind what it is.
+fn show_found<R: Print>(rt: &R, what: &str, found: Result<String, Stop>) -> Result<(), Stop> {
+    let text = found?;
+    println!(rt; "{what}: {text}")?;
     Ok(())
 }
 
 /// What the calls of an end's own context do: it sends the version of its handshake, and a piece comes.
 macro_rules! own_calls {
     ($alloc:ident, $context:ident, $pieces:ident, $tray:ident) => {{
-        {
-            let handshake = $context.handshake().ok_or(Stop::Object)?;
-            handshake.handshake_version($context, 1)?;
+        match $context.handshake() {
+            Some(handshake) => handshake.handshake_version($context, 1)?,
+            None => return Err(Stop::Object),
         }
         let waiting = $context.unsent_len();
         $context.flush($tray)?;
@@ -87,21 +90,26 @@ fn server_calls(alloc: Global) -> Result<String, Stop> {
 /// The bytes of the event that ends a connection without a text, and whether the connection is alive then.
 fn without_a_text(alloc: Global) -> Result<String, Stop> {
     let mut server: ei_server::Context = with_targets(alloc)?;
-    let alive = lives_on(&mut server)?;
-    sent(alloc, server.backend(), alive)
+    match proxy(&server) {
+        Some(connection) => disconnected(alloc, &mut server, &connection),
+        None => Err(Stop::Object),
+    }
+}
+
+/// The same of this server's connection.
+fn disconnected(
+    alloc: Global,
+    server: &mut ei_server::Context,
+    connection: &ei_server::Connection,
+) -> Result<String, Stop> {
+    connection.disconnected(server, 5, DisconnectReason::Value, None)?;
+    sent(alloc, server.backend(), connection.is_alive(server))
 }
 
 /// The bytes that an end sends, and whether the connection is alive.
 fn sent(alloc: Global, backend: &Backend, alive: bool) -> Result<String, Stop> {
     let digits = hex::encode(alloc, backend.unsent())?;
     Ok(format!(in alloc; "{digits}, alive {alive}")?)
-}
-
-/// Whether the connection is alive once its last event is sent, without a text.
-fn lives_on(server: &mut ei_server::Context) -> Result<bool, Stop> {
-    let connection: ei_server::Connection = proxy(server).ok_or(Stop::Object)?;
-    connection.disconnected(server, 5, DisconnectReason::Value, None)?;
-    Ok(connection.is_alive(server))
 }
 
 /// A name of so many letters.
@@ -187,18 +195,21 @@ fn letters_of<M: MessageEnum>(alloc: Global, message: &M) -> Result<usize, NoMem
 /// Whether a seat of the server has a proxy of a connection, and one of a client's seat; and a connection of the
 /// client one of a server's connection, and one of a seat.
 fn other_proxies(alloc: Global) -> Result<String, Stop> {
-    let seat = others::<ei_server::Context, ei_server::Seat>(alloc)?;
-    let connection = others::<ei_client::Context, ei_client::Connection>(alloc)?;
-    Ok(format!(in alloc; "{seat} {connection}")?)
+    let (first, second) = others::<ei_server::Context, ei_server::Seat>(alloc)?;
+    let (third, fourth) = others::<ei_client::Context, ei_client::Connection>(alloc)?;
+    Ok(format!(in alloc; "{first} {second} {third} {fourth}")?)
 }
 
 /// Whether the object of that proxy has one of a server's connection, and one of a client's seat.
-fn others<E: End, T: Interface + Drop>(alloc: Global) -> Result<String, Stop> {
+fn others<E: End, T: Interface + Drop>(alloc: Global) -> Result<(bool, bool), Stop> {
     let end: E = with_targets(alloc)?;
-    let it: T = proxy(&end).ok_or(Stop::Object)?;
-    let connection = has_proxy::<ei_server::Connection>(it.as_object().copy());
-    let seat = has_proxy::<ei_client::Seat>(it.as_object().copy());
-    Ok(format!(in alloc; "{connection} {seat}")?)
+    match proxy::<T, E>(&end) {
+        Some(it) => Ok((
+            has_proxy::<ei_server::Connection>(it.as_object().copy()),
+            has_proxy::<ei_client::Seat>(it.as_object().copy()),
+        )),
+        None => Err(Stop::Object),
+    }
 }
 
 /// Whether the object has a proxy of that type.

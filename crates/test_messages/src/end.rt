@@ -1,6 +1,7 @@
 //! An end of the protocol, as the tests see it.
 
-use ei_backend::{HasBackend, Kind, MessageEnum, Object, PendingRequestResult};
+use crate::targets::proxy;
+use ei_backend::{HasBackend, Interface, Kind, MessageEnum, Object, PendingRequestResult};
 use ei_spec::KnownInterface;
 use ei_wire::{NoMemory, RawFloat, SendError};
 use std::alloc::{AllocError, Global};
@@ -38,52 +39,54 @@ pub(crate) trait End: HasBackend + Drop {
     fn text_of<K: Kind + Drop>(
         &self,
         alloc: Global,
-        object: Object,
+        object: &Object,
     ) -> Result<Option<String>, AllocError>;
 }
 
-/// Sends the message of that opcode to the object of the interface, by the function of the end for it.
+/// A proxy that sends each message of its interface, with the arguments that the table has.
+pub(crate) trait Sends<C>: Interface + Drop {
+    /// Sends the message of that opcode. Nothing where the interface has no such message of this end.
+    fn send(&self, context: &mut C, opcode: u32) -> Result<(), SendError>;
+}
+
+/// Sends the message of that opcode by the proxy of that type, if there is one.
+pub(crate) fn send_by<T: Sends<C>, C: HasBackend>(
+    context: &mut C,
+    opcode: u32,
+) -> Result<(), SendError> {
+    match proxy::<T, C>(context) {
+        Some(proxy) => proxy.send(context, opcode),
+        None => Ok(()),
+    }
+}
+
+/// What became of a message that announces an object, without the proxy of the object.
+pub(crate) fn without_proxy<T: Drop>(sent: Result<T, SendError>) -> Result<(), SendError> {
+    match sent {
+        Ok(_proxy) => Ok(()),
+        Err(error) => Err(error),
+    }
+}
+
+/// Sends the message of that opcode to the object of the interface, by the end's proxy of it.
 macro_rules! send_to {
     ($context:ident, $interface:ident, $opcode:ident) => {
         match $interface {
-            KnownInterface::Handshake => send_handshake($context, $opcode),
-            KnownInterface::Connection => send_connection($context, $opcode),
-            KnownInterface::Callback => send_callback($context, $opcode),
-            KnownInterface::Pingpong => send_ping($context, $opcode),
-            KnownInterface::Seat => send_seat($context, $opcode),
-            KnownInterface::Device => send_device($context, $opcode),
-            KnownInterface::Pointer => send_pointer($context, $opcode),
-            KnownInterface::PointerAbsolute => send_absolute($context, $opcode),
-            KnownInterface::Scroll => send_scroll($context, $opcode),
-            KnownInterface::Button => send_button($context, $opcode),
-            KnownInterface::Keyboard => send_keyboard($context, $opcode),
-            KnownInterface::Touchscreen => send_touchscreen($context, $opcode),
-            KnownInterface::Text => send_text($context, $opcode),
+            KnownInterface::Handshake => send_by::<Handshake, Context>($context, $opcode),
+            KnownInterface::Connection => send_by::<Connection, Context>($context, $opcode),
+            KnownInterface::Callback => send_by::<Callback, Context>($context, $opcode),
+            KnownInterface::Pingpong => send_by::<Pingpong, Context>($context, $opcode),
+            KnownInterface::Seat => send_by::<Seat, Context>($context, $opcode),
+            KnownInterface::Device => send_by::<Device, Context>($context, $opcode),
+            KnownInterface::Pointer => send_by::<Pointer, Context>($context, $opcode),
+            KnownInterface::PointerAbsolute => send_by::<PointerAbsolute, Context>($context, $opcode),
+            KnownInterface::Scroll => send_by::<Scroll, Context>($context, $opcode),
+            KnownInterface::Button => send_by::<Button, Context>($context, $opcode),
+            KnownInterface::Keyboard => send_by::<Keyboard, Context>($context, $opcode),
+            KnownInterface::Touchscreen => send_by::<Touchscreen, Context>($context, $opcode),
+            KnownInterface::Text => send_by::<Text, Context>($context, $opcode),
         }
     };
 }
 
 pub(crate) use send_to;
-
-/// Sends the message of that opcode by the proxy of its interface, if there is one; nothing where there is no such
-/// message, unless something else is said for the others.
-macro_rules! send_by {
-    ($context:ident, $opcode:ident, $name:ident: $proxy:ty, $($number:literal => $sent:expr,)+) => {
-        send_by! { $context, $opcode, $name: $proxy, $($number => $sent,)+ _ => Ok(()), }
-    };
-    (
-        $context:ident, $opcode:ident, $name:ident: $proxy:ty,
-        $($number:literal => $sent:expr,)+
-        _ => $other:expr,
-    ) => {{
-        let Some($name) = proxy::<$proxy, Context>($context) else {
-            return Ok(());
-        };
-        match $opcode {
-            $($number => $sent,)+
-            _ => $other,
-        }
-    }};
-}
-
-pub(crate) use send_by;

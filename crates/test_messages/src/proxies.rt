@@ -13,14 +13,13 @@ use std::io::Print;
 
 /// Shows the proxy of each interface at each end.
 pub(crate) fn show<R: Print + AllocGlobal>(rt: &R) -> Result<(), Stop> {
-    println!(rt; "proxies of the client")?;
-    show_all::<ei_client::Context, R>(rt)?;
-    println!(rt; "proxies of the server")?;
-    show_all::<ei_server::Context, R>(rt)
+    show_all::<ei_client::Context, R>(rt, "client")?;
+    show_all::<ei_server::Context, R>(rt, "server")
 }
 
-/// Shows the proxy over each object of an end.
-fn show_all<E: End, R: Print + AllocGlobal>(rt: &R) -> Result<(), Stop> {
+/// Shows the proxy over each object of the end of that name.
+fn show_all<E: End, R: Print + AllocGlobal>(rt: &R, name: &str) -> Result<(), Stop> {
+    println!(rt; "proxies of the {name}")?;
     let end: E = with_targets(rt.alloc())?;
     for target in targets() {
         let text = text_of(rt.alloc(), &end, target)?;
@@ -32,14 +31,14 @@ fn show_all<E: End, R: Print + AllocGlobal>(rt: &R) -> Result<(), Stop> {
 /// The proxy over that object of an end.
 fn text_of<E: End>(alloc: Global, end: &E, target: &Target) -> Result<String, Stop> {
     let object = end.backend().object_for_id(target.id).ok_or(Stop::Object)?;
-    proxy_text(alloc, end, object.clone()?)?.ok_or(Stop::Object)
+    proxy_text(alloc, end, object)?.ok_or(Stop::Object)
 }
 
 /// The proxy over the object as a text: `None` where the object has none.
 pub(crate) fn proxy_text<E: End>(
     alloc: Global,
     end: &E,
-    object: Object,
+    object: &Object,
 ) -> Result<Option<String>, AllocError> {
     match KnownInterface::from_name(object.interface()) {
         Some(KnownInterface::Handshake) => end.text_of::<kinds::Handshake>(alloc, object),
@@ -67,13 +66,13 @@ pub(crate) fn proxy_text<E: End>(
 pub(crate) fn shown<T, C>(
     alloc: Global,
     context: &C,
-    object: Object,
+    object: &Object,
 ) -> Result<Option<String>, AllocError>
 where
     T: Interface + Clone + fmt::Debug + Eq + Hash + Drop,
     C: HasBackend,
 {
-    let Some(proxy) = object.downcast::<T>() else {
+    let Some(proxy) = object.clone()?.downcast::<T>() else {
         return Ok(None);
     };
     let mut text = format!(in alloc; "{proxy:?} {}", proxy.as_arg())?;

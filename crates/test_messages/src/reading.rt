@@ -119,6 +119,6 @@ fn has_same_proxy<E: End>(
     object: &Object,
     other: &Object,
 ) -> Result<bool, Stop> {
-    let text = proxy_text(alloc, end, object.clone()?)?;
-    Ok(text == proxy_text(alloc, end, other.clone()?)?)
+    let text = proxy_text(alloc, end, object)?;
+    Ok(text == proxy_text(alloc, end, other)?)
 }

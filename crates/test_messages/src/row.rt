@@ -52,17 +52,17 @@ impl Table {
     fn push(&mut self, alloc: Global, line: &str) -> Result<(), Stop> {
         let (front, read_as) = line.split_once(" | ").ok_or(Stop::Line)?;
         let (kind, digits) = front.split_once(' ').ok_or(Stop::Line)?;
-        let row = Row {
+        let rows = match kind {
+            "event" => &mut self.events,
+            "request" => &mut self.requests,
+            "event-alone" => &mut self.lone_events,
+            "request-alone" => &mut self.lone_requests,
+            _ => return Err(Stop::Line),
+        };
+        rows.push(Row {
             bytes: bytes_of(alloc, digits)?,
             read_as: String::from_str(alloc, read_as)?,
-        };
-        match kind {
-            "event" => self.events.push(row)?,
-            "request" => self.requests.push(row)?,
-            "event-alone" => self.lone_events.push(row)?,
-            "request-alone" => self.lone_requests.push(row)?,
-            _ => return Err(Stop::Line),
-        }
+        })?;
         Ok(())
     }
 }

@@ -1,7 +1,7 @@
 //! The two directions: what is sent, what is read, and what is carried from one end to the other.
 
 use crate::end::End;
-use crate::joined::{Received, carried, read_alone, send};
+use crate::joined::{Received, Sent, carried, read_alone, send};
 use crate::row::{Row, Table};
 use crate::stop::Stop;
 use ei_backend::Tray;
@@ -32,20 +32,29 @@ impl Given {
 
 /// The server sends, the client reads.
 pub(crate) fn events<R: Print + AllocGlobal>(rt: &R, table: &Table) -> Result<(), Stop> {
-    println!(rt; "events")?;
-    show_alone::<ei_client::Context, R>(rt, &table.lone_events, Given::AsTaken)?;
-    show_alone::<ei_client::Context, R>(rt, &table.events, Given::One)?;
-    show_alone::<ei_client::Context, R>(rt, &table.events, Given::AsTaken)?;
-    show_joined::<ei_server::Context, ei_client::Context, R>(rt, &table.events)
+    let (lone, rows) = (&table.lone_events, &table.events);
+    show::<ei_server::Context, ei_client::Context, R>(rt, "events", lone, rows)
 }
 
 /// The client sends, the server reads.
 pub(crate) fn requests<R: Print + AllocGlobal>(rt: &R, table: &Table) -> Result<(), Stop> {
-    println!(rt; "requests")?;
-    show_alone::<ei_server::Context, R>(rt, &table.lone_requests, Given::AsTaken)?;
-    show_alone::<ei_server::Context, R>(rt, &table.requests, Given::One)?;
-    show_alone::<ei_server::Context, R>(rt, &table.requests, Given::AsTaken)?;
-    show_joined::<ei_client::Context, ei_server::Context, R>(rt, &table.requests)
+    let (lone, rows) = (&table.lone_requests, &table.requests);
+    show::<ei_client::Context, ei_server::Context, R>(rt, "requests", lone, rows)
+}
+
+/// Shows what the second end reads of the rows that are only read, and of those that the first end sends, under this
+/// heading.
+fn show<S: End, E: End, R: Print + AllocGlobal>(
+    rt: &R,
+    heading: &str,
+    lone: &[Row],
+    rows: &[Row],
+) -> Result<(), Stop> {
+    println!(rt; "{heading}")?;
+    show_alone::<E, R>(rt, lone, Given::AsTaken)?;
+    show_alone::<E, R>(rt, rows, Given::One)?;
+    show_alone::<E, R>(rt, rows, Given::AsTaken)?;
+    show_joined::<S, E, R>(rt, rows)
 }
 
 /// Shows how many rows a fresh end reads as they should be.
@@ -69,8 +78,7 @@ fn show_alone<E: End, R: Print + AllocGlobal>(
 fn is_right<R: Print>(rt: &R, row: &Row, text: &str) -> Result<bool, Stop> {
     let right = text == row.read_as.as_str();
     if !right {
-        println!(rt; "wanted {}", row.read_as)?;
-        println!(rt; "found  {text}")?;
+        println!(rt; "wanted {}\nfound  {text}", row.read_as)?;
     }
     Ok(right)
 }
@@ -79,19 +87,37 @@ fn is_right<R: Print>(rt: &R, row: &Row, text: &str) -> Result<bool, Stop> {
 /// the handles that are sent; and the objects of both ends afterwards.
 fn show_joined<S: End, E: End, R: Print + AllocGlobal>(rt: &R, rows: &[Row]) -> Result<(), Stop> {
     let sent = send::<S>(rt.alloc(), rows)?;
-    show_sent(rt, rows, &sent.tray)?;
-    println!(rt; "objects of the sender{}", sent.objects)?;
+    show_both::<E, R>(rt, rows, &sent)
+}
+
+/// Shows what was sent, and what the other end reads of it.
+fn show_both<E: End, R: Print + AllocGlobal>(
+    rt: &R,
+    rows: &[Row],
+    sent: &Sent,
+) -> Result<(), Stop> {
+    show_sent(rt, rows, sent)?;
     for size in &SIZES {
-        let received = carried::<E>(rt.alloc(), &sent.tray, *size)?;
-        println!(rt; "in pieces of {size}")?;
-        show_received(rt, rows, &received)?;
+        show_carried::<E, R>(rt, rows, &sent.tray, *size)?;
     }
     Ok(())
 }
 
-/// Shows how many rows are sent as they should be, and each handle.
-fn show_sent<R: Print>(rt: &R, rows: &[Row], tray: &Tray) -> Result<(), Stop> {
-    let mut rest = tray.bytes();
+/// Shows what the end reads in pieces of this size.
+fn show_carried<E: End, R: Print + AllocGlobal>(
+    rt: &R,
+    rows: &[Row],
+    tray: &Tray,
+    size: usize,
+) -> Result<(), Stop> {
+    println!(rt; "in pieces of {size}")?;
+    let received = carried::<E>(rt.alloc(), tray, size)?;
+    show_received(rt, rows, &received)
+}
+
+/// Shows how many rows are sent as they should be, each handle, and the objects of the sender.
+fn show_sent<R: Print>(rt: &R, rows: &[Row], sent: &Sent) -> Result<(), Stop> {
+    let mut rest = sent.tray.bytes();
     let mut right = 0usize;
     for row in rows {
         if rest.starts_with(&row.bytes) {
@@ -102,9 +128,10 @@ fn show_sent<R: Print>(rt: &R, rows: &[Row], tray: &Tray) -> Result<(), Stop> {
         rest = rest.get(row.bytes.len()..).unwrap_or(&[]);
     }
     println!(rt;
-        "sent: {right}, and {} bytes, with {:?}",
+        "sent: {right}, and {} bytes, with {:?}\nobjects of the sender{}",
         rest.len(),
-        tray.handles()
+        sent.tray.handles(),
+        sent.objects
     )?;
     Ok(())
 }
@@ -117,11 +144,12 @@ fn show_received<R: Print>(rt: &R, rows: &[Row], received: &Received) -> Result<
             right = right.saturating_add(1);
         }
     }
-    println!(rt; "read: {right} of {}", received.messages.len())?;
     println!(rt;
-        "left: {} bytes and {} handles",
-        received.bytes_left, received.handles_left
+        "read: {right} of {}\nleft: {} bytes and {} handles\nobjects of the reader{}",
+        received.messages.len(),
+        received.bytes_left,
+        received.handles_left,
+        received.objects
     )?;
-    println!(rt; "objects of the reader{}", received.objects)?;
     Ok(())
 }
