@@ -1,8 +1,10 @@
 //! The events of a server.
 
-ghost use Rattle.std.specs.Prelude.{true, IfSome};
+ghost use Rattle.std.specs.Prelude.{◌≡◌, true, IfSome, IfOk, OnErr};
 ghost use Rattle.ei_client.specs.Event.{target_of, opcode_of, values_of, announced_of};
 ghost use Rattle.ei_client.specs.Asked.{IsToKnown, IsAsked};
+ghost use Rattle.ei_spec.specs.Interface.{Known};
+ghost use Rattle.ei_backend.specs.Proxies.{Announced, ReadsRow};
 
 use crate::button::{self, Button};
 use crate::callback::{self, Callback};
@@ -87,10 +89,10 @@ macro_rules! read_event {
         match $known {
             // no event is sent to a ping
             KnownInterface::Pingpong => Err(ParseError::InvalidOpcode("pingpong", $opcode)),
-            $(KnownInterface::$interface => {
-                let event = $file::Event::parse($opcode, $bytes, $table)?;
-                Ok(Event::$interface($interface::new_unchecked($object), event))
-            })+
+            $(KnownInterface::$interface => match $file::Event::parse($opcode, $bytes, $table) {
+                Ok(event) => Ok(Event::$interface($interface::over($object), event)),
+                Err(error) => Err(error),
+            },)+
         }
     };
 }
@@ -101,7 +103,7 @@ macro_rules! lawful_event {
         match $known {
             $(KnownInterface::$interface => {
                 let event = $file::Event::parse_lawful($opcode, $bytes)?;
-                Some(Event::$interface($interface::new_unchecked($object.copy_of(KnownInterface::$interface)), event))
+                Some(Event::$interface($interface::over($object), event))
             })+
             _ => $otherwise,
         }
@@ -135,14 +137,13 @@ impl MessageEnum for Event {
         bytes: &mut ByteStream<'_>,
         table: &mut Table,
     ) -> Result<Event, ParseError> {
-        let known = match object.interface_name() {
-            InterfaceName::Known(known) => *known,
+        match object.interface_name() {
+            InterfaceName::Known(known) => parse_known(*known, &object, opcode, bytes, table),
             InterfaceName::Other(name) => {
                 let name = EiText::new(alloc, name.as_str())?;
-                return Err(ParseError::InvalidInterface(name));
+                Err(ParseError::InvalidInterface(name))
             }
-        };
-        interfaces!(read_event(known, object, opcode, bytes, table))
+        }
     }
 
     #[inline(always)]
@@ -178,6 +179,23 @@ impl MessageEnum for Event {
     fn opcode(&self) -> u32 {
         interfaces!(each_event(self, (_, event) => event.opcode()))
     }
+}
+
+/// Reads an event to an object of that interface.
+fn parse_known(
+    known: KnownInterface,
+    object: &Object,
+    opcode: u32,
+    bytes: &mut ByteStream<'_>,
+    table: &mut Table,
+) -> Result<Event, ParseError>
+    requires { object.now.interface ≡ Known known }
+    ensures read { ReadsRow values_of true known opcode bytes.old bytes.new table.old table.new result }
+    ensures target { IfOk result (λ m. (target_of m ≡ object.now) × (opcode_of m ≡ opcode)) }
+    ensures announced { IfOk result (λ m. Announced (announced_of m) table.old table.new) }
+    ensures err { OnErr result (table.new ≡ table.old) }
+{
+    interfaces!(read_event(known, object, opcode, bytes, table))
 }
 
 /// An event that may be read: the object that it is to, with its interface, and its opcode.

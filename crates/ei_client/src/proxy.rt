@@ -114,6 +114,15 @@ impl<K: Kind> fmt::Debug for Proxy<K> {
 }
 
 impl<K: Kind> Proxy<K> {
+    /// The proxy over a copy of an object of this kind.
+    #[inline(always)]
+    pub(crate) fn over(object: &Object) -> Proxy<K>
+        requires { object.now.interface ≡ Known K.KNOWN }
+        ensures { result ≡ object.now }
+    {
+        Proxy::new_unchecked(object.copy_of(K::KNOWN))
+    }
+
     /// Puts an object of this kind into the table, which the peer announced.
     pub(crate) fn announced(
         objects: &mut Table,

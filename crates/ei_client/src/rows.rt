@@ -128,21 +128,22 @@ macro_rules! show_row {
         ($self:ident, $alloc:ident)
         $message:ident $name:literal; $($number:literal => $row:ident $({ $($field:ident: $($kind:ident)+),+ })?,)+
     ) => {
-        Ok(match $self {
+        match $self {
             $($message::$row $({ $($field),+ })? => {
                 $crate::rows::show_fields!($alloc $($(, $field: $($kind)+)+)?)
             })+
-        })
+        }
     };
 }
 
 /// The fields of one row as arguments.
 macro_rules! show_fields {
     ($alloc:ident) => {
-        Vec::new($alloc)
+        Ok(Vec::new($alloc))
     };
     ($alloc:ident, $($field:ident: $($kind:ident)+),+) => {
-        Vec::from_array($alloc, [$($crate::rows::show_field!($field: $($kind)+)),+])?
+        Vec::from_array($alloc, [$($crate::rows::show_field!($field: $($kind)+)),+])
+            .map_err(NoMemory::from)
     };
 }
 

@@ -1,8 +1,10 @@
 //! The requests of a client.
 
-ghost use Rattle.std.specs.Prelude.{false, IfSome};
+ghost use Rattle.std.specs.Prelude.{◌≡◌, false, IfSome, IfOk, OnErr};
 ghost use Rattle.ei_server.specs.Request.{target_of, opcode_of, values_of, announced_of};
 ghost use Rattle.ei_server.specs.Asked.{IsToKnown, IsAsked};
+ghost use Rattle.ei_spec.specs.Interface.{Known};
+ghost use Rattle.ei_backend.specs.Proxies.{Announced, ReadsRow};
 
 use crate::button::{self, Button};
 use crate::connection::{self, Connection};
@@ -87,10 +89,10 @@ macro_rules! read_request {
         match $known {
             // no request is sent to a callback
             KnownInterface::Callback => Err(ParseError::InvalidOpcode("callback", $opcode)),
-            $(KnownInterface::$interface => {
-                let request = $file::Request::parse($opcode, $bytes, $table)?;
-                Ok(Request::$interface($interface::new_unchecked($object), request))
-            })+
+            $(KnownInterface::$interface => match $file::Request::parse($opcode, $bytes, $table) {
+                Ok(request) => Ok(Request::$interface($interface::over($object), request)),
+                Err(error) => Err(error),
+            },)+
         }
     };
 }
@@ -101,7 +103,7 @@ macro_rules! lawful_request {
         match $known {
             $(KnownInterface::$interface => {
                 let request = $file::Request::parse_lawful($opcode, $bytes)?;
-                Some(Request::$interface($interface::new_unchecked($object.copy_of(KnownInterface::$interface)), request))
+                Some(Request::$interface($interface::over($object), request))
             })+
             _ => $otherwise,
         }
@@ -135,14 +137,13 @@ impl MessageEnum for Request {
         bytes: &mut ByteStream<'_>,
         table: &mut Table,
     ) -> Result<Request, ParseError> {
-        let known = match object.interface_name() {
-            InterfaceName::Known(known) => *known,
+        match object.interface_name() {
+            InterfaceName::Known(known) => parse_known(*known, &object, opcode, bytes, table),
             InterfaceName::Other(name) => {
                 let name = EiText::new(alloc, name.as_str())?;
-                return Err(ParseError::InvalidInterface(name));
+                Err(ParseError::InvalidInterface(name))
             }
-        };
-        interfaces!(read_request(known, object, opcode, bytes, table))
+        }
     }
 
     #[inline(always)]
@@ -178,6 +179,23 @@ impl MessageEnum for Request {
     fn opcode(&self) -> u32 {
         interfaces!(each_request(self, (_, request) => request.opcode()))
     }
+}
+
+/// Reads a request to an object of that interface.
+fn parse_known(
+    known: KnownInterface,
+    object: &Object,
+    opcode: u32,
+    bytes: &mut ByteStream<'_>,
+    table: &mut Table,
+) -> Result<Request, ParseError>
+    requires { object.now.interface ≡ Known known }
+    ensures read { ReadsRow values_of false known opcode bytes.old bytes.new table.old table.new result }
+    ensures target { IfOk result (λ m. (target_of m ≡ object.now) × (opcode_of m ≡ opcode)) }
+    ensures announced { IfOk result (λ m. Announced (announced_of m) table.old table.new) }
+    ensures err { OnErr result (table.new ≡ table.old) }
+{
+    interfaces!(read_request(known, object, opcode, bytes, table))
 }
 
 /// A request that may be read: the object that it is to, with its interface, and its opcode.
