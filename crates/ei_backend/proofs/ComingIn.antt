@@ -1,5 +1,5 @@
 -- A piece that comes.
-use Rattle.std.proofs.Common.{◌≡◌, ◌<◌, ◌≤◌, ℕ, ◌+◌, ◌-◌, List, [], ◌++◌, take, drop, length, Option, Some, refl, ap, sym, ◌∙◌, arith}
+use Rattle.std.proofs.Common.{◌≡◌, ◌<◌, ◌≤◌, ℕ, zero, suc, ◌+◌, ◌-◌, List, [], ◌∷◌, ◌++◌, take, drop, length, Some, Ok, refl, ap, sym, ◌∙◌, arith}
 use Rattle.std.specs.Prelude.{min}
 use Rattle.std.proofs.lemmas.List.{length-take-le}
 use Rattle.std.proofs.Math.Seq.{take-length}
@@ -7,21 +7,37 @@ use Rattle.circular_buffer.specs.Buffer.{Buffer, buffer}
 use Rattle.ei_spec.specs.declared.handle.Handle.{Handle}
 use Rattle.ei_spec.specs.Piece.{Piece}
 use Rattle.ei_backend.specs.declared.outside.Taken.{Taken}
-use Rattle.ei_backend.specs.Outside.{IsPieceSize, HandsOut}
+use Rattle.ei_backend.specs.Outside.{SourceView, IsPieceSize, TakesTold, GivesPiece, piece_of, given_with}
 use Rattle.ei_backend.specs.Ring.{grown}
 use Rattle.ei_backend.proofs.RingLaws.{grown_room}
-use Rattle.ei_backend.specs.Incoming.{IsFirst, Fits, Overflows, IncomingView}
+use Rattle.ei_backend.specs.Incoming.{Hands, HasNone, Fits, Overflows, IncomingView}
 
-abbrev pub piece_of : Taken → List ℕ → List Handle → Piece
-piece_of taken bytes handles = record { bytes = take taken.bytes bytes; handles = take taken.handles handles }
+-- ---- what the source says
 
-pub at_end : (pieces : List Piece) (left : Option (List Piece)) (taken : Taken) (bytes : List ℕ) (handles : List Handle) → HandsOut pieces left taken bytes handles →
-    taken.bytes ≡ 0 → (pieces ≡ []) × (left ≡ Some [])
-at_end pieces left taken bytes handles h none = let e = h.ends none in (e, h.left ∙ ap (λ (p : List Piece). Some (drop 1 p)) e)
+given_some : (given : List Piece) (n : ℕ) (piece : Piece) → 0 < n → given_with given n piece ≡ given ++ piece ∷ []
+given_some given zero piece some = absurd (omega (arith, some))
+given_some given (suc n) piece some = refl
 
-pub is_first : (pieces : List Piece) (left : Option (List Piece)) (taken : Taken) (bytes : List ℕ) (handles : List Handle) → HandsOut pieces left taken bytes handles →
-    0 < taken.bytes → IsFirst pieces left (piece_of taken bytes handles)
-is_first pieces left taken bytes handles h some = record { first = h.piece some; left_is = h.left }
+given_none : (given : List Piece) (n : ℕ) (piece : Piece) → n ≡ 0 → given_with given n piece ≡ given
+given_none given zero piece none = refl
+given_none given (suc n) piece none = absurd cc
+
+-- a call that handed out a piece of so many bytes
+module _ (before after : SourceView) (taken : Taken) (bytes : List ℕ) (handles : List Handle) (told : TakesTold before.left after.left (Ok taken) bytes handles)
+    (given : GivesPiece before.given after.given (Ok taken) bytes handles) where
+  pub hands : 0 < taken.bytes → Hands before (piece_of taken bytes handles) after
+  hands some = record {
+    told = λ pieces is. let h = told pieces is in record { first = h.piece some; left_is = h.left };
+    given = given ∙ given_some before.given taken.bytes (piece_of taken bytes handles) some;
+  }
+
+  pub has_none : taken.bytes ≡ 0 → HasNone before after
+  has_none none = record {
+    told = λ pieces is. let h = told pieces is in let e = h.ends none in (e, h.left ∙ ap (λ (p : List Piece). Some (drop 1 p)) e);
+    given = given ∙ given_none before.given taken.bytes (piece_of taken bytes handles) none;
+  }
+
+-- ---- what comes in
 
 pub fits : (unread : List Handle) (taken : Taken) (bytes : List ℕ) (handles : List Handle) → IsPieceSize taken → 0 < taken.bytes →
     taken.bytes ≤ length bytes → taken.handles ≤ length handles → length unread + taken.handles ≤ 4096 → Fits taken.bytes unread (piece_of taken bytes handles)

@@ -1,11 +1,11 @@
 -- An endpoint that reads one more piece.
-use Rattle.std.proofs.Common.{◌≡◌, ℕ, Bool, true, false, List, Option, Result, Ok, Err, refl, sym, ◌∙◌}
+use Rattle.std.proofs.Common.{◌≡◌, ℕ, Bool, true, false, Result, Ok, Err, refl, sym, ◌∙◌}
 use Rattle.std.specs.Prelude.{◌↔◌, IsTrue, IsErrOf}
-use Rattle.ei_spec.specs.Piece.{Piece}
 use Rattle.ei_wire.specs.declared.error.ReadError.{ReadError}
 use Rattle.ei_wire.specs.declared.error.ReadError.TheVariants.{UnexpectedEof, ReadFault, HandleLimit, NoMemory}
+use Rattle.ei_backend.specs.Outside.{SourceView}
 use Rattle.ei_backend.specs.Incoming as incoming
-use Rattle.ei_backend.specs.Backend.{BackendView, ReadsOn, ReadsPiece}
+use Rattle.ei_backend.specs.Backend.{BackendView, ReadsOn}
 
 -- an endpoint with this unread, and closed or not
 abbrev after : BackendView → incoming.IncomingView → Bool → BackendView
@@ -25,18 +25,10 @@ closes : (closed : Bool) → IsTrue closed ↔ IsErrOf {T = ℕ} (Err HandleLimi
 closes true is = refl
 closes false is = is.1 refl
 
-pub reads_piece : (pieces : List Piece) (left : Option (List Piece)) (result : Result ℕ ReadError) (b : BackendView) (unread : incoming.IncomingView) (closed : Bool) → b.closed ≡ false →
-    incoming.ReadsPiece pieces left result (unread_of b) unread → IsTrue closed ↔ IsErrOf result HandleLimit → ReadsPiece pieces left result b (after b unread closed)
-reads_piece pieces left (Ok n) b unread closed is_open h is = (h.0, h.1, h.2, same_after b unread _ closed b.closed h.3 (stays_open closed (Ok n) is (λ e. cc) ∙ sym is_open))
-reads_piece pieces left (Err HandleLimit) b unread closed is_open h is = (h.0, h.1, h.2, same_after b unread _ closed true h.3 (closes closed is))
-reads_piece pieces left (Err UnexpectedEof) b unread closed is_open h is = (h.0, h.1, same_after b unread _ closed b.closed h.2 (stays_open closed (Err UnexpectedEof) is (λ e. cc) ∙ sym is_open))
-reads_piece pieces left (Err ReadFault) b unread closed is_open h is = (h.0, same_after b unread _ closed b.closed h.1 (stays_open closed (Err ReadFault) is (λ e. cc) ∙ sym is_open))
-reads_piece pieces left (Err NoMemory) b unread closed is_open h is = (h.0, same_after b unread _ closed b.closed h.1 (stays_open closed (Err NoMemory) is (λ e. cc) ∙ sym is_open))
-
-pub reads_on : (result : Result ℕ ReadError) (b : BackendView) (unread : incoming.IncomingView) (closed : Bool) → b.closed ≡ false →
-    incoming.ReadsIn result (unread_of b) unread → IsTrue closed ↔ IsErrOf result HandleLimit → ReadsOn result b (after b unread closed)
-reads_on (Ok n) b unread closed is_open h is = (h.0, h.1, same_after b unread _ closed b.closed h.2 (stays_open closed (Ok n) is (λ e. cc) ∙ sym is_open))
-reads_on (Err HandleLimit) b unread closed is_open h is = (h.0, h.1, same_after b unread _ closed true h.2 (closes closed is))
-reads_on (Err UnexpectedEof) b unread closed is_open h is = same_after b unread _ closed b.closed h (stays_open closed (Err UnexpectedEof) is (λ e. cc) ∙ sym is_open)
-reads_on (Err ReadFault) b unread closed is_open h is = same_after b unread _ closed b.closed h (stays_open closed (Err ReadFault) is (λ e. cc) ∙ sym is_open)
-reads_on (Err NoMemory) b unread closed is_open h is = same_after b unread _ closed b.closed h (stays_open closed (Err NoMemory) is (λ e. cc) ∙ sym is_open)
+pub reads_on : (before source : SourceView) (result : Result ℕ ReadError) (b : BackendView) (unread : incoming.IncomingView) (closed : Bool) → b.closed ≡ false →
+    incoming.ReadsIn before source result (unread_of b) unread → IsTrue closed ↔ IsErrOf result HandleLimit → ReadsOn before source result b (after b unread closed)
+reads_on before source (Ok n) b unread closed is_open h is = (h.0, h.1, h.2, same_after b unread _ closed b.closed h.3 (stays_open closed (Ok n) is (λ e. cc) ∙ sym is_open))
+reads_on before source (Err HandleLimit) b unread closed is_open h is = (h.0, h.1, h.2, same_after b unread _ closed true h.3 (closes closed is))
+reads_on before source (Err UnexpectedEof) b unread closed is_open h is = (h.0, same_after b unread _ closed b.closed h.1 (stays_open closed (Err UnexpectedEof) is (λ e. cc) ∙ sym is_open))
+reads_on before source (Err ReadFault) b unread closed is_open h is = (h.0, same_after b unread _ closed b.closed h.1 (stays_open closed (Err ReadFault) is (λ e. cc) ∙ sym is_open))
+reads_on before source (Err NoMemory) b unread closed is_open h is = (h.0, same_after b unread _ closed b.closed h.1 (stays_open closed (Err NoMemory) is (λ e. cc) ∙ sym is_open))

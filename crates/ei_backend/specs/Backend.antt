@@ -18,7 +18,8 @@ use Rattle.ei_backend.specs.Table.{TableView, Announced, found, without, with_ow
 use Rattle.ei_backend.specs.Table as table
 use Rattle.ei_backend.specs.Ring.{first_capacity, grown}
 use Rattle.ei_backend.specs.Outgoing.{Room, no_room, more_room, HasRoomFor}
-use Rattle.ei_backend.specs.Incoming.{IsFirst, Fits, Overflows}
+use Rattle.ei_backend.specs.Outside.{SourceView}
+use Rattle.ei_backend.specs.Incoming.{Hands, HasNone, Keeps, Fits, Overflows}
 use Rattle.ei_backend.specs.Message.{Parsed, message_read}
 use Rattle.ei_backend.specs.declared.message.PendingRequestResult.{PendingRequestResult}
 use Rattle.ei_backend.specs.declared.message.PendingRequestResult.TheVariants as pending
@@ -53,20 +54,13 @@ with_piece piece b = record b { unread = b.unread ++ piece.bytes; handles = b.ha
 abbrev pub closed_of : BackendView → BackendView
 closed_of b = record b { closed = true }
 
--- what reading a piece did to an open endpoint
-abbrev pub ReadsOn : Result ℕ ReadError → BackendView → BackendView → Type 0
-ReadsOn (Ok n) old new = (piece : Piece) × Fits n old.handles piece × (new ≡ with_piece piece old)
-ReadsOn (Err read_error.HandleLimit) old new = (piece : Piece) × Overflows old.handles piece × (new ≡ closed_of (with_ring old))
-ReadsOn (Err read_error.NoMemory) old new = new ≡ old
-ReadsOn (Err e) old new = new ≡ with_ring old
-
--- and where the source told these pieces
-abbrev pub ReadsPiece : List Piece → Option (List Piece) → Result ℕ ReadError → BackendView → BackendView → Type 0
-ReadsPiece pieces left (Ok n) old new = (piece : Piece) × IsFirst pieces left piece × Fits n old.handles piece × (new ≡ with_piece piece old)
-ReadsPiece pieces left (Err read_error.HandleLimit) old new = (piece : Piece) × IsFirst pieces left piece × Overflows old.handles piece × (new ≡ closed_of (with_ring old))
-ReadsPiece pieces left (Err read_error.UnexpectedEof) old new = (pieces ≡ []) × (left ≡ Some []) × (new ≡ with_ring old)
-ReadsPiece pieces left (Err read_error.ReadFault) old new = (left ≡ Some pieces) × (new ≡ with_ring old)
-ReadsPiece pieces left (Err read_error.NoMemory) old new = (left ≡ Some pieces) × (new ≡ old)
+-- what reading a piece did to an open endpoint, and what the source said of it
+abbrev pub ReadsOn : SourceView → SourceView → Result ℕ ReadError → BackendView → BackendView → Type 0
+ReadsOn before after (Ok n) old new = (piece : Piece) × Hands before piece after × Fits n old.handles piece × (new ≡ with_piece piece old)
+ReadsOn before after (Err read_error.HandleLimit) old new = (piece : Piece) × Hands before piece after × Overflows old.handles piece × (new ≡ closed_of (with_ring old))
+ReadsOn before after (Err read_error.UnexpectedEof) old new = HasNone before after × (new ≡ with_ring old)
+ReadsOn before after (Err read_error.ReadFault) old new = Keeps before after × (new ≡ with_ring old)
+ReadsOn before after (Err read_error.NoMemory) old new = Keeps before after × (new ≡ old)
 
 -- ---- the message at the front
 

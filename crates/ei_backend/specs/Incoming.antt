@@ -1,9 +1,10 @@
 -- What came and isn't read yet, and what one more piece does to it.
-use Rattle.std.specs.Prelude.{◌≡◌, ℕ, ◌+◌, ◌<◌, ◌≤◌, List, [], ◌++◌, length, drop, slice_get, Option, Some, Result, Ok, Err}
+use Rattle.std.specs.Prelude.{◌≡◌, ℕ, ◌+◌, ◌<◌, ◌≤◌, List, [], ◌∷◌, ◌++◌, length, drop, slice_get, Option, Some, Result, Ok, Err}
 use Rattle.ei_spec.specs.declared.handle.Handle.{Handle}
 use Rattle.ei_spec.specs.Piece.{Piece}
 use Rattle.ei_wire.specs.declared.error.ReadError.{ReadError}
 use Rattle.ei_wire.specs.declared.error.ReadError.TheVariants as read_error
+use Rattle.ei_backend.specs.Outside.{SourceView}
 use Rattle.ei_backend.specs.Ring.{first_capacity, grown}
 use Rattle.ei_spec.specs.declared.limits.TheConstants.{MOST_PIECE_BYTES, MOST_PIECE_HANDLES, MOST_UNREAD_HANDLES}
 
@@ -11,6 +12,21 @@ use Rattle.ei_spec.specs.declared.limits.TheConstants.{MOST_PIECE_BYTES, MOST_PI
 pub record IsFirst (pieces : List Piece) (left : Option (List Piece)) (piece : Piece) : Type 0 where
   pub first : slice_get pieces 0 ≡ Some piece
   pub left_is : left ≡ Some (drop 1 pieces)
+
+-- the source gave this piece: of the pieces that it told it is the first
+pub record Hands (old : SourceView) (piece : Piece) (new : SourceView) : Type 0 where
+  pub told : (pieces : List Piece) → old.left ≡ Some pieces → IsFirst pieces new.left piece
+  pub given : new.given ≡ old.given ++ piece ∷ []
+
+-- it gave none: of pieces that it told none was left
+pub record HasNone (old new : SourceView) : Type 0 where
+  pub told : (pieces : List Piece) → old.left ≡ Some pieces → (pieces ≡ []) × (new.left ≡ Some [])
+  pub given : new.given ≡ old.given
+
+-- it keeps those that it told, and gave none
+pub record Keeps (old new : SourceView) : Type 0 where
+  pub told : (pieces : List Piece) → old.left ≡ Some pieces → new.left ≡ Some pieces
+  pub given : new.given ≡ old.given
 
 -- a piece of n bytes, with whose handles no more are unread than may be
 pub record Fits (n : ℕ) (unread : List Handle) (piece : Piece) : Type 0 where
@@ -45,17 +61,10 @@ with_ring_room i = record i { capacity = grown (length i.bytes) i.capacity }
 abbrev pub with_piece : Piece → IncomingView → IncomingView
 with_piece piece i = record { bytes = i.bytes ++ piece.bytes; handles = i.handles ++ piece.handles; capacity = grown (length i.bytes) i.capacity }
 
--- what reading a piece did to what is unread
-abbrev pub ReadsIn : Result ℕ ReadError → IncomingView → IncomingView → Type 0
-ReadsIn (Ok n) old new = (piece : Piece) × Fits n old.handles piece × (new ≡ with_piece piece old)
-ReadsIn (Err read_error.HandleLimit) old new = (piece : Piece) × Overflows old.handles piece × (new ≡ with_ring_room old)
-ReadsIn (Err read_error.NoMemory) old new = new ≡ old
-ReadsIn (Err e) old new = new ≡ with_ring_room old
-
--- and where the source told these pieces
-abbrev pub ReadsPiece : List Piece → Option (List Piece) → Result ℕ ReadError → IncomingView → IncomingView → Type 0
-ReadsPiece pieces left (Ok n) old new = (piece : Piece) × IsFirst pieces left piece × Fits n old.handles piece × (new ≡ with_piece piece old)
-ReadsPiece pieces left (Err read_error.HandleLimit) old new = (piece : Piece) × IsFirst pieces left piece × Overflows old.handles piece × (new ≡ with_ring_room old)
-ReadsPiece pieces left (Err read_error.UnexpectedEof) old new = (pieces ≡ []) × (left ≡ Some []) × (new ≡ with_ring_room old)
-ReadsPiece pieces left (Err read_error.ReadFault) old new = (left ≡ Some pieces) × (new ≡ with_ring_room old)
-ReadsPiece pieces left (Err read_error.NoMemory) old new = (left ≡ Some pieces) × (new ≡ old)
+-- what reading a piece did to what is unread, and what the source said of it
+abbrev pub ReadsIn : SourceView → SourceView → Result ℕ ReadError → IncomingView → IncomingView → Type 0
+ReadsIn before after (Ok n) old new = (piece : Piece) × Hands before piece after × Fits n old.handles piece × (new ≡ with_piece piece old)
+ReadsIn before after (Err read_error.HandleLimit) old new = (piece : Piece) × Hands before piece after × Overflows old.handles piece × (new ≡ with_ring_room old)
+ReadsIn before after (Err read_error.UnexpectedEof) old new = HasNone before after × (new ≡ with_ring_room old)
+ReadsIn before after (Err read_error.ReadFault) old new = Keeps before after × (new ≡ with_ring_room old)
+ReadsIn before after (Err read_error.NoMemory) old new = Keeps before after × (new ≡ old)

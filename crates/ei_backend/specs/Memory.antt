@@ -13,9 +13,10 @@ pub record FailingView : Type 0 where
   pub calls : ℕ
   pub faults : ℕ
 
--- a source: the pieces left, which calls fail, the last answer
+-- a source: the pieces left, the pieces given, which calls fail, the last answer
 pub record PiecesView : Type 0 where
   pub left : List Piece
+  pub given : List Piece
   pub failing : FailingView
   pub last : LastAnswer
 

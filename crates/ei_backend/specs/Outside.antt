@@ -1,5 +1,6 @@
 -- What the calls of a source, a sink, an input and a clock do.
-use Rattle.std.specs.Prelude.{◌≡◌, ◌<◌, ◌≤◌, ℕ, zero, suc, ◌+◌, ◌-◌, ◌^◌, min, Bool, true, false, List, [], ◌++◌, length, take, drop, slice_get, slice_index}
+use Rattle.std.specs.Prelude.{◌≡◌, ◌<◌, ◌≤◌, ℕ, zero, suc, ◌+◌, ◌-◌, ◌^◌, min, Bool, true, false, List, [], ◌∷◌, ◌++◌, length, take, drop}
+use Rattle.std.specs.Prelude.{slice_get, slice_index}
 use Rattle.std.specs.Prelude.{Option, Some, Result, Ok, Err, OnOk, OnErr, IsErrOf}
 pub use Rattle.ei_spec.specs.Piece.{Piece}
 use Rattle.ei_spec.specs.declared.handle.Handle.{Handle}
@@ -41,16 +42,39 @@ pub record IsPieceSize (taken : Taken) : Type 0 where
   pub handles : taken.handles ≤ MOST_PIECE_HANDLES
   pub none : taken.bytes ≡ 0 → taken.handles ≡ 0
 
+-- what a source says of its pieces: those that it has left, where it tells them, and those that it gave so far
+pub record SourceView : Type 0 where
+  pub left : Option (List Piece)
+  pub given : List Piece
+
+-- what it says, by its members
+abbrev pub source_view : {S : Type 0} → (S → Option (List Piece)) → (S → List Piece) → S → SourceView
+source_view left given s = record { left = left s; given = given s }
+
+-- the piece that was handed out
+abbrev pub piece_of : Taken → List ℕ → List Handle → Piece
+piece_of taken bytes handles = record { bytes = take taken.bytes bytes; handles = take taken.handles handles }
+
 -- the first of these pieces was handed out, or there was none
 pub record HandsOut (pieces : List Piece) (new : Option (List Piece)) (taken : Taken) (bytes : List ℕ) (handles : List Handle) : Type 0 where
   pub left : new ≡ Some (drop 1 pieces)
   pub ends : taken.bytes ≡ 0 → pieces ≡ []
-  pub piece : 0 < taken.bytes → slice_get pieces 0 ≡ Some (record { bytes = take taken.bytes bytes; handles = take taken.handles handles })
+  pub piece : 0 < taken.bytes → slice_get pieces 0 ≡ Some (piece_of taken bytes handles)
 
 -- where a source told its pieces, it handed out the first; a fault leaves them
 abbrev pub TakesTold : Option (List Piece) → Option (List Piece) → Result Taken Fault → List ℕ → List Handle → Type 0
 TakesTold old new (Ok taken) bytes handles = (pieces : List Piece) → old ≡ Some pieces → HandsOut pieces new taken bytes handles
 TakesTold old new (Err e) bytes handles = (pieces : List Piece) → old ≡ Some pieces → new ≡ Some pieces
+
+-- these pieces, with one of so many bytes behind them; no byte is no piece
+abbrev pub given_with : List Piece → ℕ → Piece → List Piece
+given_with given zero piece = given
+given_with given (suc n) piece = given ++ piece ∷ []
+
+-- told or not, a source has given what it gave before, and then the piece that it handed out; its end and a fault give none
+abbrev pub GivesPiece : List Piece → List Piece → Result Taken Fault → List ℕ → List Handle → Type 0
+GivesPiece old new (Ok taken) bytes handles = new ≡ given_with old taken.bytes (piece_of taken bytes handles)
+GivesPiece old new (Err e) bytes handles = new ≡ old
 
 -- what so many bytes mean to a source or an input
 abbrev pub answer_at : ℕ → LastAnswer

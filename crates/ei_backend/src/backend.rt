@@ -12,10 +12,10 @@ ghost use Rattle.ei_wire.specs.declared.error.FlushError.TheVariants as flush_er
 ghost use Rattle.ei_backend.specs.declared.outside.LastAnswer.TheVariants as answers;
 ghost use Rattle.ei_backend.specs.Object.{interface_view, HasFixedName};
 ghost use Rattle.ei_backend.specs.Table.{Announced, new_table, first_object, first_server_id, found, accept, own, own_end, own_start, own_limit};
-ghost use Rattle.ei_backend.specs.Outside.{Piece};
+ghost use Rattle.ei_backend.specs.Outside.{Piece, source_view};
 ghost use Rattle.ei_backend.specs.Lent.{LentSource, LentSinkWants};
 ghost use Rattle.ei_backend.specs.Outgoing.{StopsAfter, Flushes, HasRoomFor};
-ghost use Rattle.ei_backend.specs.Backend.{new_backend, ReadsOn, ReadsPiece, next, Answers, Brings, Shortens, sent, sent_new, with_object, with_room};
+ghost use Rattle.ei_backend.specs.Backend.{new_backend, ReadsOn, next, Answers, Brings, Shortens, sent, sent_new, with_object, with_room};
 ghost use Rattle.ei_backend.specs.Backend.{body_read, Says, removed, closed_of, unsent_of, with_unsent};
 ghost use Rattle.ei_spec.specs.declared.limits.TheConstants.{MOST_MESSAGE_BYTES, MOST_PIECE_BYTES};
 
@@ -104,9 +104,8 @@ impl Backend {
         ensures closed_kept { self.old.closed ≡ true → self.new ≡ self.old }
         ensures closed_source { self.old.closed ≡ true → source.new ≡ source.old }
         // on an open one
-        ensures reads { self.old.closed ≡ false → ReadsOn result self.old self.new }
-        ensures told { self.old.closed ≡ false → (pieces : List Piece) → S.left source.old ≡ Some pieces
-            → ReadsPiece pieces (S.left source.new) result self.old self.new }
+        ensures reads { self.old.closed ≡ false →
+            ReadsOn (source_view S.left S.given source.old) (source_view S.left S.given source.new) result self.old self.new }
         // what the source says
         ensures memory { IsErrOf result read_error.NoMemory → source.new ≡ source.old }
         ensures room { length self.old.unread + MOST_PIECE_BYTES ≤ self.old.capacity → IsErrOf result read_error.NoMemory → ⊥ }

@@ -3,10 +3,10 @@
 ghost use Rattle.std.specs.Prelude.{◌≡◌, ◌≤◌, ◌+◌, ◌-◌, ◌++◌, min, take, ℕ, List, length, vec_len, Option, None, OnOk, OnErr, IfOk, Ok, Err, Some, IsErrOf};
 ghost use Rattle.circular_buffer.specs.Buffer.{buffer};
 ghost use Rattle.ei_wire.specs.declared.error.ReadError.TheVariants as read_error;
-ghost use Rattle.ei_backend.specs.Outside.{Piece};
+ghost use Rattle.ei_backend.specs.Outside.{source_view};
 ghost use Rattle.ei_backend.specs.Lent.{LentSource};
 ghost use Rattle.ei_backend.specs.declared.outside.LastAnswer.TheVariants as answers;
-ghost use Rattle.ei_backend.specs.Incoming.{none_unread, ReadsIn, ReadsPiece};
+ghost use Rattle.ei_backend.specs.Incoming.{none_unread, ReadsIn};
 ghost use Rattle.ei_spec.specs.declared.limits.TheConstants.{MOST_PIECE_BYTES};
 
 use crate::outside::Source;
@@ -99,8 +99,7 @@ impl Incoming {
     /// `NoMemory` before the source is asked, and only where the ring has to grow; `ReadFault` where the source failed; `UnexpectedEof` at its
     /// end; `HandleLimit` where more than 4096 handles would be unread: the piece is dropped.
     pub(crate) fn read<S: Source>(&mut self, source: &mut S) -> Result<usize, ReadError>
-        ensures reads { ReadsIn result self.old self.new }
-        ensures told { (pieces : List Piece) → S.left source.old ≡ Some pieces → ReadsPiece pieces (S.left source.new) result self.old self.new }
+        ensures reads { ReadsIn (source_view S.left S.given source.old) (source_view S.left S.given source.new) result self.old self.new }
         ensures memory { IsErrOf result read_error.NoMemory → source.new ≡ source.old }
         ensures room { length self.old.bytes + MOST_PIECE_BYTES ≤ self.old.capacity → IsErrOf result read_error.NoMemory → ⊥ }
         ensures last_piece { OnOk result (S.last source.new ≡ answers.Piece) }

@@ -1,13 +1,13 @@
 //! The traits of the outside: where pieces come from, where bytes go, a text and a clock.
 //!
 //! What a type tells of itself is optional: a source may tell the pieces that it has left, a sink what
-//! it took. Each counts its faults: the count goes up with each fault, unless it stands at its last value,
-//! and stays at every other answer. A sink counts its wants of memory in the same way. Each has a relation
-//! "later" between two of its values, which every call keeps.
+//! it took. What it gave, every source and every input says. Each counts its faults: the count goes up with
+//! each fault, unless it stands at its last value, and stays at every other answer. A sink counts its wants of
+//! memory in the same way. Each has a relation "later" between two of its values, which every call keeps.
 
 ghost use Rattle.std.specs.Prelude.{◌≡◌, ◌<◌, ◌≤◌, List, ℕ, Option, Some, length, IfOk};
 ghost use Rattle.ei_backend.specs.declared.outside.LastAnswer.{LastAnswer};
-ghost use Rattle.ei_backend.specs.Outside.{Piece, HasCause, HasPutCause, HasPutWant, IsPieceSize, TakesTold, last_of, Puts, IsPutSize};
+ghost use Rattle.ei_backend.specs.Outside.{Piece, HasCause, HasPutCause, HasPutWant, IsPieceSize, TakesTold, GivesPiece, last_of, Puts, IsPutSize};
 ghost use Rattle.ei_backend.specs.Outside.{answer_at, Fetches, Gives, last_fetched, ReadsClock};
 ghost use Rattle.ei_spec.specs.declared.limits.TheConstants.{MOST_PIECE_BYTES, MOST_PIECE_HANDLES};
 
@@ -62,6 +62,9 @@ pub trait Source {
     /// The pieces left, where it tells them.
     ghost left: { Self → Option (List Piece) };
 
+    /// The pieces that it gave so far, one after another.
+    ghost given: { Self → List Piece };
+
     /// How often it failed.
     ghost faults: { Self → ℕ };
 
@@ -80,6 +83,7 @@ pub trait Source {
         requires handle_room { MOST_PIECE_HANDLES ≤ length handles.old }
         ensures size { IfOk result IsPieceSize }
         ensures pieces { TakesTold (left self.old) (left self.new) result bytes.new handles.new }
+        ensures given { GivesPiece (given self.old) (given self.new) result bytes.new handles.new }
         ensures cause { HasCause (faults self.old) (faults self.new) result }
         ensures last { last self.new ≡ last_of result }
         ensures later { later self.old self.new };

@@ -1,7 +1,7 @@
 //! A source of the pieces that were pushed.
 
 ghost use Rattle.std.specs.Prelude.{◌≡◌, ◌<◌, ◌≤◌, [], ◌∷◌, ◌++◌, Some, drop, length, OnOk, OnErr, IfOk, IsErr};
-ghost use Rattle.ei_backend.specs.Outside.{IsPieceSize, TakesTold, HasCause, last_of};
+ghost use Rattle.ei_backend.specs.Outside.{IsPieceSize, TakesTold, GivesPiece, HasCause, last_of};
 ghost use Rattle.ei_backend.specs.Memory.{PiecesView, CountsCall, added, first_sizes, never_failing};
 ghost use Rattle.ei_spec.specs.declared.limits.TheConstants.{MOST_PIECE_BYTES, MOST_PIECE_HANDLES};
 
@@ -41,13 +41,14 @@ pub struct Pieces {
 }
 
 impl Model for Pieces {
-    ghost use Rattle.std.specs.Prelude.{◌≤◌, drop, vec_len};
+    ghost use Rattle.std.specs.Prelude.{◌≤◌, take, drop, vec_len};
     ghost use Rattle.ei_backend.specs.Memory.{PiecesView};
 
     ghost Value = { PiecesView };
 
     ghost view = { λ s. record {
       left = drop s.next s.stored.items;
+      given = take s.next s.stored.items;
       failing = s.failing;
       last = s.last;
     } };
@@ -59,7 +60,7 @@ impl Pieces {
     /// A source with no piece, which never fails.
     pub fn new(alloc: Global) -> Pieces
         ensures { result ≡
-            record { left = []; failing = never_failing; last = LastAnswer.Nothing } }
+            record { left = []; given = []; failing = never_failing; last = LastAnswer.Nothing } }
     {
         Pieces {
             alloc,
@@ -100,6 +101,8 @@ impl Pieces {
 impl Source for Pieces {
     ghost left = { λ s. Some s.left };
 
+    ghost given = { λ s. s.given };
+
     ghost faults = { λ s. s.failing.faults };
 
     ghost last = { λ s. s.last };
@@ -115,6 +118,7 @@ impl Source for Pieces {
         requires handle_room { MOST_PIECE_HANDLES ≤ length handles.old }
         ensures size { IfOk result IsPieceSize }
         ensures pieces { TakesTold (Some self.old.left) (Some self.new.left) result bytes.new handles.new }
+        ensures given { GivesPiece self.old.given self.new.given result bytes.new handles.new }
         ensures cause { HasCause self.old.failing.faults self.new.failing.faults result }
         ensures last { self.new.last ≡ last_of result }
         // beyond the trait's: which calls fail, and the whole piece

@@ -4,11 +4,11 @@ ghost use Rattle.std.specs.Prelude.{◌≡◌, ◌<◌, ◌≤◌, ◌+◌, ℕ,
 ghost use Rattle.ei_wire.specs.declared.error.ReadError.TheVariants as read_error;
 ghost use Rattle.ei_wire.specs.declared.error.FlushError.TheVariants as flush_error;
 ghost use Rattle.ei_backend.specs.declared.outside.LastAnswer.TheVariants as answers;
-ghost use Rattle.ei_backend.specs.Outside.{Piece};
+ghost use Rattle.ei_backend.specs.Outside.{Piece, source_view};
 ghost use Rattle.ei_backend.specs.Lent.{LentSource, LentSinkWants};
 ghost use Rattle.ei_backend.specs.Table.{found, new_table};
 ghost use Rattle.ei_backend.specs.Outgoing.{StopsAfter, Flushes};
-ghost use Rattle.ei_backend.specs.Backend.{new_backend, ReadsOn, ReadsPiece, Answers, Brings, Shortens, next, unsent_of, with_unsent};
+ghost use Rattle.ei_backend.specs.Backend.{new_backend, ReadsOn, Answers, Brings, Shortens, next, unsent_of, with_unsent};
 ghost use Rattle.ei_spec.specs.declared.limits.TheConstants.{MOST_MESSAGE_BYTES, MOST_PIECE_BYTES};
 ghost use Rattle.ei_client.specs.Event.{target_of, opcode_of, values_of, announced_of};
 
@@ -80,9 +80,8 @@ impl Context {
         ensures closed_kept { self.old.closed ≡ true → self.new ≡ self.old }
         ensures closed_source { self.old.closed ≡ true → source.new ≡ source.old }
         // on an open one
-        ensures reads { self.old.closed ≡ false → ReadsOn result self.old self.new }
-        ensures told { self.old.closed ≡ false → (pieces : List Piece) → S.left source.old ≡ Some pieces
-            → ReadsPiece pieces (S.left source.new) result self.old self.new }
+        ensures reads { self.old.closed ≡ false →
+            ReadsOn (source_view S.left S.given source.old) (source_view S.left S.given source.new) result self.old self.new }
         // what the source says
         ensures memory { IsErrOf result read_error.NoMemory → source.new ≡ source.old }
         ensures room { length self.old.unread + MOST_PIECE_BYTES ≤ self.old.capacity → IsErrOf result read_error.NoMemory → ⊥ }

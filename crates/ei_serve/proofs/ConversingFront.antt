@@ -30,7 +30,7 @@ use Rattle.ei_serve.specs.declared.phase.Phase.{Phase}
 use Rattle.ei_serve.specs.declared.phase.Phase.TheVariants as phase
 use Rattle.ei_serve.specs.declared.phase.Step.{Step}
 use Rattle.ei_serve.specs.declared.phase.Step.TheVariants as step
-use Rattle.ei_serve.specs.Around.{Around, around}
+use Rattle.ei_serve.specs.Around.{Around, around, no_source}
 use Rattle.ei_serve.specs.AtFront.{IsAsked}
 use Rattle.ei_serve.specs.Standing.{IsConnected}
 use Rattle.ei_serve.specs.Steps.{Steps}
@@ -107,8 +107,8 @@ module _ (setup : Setup) (past : List Raw) (times rest : List ℕ) (handles : Li
       }
 
       -- it couldn't be told
-      pub untold : (f : SendError) (e : Error) (y : Phase) (took : Option Piece) (result : Result Step Error) → f ≡ send_error.NoMemory → result ≡ Err e → e ≡ error_of_send f → Steps setup past times rest handles result y (around None out took readings) (around None out took readings)
-      untold f e y took result f_is is_err e_is = no_memory setup past times rest handles y e (around None out took readings) result is_err (e_is ∙ ap error_of_send f_is)
+      pub untold : (f : SendError) (e : Error) (y : Phase) (took : Option Piece) (result : Result Step Error) → f ≡ send_error.NoMemory → result ≡ Err e → e ≡ error_of_send f → Steps setup past times rest handles result y (around no_source out took readings) (around no_source out took readings)
+      untold f e y took result f_is is_err e_is = no_memory setup past times rest handles y e (around no_source out took readings) result is_err (e_is ∙ ap error_of_send f_is)
 
       module _ (end : ConnectionView) (end_is : end ≡ record lent { ctx = says lent.ctx (no_object_event lent.proxy.id lent.last_serial id) }) where
         told : end ≡ tells_no_object d.handle gone.0.m.id
@@ -129,16 +129,16 @@ module _ (setup : Setup) (past : List Raw) (times rest : List ℕ) (handles : Li
         -- all was sent
         pub tells : (flushed : ConnectionView) → unsent_of flushed.ctx ≡ nothing → flushed ≡ record end { ctx = with_unsent (unsent_of flushed.ctx) end.ctx } → (before now : Option Piece) →
             ((held : Piece) → before ≡ Some held → Flushes held (unsent_of end.ctx) (Ok tt) (unsent_of flushed.ctx) now) → (z : ConverterView) → z ≡ record { handle = flushed; queue = d.queue } →
-            Steps setup past times rest handles (Ok step.Handled) (phase.Connected z) (around None out before readings) (around None out now readings)
+            Steps setup past times rest handles (Ok step.Handled) (phase.Connected z) (around no_source out before readings) (around no_source out now readings)
         tells flushed sent kept before now took z z_is =
-            subst (λ (y : ConverterView). Steps setup past times rest handles (Ok step.Handled) (phase.Connected y) (around None out before readings) (around None out now readings))
+            subst (λ (y : ConverterView). Steps setup past times rest handles (Ok step.Handled) (phase.Connected y) (around no_source out before readings) (around no_source out now readings))
             (sym (z_is ∙ ap (λ (q : List EisRequest). record { handle = flushed; queue = q }) stood.queue))
             (handles_one setup past times rest handles gone.0.m gone.0.after [] d taken false (judge_unknown setup past gone.0.m stood.held.connected none) d.queue gave out out grown readings readings (draws_none readings readings refl)
             end (record d { handle = end }) refl followed same_ring flushed sent kept before now took refl)
 
         -- or not all
         pub cut : (waiting : Piece) (f : FlushError) (e : Error) (y : Phase) (before now : Option Piece) (result : Result Step Error) → result ≡ Err e → e ≡ error_of_flush f → ((held : Piece) → before ≡ Some held → Flushes held (unsent_of end.ctx) (Err f) waiting now) →
-            Steps setup past times rest handles result y (around None out before readings) (around None out now readings)
+            Steps setup past times rest handles result y (around no_source out before readings) (around no_source out now readings)
         cut waiting f e y before now result is_err e_is took =
             rw is_err (cut_off setup past times rest handles gone.0.m gone.0.after [] d taken false (judge_unknown setup past gone.0.m stood.held.connected none) d.queue gave out out grown readings readings (draws_none readings readings refl)
             end (record d { handle = end }) refl followed same_ring waiting f e before now e_is took)

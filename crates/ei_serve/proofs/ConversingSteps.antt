@@ -37,7 +37,7 @@ use Rattle.ei_request.specs.Converter.{ConverterView}
 use Rattle.ei_request.specs.Handling.{bind_of, request_device_of, closed_of, ready_of, start_of, stop_of}
 use Rattle.ei_standing.specs.Standing.{TookOne, handed_as, key_by, plain_as}
 use Rattle.ei_serve.specs.declared.phase.Phase.TheVariants as phase
-use Rattle.ei_serve.specs.Around.{around}
+use Rattle.ei_serve.specs.Around.{around, no_source}
 use Rattle.ei_serve.specs.Standing.{IsConnected, most_capacity}
 use Rattle.ei_serve.specs.Steps.{GivesOut, Replies, RepliesInPart, Goes, Breaks, RefusesStep, HandlesOne, EndsWith}
 use Rattle.ei_serve.proofs.Asked.{held_with}
@@ -89,7 +89,7 @@ none_sent : (setup : Setup) (past : List Raw) (m : Raw) (took : Option Piece) �
 none_sent setup past m took held told = (reply setup past m, 0, replies_more setup past m, told ∙ ap (λ (x : Piece). Some x) (none_more held))
 
 -- nothing was given yet, and perhaps a reading taken
-pub breaks_early : (setup : Setup) (past : List Raw) (times rest : List ℕ) (out new : List EisRequest) (took : Option Piece) (before after : Option (List ℕ)) → new ≡ out → Breaks setup past times rest (around None out took before) (around None new took after)
+pub breaks_early : (setup : Setup) (past : List Raw) (times rest : List ℕ) (out new : List EisRequest) (took : Option Piece) (before after : Option (List ℕ)) → new ≡ out → Breaks setup past times rest (around no_source out took before) (around no_source new took after)
 breaks_early setup past times rest out new took before after same = record {
   reached = past;
   used = [];
@@ -145,7 +145,7 @@ module _ (setup : Setup) (past : List Raw) (times rest : List ℕ) (handles : Li
   given_one : GivesOut setup past (m ∷ past) times used out given
   given_one = gives_one setup past m times used out queue given t.on gave grown
 
-  pub breaks_one : (old new : Option Piece) → RepliesInPart setup past (m ∷ past) old new → Breaks setup past times rest (around None out old before) (around None given new later)
+  pub breaks_one : (old new : Option Piece) → RepliesInPart setup past (m ∷ past) old new → Breaks setup past times rest (around no_source out old before) (around no_source given new later)
   breaks_one old new r = record {
     reached = m ∷ past;
     used = used;
@@ -156,10 +156,10 @@ module _ (setup : Setup) (past : List Raw) (times rest : List ℕ) (handles : Li
     drawn = draws.drawn;
   }
 
-  pub breaks_unsent : (took : Option Piece) → Breaks setup past times rest (around None out took before) (around None given took later)
+  pub breaks_unsent : (took : Option Piece) → Breaks setup past times rest (around no_source out took before) (around no_source given took later)
   breaks_unsent took = breaks_one took took (none_sent setup past m took)
 
-  pub goes_one : (old new : Option Piece) → Replies setup past (m ∷ past) old new → Goes setup past (m ∷ past) times used (around None out old before) (around None given new later)
+  pub goes_one : (old new : Option Piece) → Replies setup past (m ∷ past) old new → Goes setup past (m ∷ past) times used (around no_source out old before) (around no_source given new later)
   goes_one old new r = record {
     behind = (m ∷ [], refl);
     gives = given_one;
@@ -200,7 +200,7 @@ module _ (setup : Setup) (past : List Raw) (times rest : List ℕ) (handles : Li
       replied : Replies setup past (m ∷ past) old new
       replied = all_sent setup past m end.ctx old new to_go told
 
-      pub handles_one : last ≡ false → HandlesOne setup past times rest handles (phase.Connected (record { handle = flushed; queue = [] })) (around None out old before) (around None given new later)
+      pub handles_one : last ≡ false → HandlesOne setup past times rest handles (phase.Connected (record { handle = flushed; queue = [] })) (around no_source out old before) (around no_source given new later)
       handles_one goes_on = record {
         m = m;
         after = after;
@@ -211,33 +211,33 @@ module _ (setup : Setup) (past : List Raw) (times rest : List ℕ) (handles : Li
         goes = goes_one old new replied;
       }
 
-      pub ends_one : last ≡ true → exhausts past m ≡ false → used ≡ [] → EndsWith setup past times rest false (around None out old before) (around None given new later)
+      pub ends_one : last ≡ true → exhausts past m ≡ false → used ≡ [] → EndsWith setup past times rest false (around no_source out old before) (around no_source given new later)
       ends_one ends enough quiet = record {
         m = m;
         after = after;
         front_is = t.front_is;
         final = judged ∙ ap (λ (b : Bool). verdict None b) ends;
         exhausts_is = enough;
-        goes = subst (λ (u : List ℕ). Goes setup past (m ∷ past) times u (around None out old before) (around None given new later)) quiet (goes_one old new replied);
+        goes = subst (λ (u : List ℕ). Goes setup past (m ∷ past) times u (around no_source out old before) (around no_source given new later)) quiet (goes_one old new replied);
       }
 
     -- or only a front of it
     pub cut_off : (waiting : Piece) (f : FlushError) (e : Error) (old new : Option Piece) → e ≡ error_of_flush f → ((held : Piece) → old ≡ Some held → Flushes held (unsent_of end.ctx) (Err f) waiting new) →
-        RefusesStep setup past times rest e (around None out old before) (around None given new later)
+        RefusesStep setup past times rest e (around no_source out old before) (around no_source given new later)
     cut_off waiting flush_error.WriteFault e old new e_is told = rw e_is (breaks_one old new (front_sent setup past m end.ctx waiting flush_error.WriteFault old new to_go told))
     cut_off waiting flush_error.NoMemory e old new e_is told = rw e_is (breaks_one old new (front_sent setup past m end.ctx waiting flush_error.NoMemory old new to_go told))
 
 -- the ids ran out with it
 pub runs_out : (setup : Setup) (past : List Raw) (times rest : List ℕ) (handles : List Handle) (m : Raw) (after used : List ℕ) (c : ConverterView) → Taken past rest handles m after c → (queue : List EisRequest) → Gave setup past m times used queue →
     (out given : List EisRequest) → given ≡ out ++ queue → (before later : Option (List ℕ)) → Draws used before later → (took : Option Piece) → refusal setup past m ≡ None → exhausts past m ≡ true → used ≡ [] → reply setup past m ≡ [] →
-    EndsWith setup past times rest true (around None out took before) (around None given took later)
+    EndsWith setup past times rest true (around no_source out took before) (around no_source given took later)
 runs_out setup past times rest handles m after used c t queue gave out given grown before later draws took fine out_of quiet silent = record {
   m = m;
   after = after;
   front_is = t.front_is;
   final = exhausting_last setup past m fine out_of;
   exhausts_is = out_of;
-  goes = subst (λ (u : List ℕ). Goes setup past (m ∷ past) times u (around None out took before) (around None given took later)) quiet (record {
+  goes = subst (λ (u : List ℕ). Goes setup past (m ∷ past) times u (around no_source out took before) (around no_source given took later)) quiet (record {
     behind = (m ∷ [], refl);
     gives = gives_one setup past m times used out queue given t.on gave grown;
     replies = replies_none setup past (m ∷ past) took (replies_more setup past m ∙ ap (λ (x : List Raw). replies setup past ++ x) silent ∙ append-nil (replies setup past));

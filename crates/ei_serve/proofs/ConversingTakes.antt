@@ -45,7 +45,7 @@ use Rattle.ei_serve.specs.declared.phase.Step.{Step}
 use Rattle.ei_serve.specs.declared.phase.Step.TheVariants as step
 use Rattle.ei_serve.specs.declared.policy.Policy.{Policy}
 use Rattle.ei_serve.specs.declared.policy.Policy.TheVariants as policy
-use Rattle.ei_serve.specs.Around.{around}
+use Rattle.ei_serve.specs.Around.{around, no_source}
 use Rattle.ei_serve.specs.AtFront.{IsAsked}
 use Rattle.ei_serve.specs.Policy.{policy_behind, Follows, LacksIds}
 use Rattle.ei_serve.specs.Standing.{most_capacity}
@@ -122,11 +122,11 @@ module _ (setup : Setup) (past : List Raw) (times rest : List ℕ) (handles : Li
 
   -- it is refused, and nothing is done
   pub refuses : (n : ConverterView) (e d : Error) (p : Phase) (out : List EisRequest) (took : Option Piece) (before after : Option (List ℕ)) (result : Result Step Error) → result ≡ Err d → d ≡ e →
-      Handles c r before (Err e) after n → Steps setup past times rest handles result p (around None out took before) (around None out took after)
+      Handles c r before (Err e) after n → Steps setup past times rest handles result p (around no_source out took before) (around no_source out took after)
   refuses n e d p out took before after result is d_is h =
       let x : Option Reason = refused c.handle (target_of r).id (target_of r).version (meaning_of r) in
       let so : IsRefused setup past rest e = refuses_as setup past rest a.m a.after x e a.front_is (refused_so setup past times rest handles r c a) (no_handshake c.handle (target_of r).id (target_of r).version (meaning_of r) no_shaking) h.why in
-      rw (is, d_is) (subst (λ (z : Option (List ℕ)). RefusesStep setup past times rest e (around None out took before) (around None out took z)) (sym h.unread) (refused_step setup past times rest e (around None out took before) so))
+      rw (is, d_is) (subst (λ (z : Option (List ℕ)). RefusesStep setup past times rest e (around no_source out took before) (around no_source out took z)) (sym h.unread) (refused_step setup past times rest e (around no_source out took before) so))
 
   -- ---- it is taken
 
@@ -174,7 +174,7 @@ module _ (setup : Setup) (past : List Raw) (times rest : List ℕ) (handles : Li
     b = kind_behind (kind r)
 
     -- it couldn't be handed out
-    pub unqueued : (p : Phase) (d : Error) (out given : List EisRequest) (took : Option Piece) (result : Result Step Error) → result ≡ Err d → d ≡ error.NoMemory → given ≡ out → Steps setup past times rest handles result p (around None out took before) (around None given took after)
+    pub unqueued : (p : Phase) (d : Error) (out given : List EisRequest) (took : Option Piece) (result : Result Step Error) → result ≡ Err d → d ≡ error.NoMemory → given ≡ out → Steps setup past times rest handles result p (around no_source out took before) (around no_source given took after)
     unqueued p d out given took result is d_is same = rw (is, d_is) (breaks_early setup past times rest out given took before after same)
 
     module _ (out given : List EisRequest) (grown : given ≡ out ++ n.queue) (p : Policy) (p_is : p ≡ policy_behind n.queue) (q : ConverterView) (q_is : q ≡ record n { queue = [] }) (lent : ConnectionView) (lent_is : lent ≡ q.handle) where
@@ -189,7 +189,7 @@ module _ (setup : Setup) (past : List Raw) (times rest : List ℕ) (handles : Li
 
       -- the policy couldn't be followed
       pub unfollowed : (f : SendError) (d : Error) (x : Phase) (took : Option Piece) (result : Result Step Error) → result ≡ Err d → d ≡ error_of_send f → (IsErrOf {T = Unit {0}} (Err f) send_error.IdsExhausted ↔ LacksIds p lent) →
-          (IsErrOf {T = Unit {0}} (Err f) send_error.MessageTooLong → ⊥) → Steps setup past times rest handles result x (around None out took before) (around None given took after)
+          (IsErrOf {T = Unit {0}} (Err f) send_error.MessageTooLong → ⊥) → Steps setup past times rest handles result x (around no_source out took before) (around no_source given took after)
       unfollowed send_error.MessageTooLong d x took result is d_is out_of short = absurd (short refl)
       unfollowed send_error.IdsExhausted d x took result is d_is out_of short =
           let l = b.lacks (lacks_so (out_of.0 refl)) in
@@ -213,7 +213,7 @@ module _ (setup : Setup) (past : List Raw) (times rest : List ℕ) (handles : Li
 
         -- what answers it couldn't be sent
         pub unflushed : (f : FlushError) (d : Error) (x : Phase) (waiting : Piece) (old new : Option Piece) (result : Result Step Error) → result ≡ Err d → d ≡ error_of_flush f → ((held : Piece) → old ≡ Some held → Flushes held (unsent_of end.ctx) (Err f) waiting new) →
-            Steps setup past times rest handles result x (around None out old before) (around None given new after)
+            Steps setup past times rest handles result x (around no_source out old before) (around no_source given new after)
         unflushed f d x waiting old new result is d_is told =
             rw is (cut_off setup past times rest handles a.m a.after b.used c taken (b.last || exhausts past a.m) b.judged n.queue b.gave out given grown before after b.draws end (record n { handle = end }) refl followed same_ring waiting f d old new d_is told)
 
@@ -223,23 +223,23 @@ module _ (setup : Setup) (past : List Raw) (times rest : List ℕ) (handles : Li
           same_last = ap is_end p_is ∙ b.ends
 
           -- the session goes on
-          pub goes_on : (d : ConverterView) → d ≡ record { handle = flushed; queue = q.queue } → is_end p ≡ false → Steps setup past times rest handles (Ok step.Handled) (phase.Connected d) (around None out old before) (around None given new after)
+          pub goes_on : (d : ConverterView) → d ≡ record { handle = flushed; queue = q.queue } → is_end p ≡ false → Steps setup past times rest handles (Ok step.Handled) (phase.Connected d) (around no_source out old before) (around no_source given new after)
           goes_on d d_is still =
               let closed : (b.last || exhausts past a.m) ≡ false = plain_end b.last refl ∙ sym same_last ∙ still in
-              subst (λ (x : ConverterView). Steps setup past times rest handles (Ok step.Handled) (phase.Connected x) (around None out old before) (around None given new after))
+              subst (λ (x : ConverterView). Steps setup past times rest handles (Ok step.Handled) (phase.Connected x) (around no_source out old before) (around no_source given new after))
               (sym (d_is ∙ ap (λ (x : ConverterView). record { handle = flushed; queue = x.queue }) q_is))
               (handles_one setup past times rest handles a.m a.after b.used c taken (b.last || exhausts past a.m) b.judged n.queue b.gave out given grown before after b.draws end (record n { handle = end }) refl followed same_ring flushed none kept old new told closed)
 
           -- the client disconnected
-          pub ends : (d : ConverterView) → is_end p ≡ true → Steps setup past times rest handles (Ok step.Disconnect) (phase.Connected d) (around None out old before) (around None given new after)
+          pub ends : (d : ConverterView) → is_end p ≡ true → Steps setup past times rest handles (Ok step.Disconnect) (phase.Connected d) (around no_source out old before) (around no_source given new after)
           ends d over =
               let closed : (b.last || exhausts past a.m) ≡ true = plain_end b.last refl ∙ sym same_last ∙ over in
               ends_one setup past times rest handles a.m a.after b.used c taken (b.last || exhausts past a.m) b.judged n.queue b.gave out given grown before after b.draws end (record n { handle = end }) refl followed same_ring flushed none kept old new told closed
               (b.enough no_lack) (b.lasts (sym same_last ∙ over))
 
           -- either, as the policy says
-          pub answers_end : (d : ConverterView) (s : Step) → s ≡ step.Disconnect → p ≡ policy.End → Steps setup past times rest handles (Ok s) (phase.Connected d) (around None out old before) (around None given new after)
+          pub answers_end : (d : ConverterView) (s : Step) → s ≡ step.Disconnect → p ≡ policy.End → Steps setup past times rest handles (Ok s) (phase.Connected d) (around no_source out old before) (around no_source given new after)
           answers_end d s s_is over = rw s_is (ends d (ap is_end over))
 
-          pub answers_on : (d : ConverterView) → d ≡ record { handle = flushed; queue = q.queue } → (s : Step) → s ≡ step.Handled → (p ≡ policy.End → ⊥) → Steps setup past times rest handles (Ok s) (phase.Connected d) (around None out old before) (around None given new after)
+          pub answers_on : (d : ConverterView) → d ≡ record { handle = flushed; queue = q.queue } → (s : Step) → s ≡ step.Handled → (p ≡ policy.End → ⊥) → Steps setup past times rest handles (Ok s) (phase.Connected d) (around no_source out old before) (around no_source given new after)
           answers_on d d_is s s_is still = rw s_is (goes_on d d_is (not_end p still))

@@ -14,7 +14,7 @@ use Rattle.ei_session.specs.Requests.{Request as Asked, framed}
 use Rattle.ei_session.specs.Events.{replies}
 use Rattle.ei_session.specs.Refusals.{Refusal, judge}
 use Rattle.ei_session.proofs.KeptByRequests.{fixed_versions, stays_connected}
-use Rattle.ei_backend.specs.Outside.{with_more}
+use Rattle.ei_backend.specs.Outside.{SourceView, with_more}
 use Rattle.ei_request.specs.declared.event.EisRequest.{EisRequest}
 use Rattle.ei_standing.specs.Standing.{handed_as}
 use Rattle.ei_serve.specs.Around.{Around, first_readings, AreDrawn, LeavesReadings}
@@ -159,12 +159,12 @@ goes_then setup a b c times u v x y z g h = record {
   frames = omega (arith, g.frames, h.frames, length-append u v);
 }
 
--- whatever the source has left
-pub goes_beside : (setup : Setup) (a b : List Raw) (times used : List ℕ) (x y : Around) (left_old left_new : Option (List Piece)) → Goes setup a b times used x y → Goes setup a b times used (record x { left = left_old }) (record y { left = left_new })
-goes_beside setup a b times used x y left_old left_new g = record { behind = g.behind; gives = g.gives; replies = g.replies; drawn = g.drawn; leaves = g.leaves; frames = g.frames }
+-- whatever the source says
+pub goes_beside : (setup : Setup) (a b : List Raw) (times used : List ℕ) (x y : Around) (source_old source_new : SourceView) → Goes setup a b times used x y → Goes setup a b times used (record x { source = source_old }) (record y { source = source_new })
+goes_beside setup a b times used x y source_old source_new g = record { behind = g.behind; gives = g.gives; replies = g.replies; drawn = g.drawn; leaves = g.leaves; frames = g.frames }
 
-pub breaks_beside : (setup : Setup) (a b : List Raw) (times : List ℕ) (x y : Around) (left_old left_new : Option (List Piece)) → GoesInPart setup a b times x y → GoesInPart setup a b times (record x { left = left_old }) (record y { left = left_new })
-breaks_beside setup a b times x y left_old left_new g = record { reached = g.reached; used = g.used; behind = g.behind; ahead = g.ahead; gives = g.gives; replies = g.replies; drawn = g.drawn }
+pub breaks_beside : (setup : Setup) (a b : List Raw) (times : List ℕ) (x y : Around) (source_old source_new : SourceView) → GoesInPart setup a b times x y → GoesInPart setup a b times (record x { source = source_old }) (record y { source = source_new })
+breaks_beside setup a b times x y source_old source_new g = record { reached = g.reached; used = g.used; behind = g.behind; ahead = g.ahead; gives = g.gives; replies = g.replies; drawn = g.drawn }
 
 -- ---- broken off
 

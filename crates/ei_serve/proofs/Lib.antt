@@ -25,4 +25,5 @@ pub mod Turns
 pub mod Histories
 pub mod Reading
 pub mod Serves
+pub mod AsTold
 pub mod Running

@@ -1,5 +1,5 @@
 -- A phase that starts, and one that reads a piece.
-use Rattle.std.proofs.Common.{◌≡◌, ◌<◌, ◌≤◌, ◌^◌, ℕ, length, arith, false, List, [], ◌∷◌, ◌++◌, Option, Some, None, Result, Ok, Err, refl, sym, ap, ◌∙◌, subst}
+use Rattle.std.proofs.Common.{◌≡◌, ◌<◌, ◌≤◌, ◌^◌, ℕ, length, arith, false, List, [], ◌∷◌, ◌++◌, Some, Result, Ok, Err, refl, sym, ap, ◌∙◌, subst}
 use Rattle.std.specs.Prelude.{is_some, codes}
 use Rattle.std.specs.Option.{ForSome}
 use Rattle.ei_spec.specs.declared.handle.Handle.{Handle}
@@ -17,9 +17,9 @@ use Rattle.ei_wire.specs.declared.error.ReadError.TheVariants as read_error
 use Rattle.ei_backend.specs.Table.{found, first_object, first_server_id}
 use Rattle.ei_backend.specs.Ring.{grown}
 use Rattle.ei_backend.proofs.RingLaws.{grown_bounded}
-use Rattle.ei_backend.specs.Incoming.{IsFirst}
+use Rattle.ei_backend.specs.Outside.{SourceView}
 use Rattle.ei_backend.specs.Endpoint.{Endpoint, endpoint_of}
-use Rattle.ei_backend.specs.Backend.{BackendView, ReadsOn, ReadsPiece, new_backend, unsent_of, with_piece, with_ring, with_unsent}
+use Rattle.ei_backend.specs.Backend.{BackendView, ReadsOn, new_backend, unsent_of, with_piece, with_ring, with_unsent}
 use Rattle.ei_backend.specs.Outgoing.{nothing}
 use Rattle.ei_handshake.specs.Handshaker.{HandshakerView, sends, untold}
 use Rattle.ei_request.specs.Connection.{ConnectionView}
@@ -27,7 +27,7 @@ use Rattle.ei_request.specs.Converter.{ConverterView}
 use Rattle.ei_serve.specs.declared.phase.Phase.{Phase}
 use Rattle.ei_serve.specs.declared.phase.Phase.TheVariants as phase
 use Rattle.ei_serve.specs.Standing.{StandsAt, ShakesHands, IsConnected, most_capacity, handshake_table}
-use Rattle.ei_serve.specs.Taking.{Hands, ReadsPhase}
+use Rattle.ei_serve.specs.Taking.{ReadsPhase}
 use Rattle.ei_serve.proofs.Standing.{found_first}
 
 -- ---- the start
@@ -61,24 +61,12 @@ starts setup serial b greeted flushed h new greets fresh sent kept lawful same s
 
 -- ---- reading
 
--- what a source that told these pieces says of a read
-abbrev pub Told : Option (List Piece) → Option (List Piece) → Result ℕ ReadError → BackendView → BackendView → Type 0
-Told old left r b new = (pieces : List Piece) → old ≡ Some pieces → ReadsPiece pieces left r b new
-
--- the first of the pieces that were told
-hands : (pieces : List Piece) (piece : Piece) (left : Option (List Piece)) → IsFirst pieces left piece → Hands (Some pieces) piece left
-hands pieces piece left h others told = let e : pieces ≡ others = cc in subst (λ (x : List Piece). IsFirst x left piece) e h
-
--- a source that told nothing
-hands_untold : (piece : Piece) (left : Option (List Piece)) → Hands None piece left
-hands_untold piece left pieces told = absurd cc
-
 -- the endpoint, but for what is unread and for the ring that holds it
 abbrev holding : BackendView → List ℕ → List Handle → ℕ → BackendView
 holding b unread waiting capacity = record b { unread = unread; handles = waiting; capacity = capacity }
 
 -- what a read of an endpoint does to a phase that stands whatever is unread
-module _ (setup : Setup) (past : List Raw) (times : List ℕ) (b new : BackendView) (p : Phase) (old left : Option (List Piece)) (short : length b.unread < 1048576) (most : b.capacity ≤ most_capacity)
+module _ (setup : Setup) (past : List Raw) (times : List ℕ) (b new : BackendView) (p : Phase) (old left : SourceView) (short : length b.unread < 1048576) (most : b.capacity ≤ most_capacity)
     (stands : (unread : List ℕ) (waiting : List Handle) (capacity : ℕ) → capacity ≤ most_capacity → new ≡ holding b unread waiting capacity → StandsAt setup past times unread waiting p) where
   -- the ring of an endpoint with few bytes unread, once room was made in it for a piece
   ring_after : grown (length b.unread) b.capacity ≤ most_capacity
@@ -90,20 +78,18 @@ module _ (setup : Setup) (past : List Raw) (times : List ℕ) (b new : BackendVi
   with_none : new ≡ with_ring b → StandsAt setup past times b.unread b.handles p
   with_none e = stands b.unread b.handles (grown (length b.unread) b.capacity) ring_after e
 
-  reads_by : (r : Result ℕ ReadError) (source : Option (List Piece)) → ReadsOn r b new → Told source left r b new → ReadsPhase setup past times b.unread b.handles r p source left
-  reads_by (Ok n) None on told = (on.0, hands_untold on.0 left, on.1, with_more on.0 on.2)
-  reads_by (Ok n) (Some pieces) on told = let t = told pieces refl in (t.0, hands pieces t.0 left t.1, t.2, with_more t.0 t.3)
-  reads_by (Err read_error.HandleLimit) None on told = (on.0, hands_untold on.0 left, on.1)
-  reads_by (Err read_error.HandleLimit) (Some pieces) on told = let t = told pieces refl in (t.0, hands pieces t.0 left t.1, t.2)
-  reads_by (Err read_error.UnexpectedEof) source on told = (λ pieces e. let t = told pieces e in (t.0, t.1), with_none on)
-  reads_by (Err read_error.ReadFault) source on told = λ pieces e. (told pieces e).0
-  reads_by (Err read_error.NoMemory) source on told = λ pieces e. (told pieces e).0
+  reads_by : (r : Result ℕ ReadError) → ReadsOn old left r b new → ReadsPhase setup past times b.unread b.handles r p old left
+  reads_by (Ok n) on = (on.0, on.1, on.2, with_more on.0 on.3)
+  reads_by (Err read_error.HandleLimit) on = (on.0, on.1, on.2)
+  reads_by (Err read_error.UnexpectedEof) on = (on.0, with_none on.1)
+  reads_by (Err read_error.ReadFault) on = on.0
+  reads_by (Err read_error.NoMemory) on = on.0
 
   -- of an open endpoint
-  reads_open : (rest : List ℕ) (handles : List Handle) (r : Result ℕ ReadError) → b.unread ≡ rest → b.handles ≡ handles → b.closed ≡ false → (b.closed ≡ false → ReadsOn r b new) → (b.closed ≡ false → Told old left r b new) → ReadsPhase setup past times rest handles r p old left
-  reads_open rest handles r unread waiting open_now on told =
+  reads_open : (rest : List ℕ) (handles : List Handle) (r : Result ℕ ReadError) → b.unread ≡ rest → b.handles ≡ handles → b.closed ≡ false → (b.closed ≡ false → ReadsOn old left r b new) → ReadsPhase setup past times rest handles r p old left
+  reads_open rest handles r unread waiting open_now on =
       subst (λ (x : List Handle). ReadsPhase setup past times rest x r p old left) waiting
-      (subst (λ (x : List ℕ). ReadsPhase setup past times x b.handles r p old left) unread (reads_by r old (on open_now) (told open_now)))
+      (subst (λ (x : List ℕ). ReadsPhase setup past times x b.handles r p old left) unread (reads_by r (on open_now)))
 
 -- during the handshake
 shaking_with : (setup : Setup) (past : List Raw) (rest : List ℕ) (handles : List Handle) (b new : BackendView) (h : HandshakerView) (unread : List ℕ) (waiting : List Handle) (capacity : ℕ) → ShakesHands setup past rest handles b h → capacity ≤ most_capacity → new ≡ holding b unread waiting capacity → ShakesHands setup past unread waiting new h
@@ -119,12 +105,12 @@ shaking_with setup past rest handles b new h unread waiting capacity s most e = 
   context_type = s.context_type;
 }
 
-pub reads_shaking : (setup : Setup) (past : List Raw) (times rest : List ℕ) (handles : List Handle) (b : BackendView) (h : HandshakerView) (r : Result ℕ ReadError) (new : BackendView) (old left : Option (List Piece)) → length rest < 1048576 → (times ≡ []) × ShakesHands setup past rest handles b h → (b.closed ≡ false → ReadsOn r b new) → (b.closed ≡ false → Told old left r b new) → ReadsPhase setup past times rest handles r (phase.Handshake new h) old left
-reads_shaking setup past times rest handles b h r new old left short s on told =
+pub reads_shaking : (setup : Setup) (past : List Raw) (times rest : List ℕ) (handles : List Handle) (b : BackendView) (h : HandshakerView) (r : Result ℕ ReadError) (new : BackendView) (old left : SourceView) → length rest < 1048576 → (times ≡ []) × ShakesHands setup past rest handles b h → (b.closed ≡ false → ReadsOn old left r b new) → ReadsPhase setup past times rest handles r (phase.Handshake new h) old left
+reads_shaking setup past times rest handles b h r new old left short s on =
     let unread : b.unread ≡ rest = ap (λ (x : Endpoint). x.unread) s.1.endpoint in
     reads_open setup past times b new (phase.Handshake new h) old left (rw unread short) s.1.ring
     (λ u w c most e. (s.0, shaking_with setup past rest handles b new h u w c s.1 most e))
-    rest handles r unread (ap (λ (x : Endpoint). x.handles) s.1.endpoint) (ap (λ (x : Endpoint). x.closed) s.1.endpoint) on told
+    rest handles r unread (ap (λ (x : Endpoint). x.handles) s.1.endpoint) (ap (λ (x : Endpoint). x.closed) s.1.endpoint) on
 
 -- where the connection stands
 connected_with : (setup : Setup) (past : List Raw) (times rest : List ℕ) (handles : List Handle) (c : ConverterView) (unread : List ℕ) (waiting : List Handle) (capacity : ℕ) → IsConnected setup past times rest handles c → capacity ≤ most_capacity → IsConnected setup past times unread waiting (record c { handle = record c.handle { ctx = holding c.handle.ctx unread waiting capacity } })
@@ -154,16 +140,15 @@ connected_with setup past times rest handles c unread waiting capacity s most = 
   queue = s.queue;
 }
 
-reads_held : (setup : Setup) (past : List Raw) (times rest : List ℕ) (handles : List Handle) (c : ConverterView) (r : Result ℕ ReadError) (new : BackendView) (old left : Option (List Piece)) → length rest < 1048576 → IsConnected setup past times rest handles c → (c.handle.ctx.closed ≡ false → ReadsOn r c.handle.ctx new) → (c.handle.ctx.closed ≡ false → Told old left r c.handle.ctx new) → ReadsPhase setup past times rest handles r (phase.Connected (record c { handle = record c.handle { ctx = new } })) old left
-reads_held setup past times rest handles c r new old left short s on told =
+reads_held : (setup : Setup) (past : List Raw) (times rest : List ℕ) (handles : List Handle) (c : ConverterView) (r : Result ℕ ReadError) (new : BackendView) (old left : SourceView) → length rest < 1048576 → IsConnected setup past times rest handles c → (c.handle.ctx.closed ≡ false → ReadsOn old left r c.handle.ctx new) → ReadsPhase setup past times rest handles r (phase.Connected (record c { handle = record c.handle { ctx = new } })) old left
+reads_held setup past times rest handles c r new old left short s on =
     reads_open setup past times c.handle.ctx new (phase.Connected (record c { handle = record c.handle { ctx = new } })) old left (rw s.unread short) s.ring
     (λ u w k most e. subst (λ (x : BackendView). IsConnected setup past times u w (record c { handle = record c.handle { ctx = x } })) (sym e) (connected_with setup past times rest handles c u w k s most))
-    rest handles r s.unread s.unread_handles s.held.opened on told
+    rest handles r s.unread s.unread_handles s.held.opened on
 
-pub reads_connected : (setup : Setup) (past : List Raw) (times rest : List ℕ) (handles : List Handle) (c : ConverterView) (h : ConnectionView) (b : BackendView) (r : Result ℕ ReadError) (new : BackendView) (old left : Option (List Piece)) → length rest < 1048576 → IsConnected setup past times rest handles c → h ≡ c.handle → b ≡ h.ctx → (b.closed ≡ false → ReadsOn r b new) → (b.closed ≡ false → Told old left r b new) → ReadsPhase setup past times rest handles r (phase.Connected (record c { handle = record h { ctx = new } })) old left
-reads_connected setup past times rest handles c h b r new old left short s lent is on told =
+pub reads_connected : (setup : Setup) (past : List Raw) (times rest : List ℕ) (handles : List Handle) (c : ConverterView) (h : ConnectionView) (b : BackendView) (r : Result ℕ ReadError) (new : BackendView) (old left : SourceView) → length rest < 1048576 → IsConnected setup past times rest handles c → h ≡ c.handle → b ≡ h.ctx → (b.closed ≡ false → ReadsOn old left r b new) → ReadsPhase setup past times rest handles r (phase.Connected (record c { handle = record h { ctx = new } })) old left
+reads_connected setup past times rest handles c h b r new old left short s lent is on =
     let same : b ≡ c.handle.ctx = is ∙ ap (λ (x : ConnectionView). x.ctx) lent in
     subst (λ (x : ConnectionView). ReadsPhase setup past times rest handles r (phase.Connected (record c { handle = record x { ctx = new } })) old left) (sym lent)
     (reads_held setup past times rest handles c r new old left short s
-    (subst (λ (x : BackendView). x.closed ≡ false → ReadsOn r x new) same on)
-    (subst (λ (x : BackendView). x.closed ≡ false → Told old left r x new) same told))
+    (subst (λ (x : BackendView). x.closed ≡ false → ReadsOn old left r x new) same on))

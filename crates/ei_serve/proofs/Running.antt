@@ -1,7 +1,8 @@
 -- A session on its way: what it took, gave and replied since its start.
-use Rattle.std.proofs.Common.{◌≡◌, ℕ, zero, suc, ◌+◌, ◌≤◌, List, [], ◌∷◌, ◌++◌, length, take, drop, Option, Some, None, refl, ap, sym, subst, ◌∙◌, arith}
+use Rattle.std.proofs.Common.{◌≡◌, ℕ, zero, suc, ◌+◌, ◌≤◌, List, [], ◌∷◌, ◌++◌, length, take, drop, Option, Some, None, refl}
+use Rattle.std.proofs.Common.{ap, sym, subst, ◌∙◌, append_assoc, arith}
 use Rattle.std.specs.Prelude.{slice_get}
-use Rattle.std.proofs.lemmas.List.{length-append, drop-drop}
+use Rattle.std.proofs.lemmas.List.{append-nil, length-append, drop-drop}
 use Rattle.std.proofs.lemmas.Grind.{flat_map-append}
 use Rattle.ei_spec.specs.Message.{Raw, front, bytes_of, all_bytes}
 use Rattle.ei_spec.specs.Piece.{Piece, stream, handle_count}
@@ -13,13 +14,14 @@ use Rattle.ei_session.specs.Requests.{slot, framed}
 use Rattle.ei_session.specs.Events.{replies}
 use Rattle.ei_session.specs.Refusals.{Refusal as Cause}
 use Rattle.ei_session.specs.Served.{reading_of, accepted}
-use Rattle.ei_backend.specs.Outside.{with_more}
+use Rattle.ei_backend.specs.Outside.{SourceView, with_more}
+use Rattle.ei_backend.specs.Incoming.{Hands}
 use Rattle.ei_request.specs.declared.event.EisRequest.{EisRequest}
 use Rattle.ei_serve.specs.declared.state.SessionState.{SessionState}
 use Rattle.ei_serve.specs.Around.{Around, around, AreDrawn, LeavesReadings}
 use Rattle.ei_serve.specs.Standing.{Stands, StandsAt, setup_of}
 use Rattle.ei_serve.specs.Steps.{GivesOut, Replies}
-use Rattle.ei_serve.specs.Taking.{Hands, with_next}
+use Rattle.ei_serve.specs.Taking.{with_next}
 use Rattle.ei_serve.specs.Turning.{GoesOn}
 use Rattle.ei_serve.specs.Serving.{Replied}
 use Rattle.ei_serve.proofs.Going.{gives_none, gives_then, drawn_then, leaves_then, more_more}
@@ -36,7 +38,8 @@ pub record Running (setup : Setup) (n : ℕ) (s : SessionState) (old new : Aroun
   pub times : List ℕ
   pub count : length pieces ≡ n
   pub stands : Stands setup pieces times s
-  pub took : (told : List Piece) → old.left ≡ Some told → Took told new.left n pieces
+  pub took : (told : List Piece) → old.source.left ≡ Some told → Took told new.source.left n pieces
+  pub given : new.source.given ≡ old.source.given ++ pieces
   pub gives : GivesOut setup [] (accepted setup (stream pieces)) [] times old.out new.out
   pub replied : Replied setup (accepted setup (stream pieces)) old.took new.took
   pub drawn : AreDrawn times old.readings
@@ -55,9 +58,9 @@ front_more (suc n) (p ∷ told) piece e =
     let shift : suc n + 1 ≡ suc (n + 1) = omega arith in
     (ap (λ (k : ℕ). take k (p ∷ told)) shift ∙ ap (λ (x : List Piece). p ∷ x) h.0, omega (arith, h.1))
 
-pub took_more : (told : List Piece) (left left_new : Option (List Piece)) (n : ℕ) (pieces : List Piece) (piece : Piece) → Took told left n pieces → Hands left piece left_new → Took told left_new (n + 1) (with_next pieces piece)
-took_more told left left_new n pieces piece t hands =
-    let h = hands (drop n told) t.left_is in
+pub took_more : (told : List Piece) (before after : SourceView) (n : ℕ) (pieces : List Piece) (piece : Piece) → Took told before.left n pieces → Hands before piece after → Took told after.left (n + 1) (with_next pieces piece)
+took_more told before after n pieces piece t hands =
+    let h = hands.told (drop n told) t.left_is in
     let f = front_more n told piece h.first in
     record {
       within = f.1;
@@ -84,7 +87,8 @@ goes_on setup n s t x y z r g = record {
   times = r.times ++ g.used;
   count = length-append r.pieces (g.piece ∷ []) ∙ ap (λ (k : ℕ). k + 1) r.count;
   stands = g.stands;
-  took = λ told e. took_more told y.left z.left n r.pieces g.piece (r.took told e) g.hands;
+  took = λ told e. took_more told y.source z.source n r.pieces g.piece (r.took told e) g.hands;
+  given = g.hands.given ∙ ap (λ (l : List Piece). l ++ g.piece ∷ []) r.given ∙ append_assoc x.source.given r.pieces (g.piece ∷ []);
   gives = gives_then setup [] (accepted setup (stream r.pieces)) (accepted setup (stream (with_next r.pieces g.piece))) [] r.times g.used x.out y.out z.out g.goes.behind r.gives g.goes.gives;
   replied = replied_then setup (accepted setup (stream r.pieces)) (accepted setup (stream (with_next r.pieces g.piece))) x.took y.took z.took r.replied g.goes.replies;
   drawn = drawn_then r.times g.used x.readings y.readings r.drawn r.leaves g.goes.drawn;
@@ -117,13 +121,14 @@ stands_for_none setup s started phase taken = record {
   taken = taken;
 }
 
-pub starts : (setup : Setup) (s : SessionState) (left : Option (List Piece)) (out : List EisRequest) (old new : Option Piece) (readings : Option (List ℕ)) → Stands setup [] [] s → Replied setup [] old new → Running setup 0 s (around left out old readings) (around left out new readings)
-starts setup s left out old new readings stands r = record {
+pub starts : (setup : Setup) (s : SessionState) (source : SourceView) (out : List EisRequest) (old new : Option Piece) (readings : Option (List ℕ)) → Stands setup [] [] s → Replied setup [] old new → Running setup 0 s (around source out old readings) (around source out new readings)
+starts setup s source out old new readings stands r = record {
   pieces = [];
   times = [];
   count = refl;
   stands = stands;
   took = λ told e. record { within = omega arith; left_is = e; are = refl };
+  given = sym (append-nil source.given);
   gives = gives_none setup [] (accepted setup (stream [])) [] out (λ given. ap (framed setup given) (none_accepted setup));
   replied = subst (λ (m : List Raw). Replied setup m old new) (sym (none_accepted setup)) r;
   drawn = λ told is. refl;

@@ -24,7 +24,8 @@ use Rattle.ei_session.specs.Served.{session, is_over, reading_of, accepted, IsVa
 use Rattle.ei_session.specs.Complete.{AreComplete}
 use Rattle.ei_session.proofs.AllParts.{replies_prefix}
 use Rattle.ei_session.proofs.Completing.{complete_ends}
-use Rattle.ei_backend.specs.Outside.{with_more}
+use Rattle.ei_backend.specs.Outside.{SourceView, with_more}
+use Rattle.ei_backend.specs.Incoming.{Hands, HasNone}
 use Rattle.ei_request.specs.declared.event.EisRequest.{EisRequest}
 use Rattle.ei_standing.specs.Standing.{request_in_code}
 use Rattle.ei_types.specs.declared.error.Error.{Error}
@@ -35,7 +36,7 @@ use Rattle.ei_serve.specs.declared.state.SessionState.{SessionState}
 use Rattle.ei_serve.specs.Around.{Around, around, first_readings, AreDrawn, LeavesReadings}
 use Rattle.ei_serve.specs.Causes.{Greeted, GreetedInPart, RefusesToStart}
 use Rattle.ei_serve.specs.Steps.{GivesOut, Replies, RepliesInPart, Goes}
-use Rattle.ei_serve.specs.Taking.{Hands, HasNone, with_next}
+use Rattle.ei_serve.specs.Taking.{with_next}
 use Rattle.ei_serve.specs.Refusing.{refusal_of, IsRefused}
 use Rattle.ei_serve.specs.Turning.{Closes, ClosesRefused, Finds, Stays, BreaksOff, Turns, IsAtEnd}
 use Rattle.ei_serve.specs.Serving.{AnswersAs, IsDecided, IsCutShort, IsOfSession, IsSourceEnd, TookPieces, HandsOut, LeftReadings, Replied, RepliedInPart}
@@ -266,10 +267,10 @@ took_to_end setup told left r n t = absurd n
 took_of : (told : List Piece) (left : Option (List Piece)) (n : ℕ) (pieces : List Piece) → Took told left n pieces → TookPieces told left n
 took_of told left n pieces t = record { within = t.within; left_is = t.left_is }
 
-cut_so : (setup : Setup) (told : List Piece) (x z : Around) (e : Error) (k : ℕ) → IsCutShort {T = HowEnded} (Err e) → k ≤ setup.pieces + 1 → TookPieces told z.left k → CutShort setup told z.left x.readings x.out z.out x.took z.took → Serves setup told (Err e) x z
-cut_so setup told x z error.WriteFault k is most took h = record { answer = tt; requests = λ d. absurd d; replies = λ d. absurd d; readings = λ d. absurd d; valid = tt; taken = λ d. absurd d; pieces = (k, most, took); handled = λ e. absurd cc; cut_short = λ _. h }
-cut_so setup told x z error.NoMemory k is most took h = record { answer = tt; requests = λ d. absurd d; replies = λ d. absurd d; readings = λ d. absurd d; valid = tt; taken = λ d. absurd d; pieces = (k, most, took); handled = λ e. absurd cc; cut_short = λ _. h }
-cut_so setup told x z e k is most took h = absurd is
+cut_so : (setup : Setup) (told : List Piece) (left : Option (List Piece)) (x z : Around) (e : Error) (k : ℕ) → IsCutShort {T = HowEnded} (Err e) → k ≤ setup.pieces + 1 → TookPieces told left k → CutShort setup told left x.readings x.out z.out x.took z.took → Serves setup told left (Err e) x z
+cut_so setup told left x z error.WriteFault k is most took h = record { answer = tt; requests = λ d. absurd d; replies = λ d. absurd d; readings = λ d. absurd d; valid = tt; taken = λ d. absurd d; pieces = (k, most, took); handled = λ e. absurd cc; cut_short = λ _. h }
+cut_so setup told left x z error.NoMemory k is most took h = record { answer = tt; requests = λ d. absurd d; replies = λ d. absurd d; readings = λ d. absurd d; valid = tt; taken = λ d. absurd d; pieces = (k, most, took); handled = λ e. absurd cc; cut_short = λ _. h }
+cut_so setup told left x z e k is most took h = absurd is
 
 start_cut : (e : Error) → RefusesToStart e → IsCutShort {T = HowEnded} (Err e)
 start_cut error.WriteFault h = tt
@@ -280,13 +281,14 @@ pub no_start_read : (e : Error) → RefusesToStart e → e ≡ error.ReadFault �
 no_start_read e h same = subst RefusesToStart same h
 
 -- a session that didn't start
-pub not_started : (setup : Setup) (told : List Piece) (left : Option (List Piece)) (out : List EisRequest) (old new : Option Piece) (readings : Option (List ℕ)) (e : Error) (r : Result HowEnded Error) → r ≡ Err e → RefusesToStart e → left ≡ Some told → RepliedInPart setup [] old new → Serves setup told r (around left out old readings) (around left out new readings)
-not_started setup told left out old new readings e r same h is replied =
-    subst (λ (q : Result HowEnded Error). Serves setup told q (around left out old readings) (around left out new readings)) (sym same)
-    (cut_so setup told (around left out old readings) (around left out new readings) e 0 (start_cut e h) (omega arith) (none_taken told left is) (none_handled setup told left readings out old new is replied))
+pub not_started : (setup : Setup) (told : List Piece) (source : SourceView) (left : Option (List Piece)) (out : List EisRequest) (old new : Option Piece) (readings : Option (List ℕ)) (e : Error) (r : Result HowEnded Error) → r ≡ Err e → RefusesToStart e → left ≡ Some told → RepliedInPart setup [] old new →
+    Serves setup told left r (around source out old readings) (around source out new readings)
+not_started setup told source left out old new readings e r same h is replied =
+    subst (λ (q : Result HowEnded Error). Serves setup told left q (around source out old readings) (around source out new readings)) (sym same)
+    (cut_so setup told left (around source out old readings) (around source out new readings) e 0 (start_cut e h) (omega arith) (none_taken told left is) (none_handled setup told left readings out old new is replied))
 
-module _ (setup : Setup) (n : ℕ) (s : SessionState) (x y z : Around) (run : Running setup n s x y) (few : n ≤ setup.pieces) (told : List Piece) (left_is : x.left ≡ Some told) where
-  took_now : Took told y.left n run.pieces
+module _ (setup : Setup) (n : ℕ) (s : SessionState) (x y z : Around) (run : Running setup n s x y) (few : n ≤ setup.pieces) (told : List Piece) (left_is : x.source.left ≡ Some told) where
+  took_now : Took told y.source.left n run.pieces
   took_now = run.took told left_is
 
   abbrev past : List Raw
@@ -305,8 +307,8 @@ module _ (setup : Setup) (n : ℕ) (s : SessionState) (x y z : Around) (run : Ru
   leaves_to messages used g =
       left_readings setup messages (run.times ++ used) x.readings z.readings (omega (arith, run.frames, g.frames, length-append run.times used)) (leaves_then run.times used x.readings y.readings z.readings run.leaves g.leaves)
 
-  decided : (r : Result HowEnded Error) (k : ℕ) (used : List ℕ) → IsDecided r → k ≤ setup.pieces + 1 → AnswersAs (session setup told).answer r → TookPieces told z.left k → TookAllOf setup told z.left r →
-      Goes setup past (session setup told).handled run.times used y z → OnOk r (ReadValid setup told z.left (session setup told).handled) → Serves setup told r x z
+  decided : (r : Result HowEnded Error) (k : ℕ) (used : List ℕ) → IsDecided r → k ≤ setup.pieces + 1 → AnswersAs (session setup told).answer r → TookPieces told z.source.left k → TookAllOf setup told z.source.left r →
+      Goes setup past (session setup told).handled run.times used y z → OnOk r (ReadValid setup told z.source.left (session setup told).handled) → Serves setup told z.source.left r x z
   decided r k used d most answers took all g valid = record {
     answer = answers;
     requests = λ _. gives_to (session setup told).handled used g.behind g.gives g.drawn;
@@ -324,21 +326,21 @@ module _ (setup : Setup) (n : ℕ) (s : SessionState) (x y z : Around) (run : Ru
 
   -- ---- the last piece came
 
-  took_next : (piece : Piece) → Hands y.left piece z.left → Took told z.left (n + 1) (with_next run.pieces piece)
-  took_next piece hands = took_more told y.left z.left n run.pieces piece took_now hands
+  took_next : (piece : Piece) → Hands y.source piece z.source → Took told z.source.left (n + 1) (with_next run.pieces piece)
+  took_next piece hands = took_more told y.source z.source n run.pieces piece took_now hands
 
-  session_is : (piece : Piece) → Hands y.left piece z.left → IsEarly (session setup (with_next run.pieces piece)).answer → session setup told ≡ session setup (with_next run.pieces piece)
+  session_is : (piece : Piece) → Hands y.source piece z.source → IsEarly (session setup (with_next run.pieces piece)).answer → session setup told ≡ session setup (with_next run.pieces piece)
   session_is piece hands early =
       let are = (took_next piece hands).are in
       session_front setup told (n + 1) (subst (λ (p : List Piece). IsEarly (session setup p).answer) (sym are) early) ∙ ap (session setup) are
 
   -- the session is over with it
-  took_last : (piece : Piece) → Hands y.left piece z.left → IsEarly (session setup (with_next run.pieces piece)).answer → TookToPiece setup told z.left
+  took_last : (piece : Piece) → Hands y.source piece z.source → IsEarly (session setup (with_next run.pieces piece)).answer → TookToPiece setup told z.source.left
   took_last piece hands early =
       let took = took_next piece hands in
       record {
         k = n + 1;
-        took = took_of told z.left (n + 1) (with_next run.pieces piece) took;
+        took = took_of told z.source.left (n + 1) (with_next run.pieces piece) took;
         some = omega arith;
         goes_on = λ j low lt. goes_on_told j low (omega (arith, lt));
         over = sym (front_same setup told (n + 1) (n + 1) (omega arith)) ∙ ap (λ (p : List Piece). is_over setup p (n + 1)) took.are ∙ ap (λ (k : ℕ). is_over setup (with_next run.pieces piece) (k + 1)) (sym run.count)
@@ -346,61 +348,61 @@ module _ (setup : Setup) (n : ℕ) (s : SessionState) (x y z : Around) (run : Ru
       }
 
   closed : (r : Result HowEnded Error) (answer : Answer) → IsDecided r → IsNoEnd r → IsEarly answer → AnswersAs answer r → (h : Closes setup run.pieces run.times answer y z) →
-      OnOk r (ReadValid setup told z.left (session setup (with_next run.pieces h.piece)).handled) → Serves setup told r x z
+      OnOk r (ReadValid setup told z.source.left (session setup (with_next run.pieces h.piece)).handled) → Serves setup told z.source.left r x z
   closed r answer d no_end early answers h valid =
       let soon = subst (λ (t : Answer). IsEarly t) (sym h.answer_is) early in
       let is = session_is h.piece h.hands soon in
       let took = took_next h.piece h.hands in
       decided r (n + 1) h.used d (omega (arith, few))
       (subst (λ (t : Answer). AnswersAs t r) (sym (ap (λ (o : Outcome). o.answer) is ∙ h.answer_is)) answers)
-      (took_of told z.left (n + 1) (with_next run.pieces h.piece) took)
-      (took_to_piece setup told z.left r no_end (took_last h.piece h.hands soon))
+      (took_of told z.source.left (n + 1) (with_next run.pieces h.piece) took)
+      (took_to_piece setup told z.source.left r no_end (took_last h.piece h.hands soon))
       (subst (λ (o : Outcome). Goes setup past o.handled run.times h.used y z) (sym is) h.goes)
-      (subst (λ (o : Outcome). OnOk r (ReadValid setup told z.left o.handled)) (sym is) valid)
+      (subst (λ (o : Outcome). OnOk r (ReadValid setup told z.source.left o.handled)) (sym is) valid)
 
-  pub disconnects : Closes setup run.pieces run.times Disconnect y z → Serves setup told (Ok ended.Disconnect) x z
+  pub disconnects : Closes setup run.pieces run.times Disconnect y z → Serves setup told z.source.left (Ok ended.Disconnect) x z
   disconnects h =
       let took = took_next h.piece h.hands in
       let stop = stopped_at setup run.pieces h.piece run.stands.goes_on h.answer_is in
       closed (Ok ended.Disconnect) Disconnect tt tt tt refl h (record {
         k = n + 1;
-        took = took_of told z.left (n + 1) (with_next run.pieces h.piece) took;
+        took = took_of told z.source.left (n + 1) (with_next run.pieces h.piece) took;
         valid = subst (λ (p : List Piece). IsValid setup (stream p)) (sym took.are) (valid_ended setup (stream (with_next run.pieces h.piece)) stop.0);
         messages_are = ap (λ (p : List Piece). accepted setup (stream p)) took.are ∙ sym stop.1;
       })
 
   -- ---- the source ended
 
-  all_taken : HasNone y.left z.left → (drop n told ≡ []) × (z.left ≡ Some [])
-  all_taken none = none (drop n told) took_now.left_is
+  all_taken : HasNone y.source z.source → (drop n told ≡ []) × (z.source.left ≡ Some [])
+  all_taken none = none.told (drop n told) took_now.left_is
 
-  pieces_are : HasNone y.left z.left → run.pieces ≡ told
+  pieces_are : HasNone y.source z.source → run.pieces ≡ told
   pieces_are none = sym took_now.are ∙ sym (append-nil (take n told)) ∙ ap (λ (p : List Piece). take n told ++ p) (sym (all_taken none).0) ∙ take-append-drop n told
 
-  took_end : HasNone y.left z.left → TookPieces told z.left n
+  took_end : HasNone y.source z.source → TookPieces told z.source.left n
   took_end none = record { within = took_now.within; left_is = (all_taken none).1 ∙ ap (λ (p : List Piece). Some p) (sym (all_taken none).0) }
 
   -- every piece that was told was taken
-  took_every : HasNone y.left z.left → TookToTheEnd setup told z.left
+  took_every : HasNone y.source z.source → TookToTheEnd setup told z.source.left
   took_every none =
       let count : length told ≡ n = omega (arith, took_now.within, ap (λ (p : List Piece). length p) (pieces_are none), run.count) in
       record {
-        took = subst (λ (k : ℕ). TookPieces told z.left k) (sym count) (took_end none);
+        took = subst (λ (k : ℕ). TookPieces told z.source.left k) (sym count) (took_end none);
         goes_on = λ j low high. goes_on_told j low (omega (arith, high, count));
       }
 
   found : (r : Result HowEnded Error) (answer : Answer) → IsDecided r → IsSourceEnd r → AnswersAs answer r → (h : Finds setup run.pieces run.times answer y z) →
-      OnOk r (ReadValid setup told z.left (session setup run.pieces).handled) → Serves setup told r x z
+      OnOk r (ReadValid setup told z.source.left (session setup run.pieces).handled) → Serves setup told z.source.left r x z
   found r answer d at answers h valid =
       let is = pieces_are h.none in
       decided r n [] d (omega (arith, few))
       (subst (λ (p : List Piece). AnswersAs (session setup p).answer r) is (subst (λ (t : Answer). AnswersAs t r) (sym h.answer_is) answers))
       (took_end h.none)
-      (took_to_end setup told z.left r at (took_every h.none))
+      (took_to_end setup told z.source.left r at (took_every h.none))
       (subst (λ (p : List Piece). Goes setup past (session setup p).handled run.times [] y z) is h.goes)
-      (subst (λ (p : List Piece). OnOk r (ReadValid setup told z.left (session setup p).handled)) is valid)
+      (subst (λ (p : List Piece). OnOk r (ReadValid setup told z.source.left (session setup p).handled)) is valid)
 
-  pub ends : Finds setup run.pieces run.times End y z → Serves setup told (Ok ended.End) x z
+  pub ends : Finds setup run.pieces run.times End y z → Serves setup told z.source.left (Ok ended.End) x z
   ends h =
       let at = going setup run.pieces run.stands.goes_on in
       found (Ok ended.End) End tt tt refl h (record {
@@ -415,8 +417,8 @@ module _ (setup : Setup) (n : ℕ) (s : SessionState) (x y z : Around) (run : Ru
   goes_on_front : GoingOn setup (take n told)
   goes_on_front = subst (λ (p : List Piece). GoingOn setup p) (sym took_now.are) run.stands.goes_on
 
-  stays_took : Stays y z → TookPieces told z.left n
-  stays_took h = record { within = took_now.within; left_is = h.keeps (drop n told) took_now.left_is }
+  stays_took : Stays y z → TookPieces told z.source.left n
+  stays_took h = record { within = took_now.within; left_is = h.keeps.told (drop n told) took_now.left_is }
 
   -- the requests and the replies are as they were
   hands_here : Stays y z → HandsOut setup past x.readings x.out z.out
@@ -428,7 +430,7 @@ module _ (setup : Setup) (n : ℕ) (s : SessionState) (x y z : Around) (run : Ru
   accepted_is : accepted setup (stream (take n told)) ≡ past
   accepted_is = ap (λ (p : List Piece). accepted setup (stream p)) took_now.are
 
-  pub read_fault : Stays y z → Serves setup told (Err error.ReadFault) x z
+  pub read_fault : Stays y z → Serves setup told z.source.left (Err error.ReadFault) x z
   read_fault h = record {
     answer = tt;
     requests = λ d. absurd d;
@@ -447,20 +449,20 @@ module _ (setup : Setup) (n : ℕ) (s : SessionState) (x y z : Around) (run : Ru
     cut_short = λ e. absurd e;
   }
 
-  cut_by : (e : Error) (k : ℕ) → IsCutShort {T = HowEnded} (Err e) → k ≤ setup.pieces + 1 → TookPieces told z.left k → CutShort setup told z.left x.readings x.out z.out x.took z.took → Serves setup told (Err e) x z
-  cut_by e k is most took h = cut_so setup told x z e k is most took h
+  cut_by : (e : Error) (k : ℕ) → IsCutShort {T = HowEnded} (Err e) → k ≤ setup.pieces + 1 → TookPieces told z.source.left k → CutShort setup told z.source.left x.readings x.out z.out x.took z.took → Serves setup told z.source.left (Err e) x z
+  cut_by e k is most took h = cut_so setup told z.source.left x z e k is most took h
 
-  pub breaks_off : (e : Error) → IsCutShort {T = HowEnded} (Err e) → BreaksOff setup run.pieces run.times y z → Serves setup told (Err e) x z
+  pub breaks_off : (e : Error) → IsCutShort {T = HowEnded} (Err e) → BreaksOff setup run.pieces run.times y z → Serves setup told z.source.left (Err e) x z
   breaks_off e is h =
       let took = took_next h.piece h.hands in
       let next = handled_next setup told n (omega (arith, took.within)) goes_on_front (omega (arith, h.room, run.count)) (subst (λ (p : List Piece). handle_count p ≤ 4096) (sym took.are) h.few) in
       let last : accepted setup (stream (take (n + 1) told)) ≡ accepted setup (stream (with_next run.pieces h.piece)) = ap (λ (p : List Piece). accepted setup (stream p)) took.are in
       let less : n + 1 - 1 ≡ n = omega arith in
       let before : accepted setup (stream (take (n + 1 - 1) told)) ≡ past = ap (λ (k : ℕ). accepted setup (stream (take k told))) less ∙ accepted_is in
-      cut_by e (n + 1) is (omega (arith, few)) (took_of told z.left (n + 1) (with_next run.pieces h.piece) took)
+      cut_by e (n + 1) is (omega (arith, few)) (took_of told z.source.left (n + 1) (with_next run.pieces h.piece) took)
       (record {
         k = n + 1;
-        took = took_of told z.left (n + 1) (with_next run.pieces h.piece) took;
+        took = took_of told z.source.left (n + 1) (with_next run.pieces h.piece) took;
         reached = h.goes.reached;
         ahead = (next.0 ++ h.goes.ahead.0, next.1 ∙ ap (λ (m : List Raw). next.0 ++ m) (last ∙ h.goes.ahead.1) ∙ sym (append_assoc next.0 h.goes.ahead.0 h.goes.reached));
         owed = λ _. (h.goes.behind.0, h.goes.behind.1 ∙ ap (λ (m : List Raw). h.goes.behind.0 ++ m) (sym before));
@@ -469,7 +471,7 @@ module _ (setup : Setup) (n : ℕ) (s : SessionState) (x y z : Around) (run : Ru
         replied = λ _. subst (λ (m : List Raw). RepliedAtLeast setup m x.took z.took) (sym before) (at_least setup past h.goes.reached x.took y.took z.took run.replied h.goes.replies);
       })
 
-  stays_short : (e : Error) → IsCutShort {T = HowEnded} (Err e) → Stays y z → Serves setup told (Err e) x z
+  stays_short : (e : Error) → IsCutShort {T = HowEnded} (Err e) → Stays y z → Serves setup told z.source.left (Err e) x z
   stays_short e is h =
       let front = handled_front setup told n took_now.within goes_on_front in
       let owed = accepted_front setup told (n - 1) n (omega arith) in
@@ -488,11 +490,11 @@ module _ (setup : Setup) (n : ℕ) (s : SessionState) (x y z : Around) (run : Ru
 
   -- ---- by the error
 
-  refused : (e : Error) (refusal : Option Cause) → IsDecided {T = HowEnded} (Err e) → IsNoEnd (Err e) → ((a : Answer) → IsRefused refusal a → AnswersAs a (Err e)) → ClosesRefused setup run.pieces run.times refusal y z → Serves setup told (Err e) x z
+  refused : (e : Error) (refusal : Option Cause) → IsDecided {T = HowEnded} (Err e) → IsNoEnd (Err e) → ((a : Answer) → IsRefused refusal a → AnswersAs a (Err e)) → ClosesRefused setup run.pieces run.times refusal y z → Serves setup told z.source.left (Err e) x z
   refused e None d no_end answers h = absurd h
   refused e (Some r) d no_end answers h = closed (Err e) (Refused r) d no_end tt (answers (Refused r) refl) h tt
 
-  pub fails : (e : Error) (t : SessionState) → Turns setup run.pieces run.times (Err e) t y z → Serves setup told (Err e) x z
+  pub fails : (e : Error) (t : SessionState) → Turns setup run.pieces run.times (Err e) t y z → Serves setup told z.source.left (Err e) x z
   fails error.UnexpectedEof t h = found (Err error.UnexpectedEof) UnexpectedEof tt tt refl h tt
   fails error.PieceLimit t h = closed (Err error.PieceLimit) PieceLimit tt tt tt refl h tt
   fails error.HandleLimit t h = closed (Err error.HandleLimit) HandleLimit tt tt tt refl h tt
@@ -503,8 +505,8 @@ module _ (setup : Setup) (n : ℕ) (s : SessionState) (x y z : Around) (run : Ru
   fails error.NoMemory t (inr h) = breaks_off error.NoMemory tt h
   fails e t h = refused e (refusal_of e) tt tt (λ a r. r) h
 
-  pub failed : (t : SessionState) (e : Error) (r : Result HowEnded Error) → r ≡ Err e → Turns setup run.pieces run.times (Err e) t y z → Serves setup told r x z
-  failed t e r same h = subst (λ (q : Result HowEnded Error). Serves setup told q x z) (sym same) (fails e t h)
+  pub failed : (t : SessionState) (e : Error) (r : Result HowEnded Error) → r ≡ Err e → Turns setup run.pieces run.times (Err e) t y z → Serves setup told z.source.left r x z
+  failed t e r same h = subst (λ (q : Result HowEnded Error). Serves setup told z.source.left q x z) (sym same) (fails e t h)
 
 -- ---- a good end that is sure
 
@@ -524,15 +526,15 @@ sure_by a error.IdsExhausted g h r w = absurd (subst IsGood h g)
 sure_by a e g h r w = absurd (no_good a e (refusal_of e) g h)
 
 -- over complete pieces, and an outside without faults, an error is want of memory
-pub sure : (setup : Setup) (told : List Piece) (e : Error) (r : Result HowEnded Error) (x z : Around) → r ≡ Err e → AreComplete setup told → Serves setup told r x z → (e ≡ error.ReadFault → ⊥) → (e ≡ error.WriteFault → ⊥) → IfErr r (λ q. q ≡ error.NoMemory)
-sure setup told e r x z same c serves rf wf =
+pub sure : (setup : Setup) (told : List Piece) (left : Option (List Piece)) (e : Error) (r : Result HowEnded Error) (x z : Around) → r ≡ Err e → AreComplete setup told → Serves setup told left r x z → (e ≡ error.ReadFault → ⊥) → (e ≡ error.WriteFault → ⊥) → IfErr r (λ q. q ≡ error.NoMemory)
+sure setup told left e r x z same c serves rf wf =
     subst (λ (q : Result HowEnded Error). IfErr q (λ q. q ≡ error.NoMemory)) (sym same)
     (sure_by (session setup told).answer e (complete_ends setup told c).good (subst (λ (q : Result HowEnded Error). AnswersAs (session setup told).answer q) same serves.answer) rf wf)
 
 -- the same of any result
-pub sure_of : (setup : Setup) (told : List Piece) (r : Result HowEnded Error) (x z : Around) → AreComplete setup told → Serves setup told r x z → (IsErrOf r error.ReadFault → ⊥) → (IsErrOf r error.WriteFault → ⊥) → IfErr r (λ q. q ≡ error.NoMemory)
-sure_of setup told (Ok how) x z c serves rf wf = tt
-sure_of setup told (Err e) x z c serves rf wf = sure setup told e (Err e) x z refl c serves (λ q. rf (ap (λ (f : Error). Err f) q)) (λ q. wf (ap (λ (f : Error). Err f) q))
+pub sure_of : (setup : Setup) (told : List Piece) (left : Option (List Piece)) (r : Result HowEnded Error) (x z : Around) → AreComplete setup told → Serves setup told left r x z → (IsErrOf r error.ReadFault → ⊥) → (IsErrOf r error.WriteFault → ⊥) → IfErr r (λ q. q ≡ error.NoMemory)
+sure_of setup told left (Ok how) x z c serves rf wf = tt
+sure_of setup told left (Err e) x z c serves rf wf = sure setup told left e (Err e) x z refl c serves (λ q. rf (ap (λ (f : Error). Err f) q)) (λ q. wf (ap (λ (f : Error). Err f) q))
 
 -- an error of the source's end is that of the turn
 no_end_by : (e : Error) → IsSourceEnd (Err e) → IsAtEnd (Err e)

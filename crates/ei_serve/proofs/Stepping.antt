@@ -21,7 +21,7 @@ use Rattle.ei_types.specs.declared.error.Error.{Error}
 use Rattle.ei_types.specs.declared.error.Error.TheVariants as error
 use Rattle.ei_serve.specs.declared.phase.Phase.{Phase}
 use Rattle.ei_serve.specs.declared.phase.Step.{Step}
-use Rattle.ei_serve.specs.Around.{Around, around}
+use Rattle.ei_serve.specs.Around.{Around, around, no_source}
 use Rattle.ei_serve.specs.Steps.{Refuses, RefusesStep, IsTold, IsToldInPart, Goes, Breaks, TellsFinish, TellsFinishInPart, IsCutOff, ConnectsPhase, Steps}
 use Rattle.ei_serve.proofs.Going.{goes_none, gives_none as gave_none, replies_none, breaks_here, extends}
 
@@ -44,7 +44,7 @@ replied setup past m events e = replies_more setup past m ∙ ap (λ (x : List R
 
 module _ (setup : Setup) (past : List Raw) (m : Raw) (events : List Raw) (times : List ℕ) (out : List EisRequest) (readings : Option (List ℕ)) (old new : Option Piece) (i : item past m ≡ None) (r : reply setup past m ≡ events) where
   -- a message that gives nothing, and whose answer was told
-  pub goes_told : IsTold events old new → Goes setup past (m ∷ past) times [] (around None out old readings) (around None out new readings)
+  pub goes_told : IsTold events old new → Goes setup past (m ∷ past) times [] (around no_source out old readings) (around no_source out new readings)
   goes_told told = record {
     behind = (m ∷ [], refl);
     gives = gave_none setup past (m ∷ past) times out (λ given. framed_quiet setup given past m i);
@@ -55,7 +55,7 @@ module _ (setup : Setup) (past : List Raw) (m : Raw) (events : List Raw) (times 
   }
 
   -- or only in part
-  pub breaks_told : (rest after : List ℕ) → front rest ≡ Whole m after → judge setup past m ≡ Accepted → IsToldInPart events old new → Breaks setup past times rest (around None out old readings) (around None out new readings)
+  pub breaks_told : (rest after : List ℕ) → front rest ≡ Whole m after → judge setup past m ≡ Accepted → IsToldInPart events old new → Breaks setup past times rest (around no_source out old readings) (around no_source out new readings)
   breaks_told rest after w j told =
       let on = extends (judge setup) (m ∷ past) after in
       record {
@@ -69,7 +69,7 @@ module _ (setup : Setup) (past : List Raw) (m : Raw) (events : List Raw) (times 
       }
 
   -- the sink was cut off while it was told
-  pub cut_off : (rest after : List ℕ) (e : Error) → front rest ≡ Whole m after → judge setup past m ≡ Accepted → IsCutOff e → IsToldInPart events old new → RefusesStep setup past times rest e (around None out old readings) (around None out new readings)
+  pub cut_off : (rest after : List ℕ) (e : Error) → front rest ≡ Whole m after → judge setup past m ≡ Accepted → IsCutOff e → IsToldInPart events old new → RefusesStep setup past times rest e (around no_source out old readings) (around no_source out new readings)
   cut_off rest after error.WriteFault w j c told = breaks_told rest after w j told
   cut_off rest after error.NoMemory w j c told = breaks_told rest after w j told
   cut_off rest after e w j c told = absurd c
@@ -96,7 +96,7 @@ finish_reply : (setup : Setup) (past : List Raw) (m : Raw) → connected past �
 finish_reply setup past m e f = reply_finish setup past m (finish_is past m true e f)
 
 -- the finish is answered by its events
-pub goes_finish : (setup : Setup) (past : List Raw) (m : Raw) (times : List ℕ) (out : List EisRequest) (readings : Option (List ℕ)) (old new : Option Piece) → connected past ≡ false → is_finish m ≡ true → TellsFinish setup past old new → Goes setup past (m ∷ past) times [] (around None out old readings) (around None out new readings)
+pub goes_finish : (setup : Setup) (past : List Raw) (m : Raw) (times : List ℕ) (out : List EisRequest) (readings : Option (List ℕ)) (old new : Option Piece) → connected past ≡ false → is_finish m ≡ true → TellsFinish setup past old new → Goes setup past (m ∷ past) times [] (around no_source out old readings) (around no_source out new readings)
 goes_finish setup past m times out readings old new e f told = goes_told setup past m (finish_events setup past) times out readings old new (early_item past m e) (finish_reply setup past m e f) told
 
 -- ---- the answers of a step
@@ -104,7 +104,7 @@ goes_finish setup past m times out readings old new e f told = goes_told setup p
 pub steps_refused : (setup : Setup) (past : List Raw) (times rest : List ℕ) (handles : List Handle) (r : Result Step Error) (p : Phase) (e : Error) (x : Around) → r ≡ Err e → Refuses setup past rest e → Steps setup past times rest handles r p x x
 steps_refused setup past times rest handles r p e x same h = rw same (refused_step setup past times rest e x h)
 
-pub steps_cut_off : (setup : Setup) (past : List Raw) (times rest : List ℕ) (handles : List Handle) (r : Result Step Error) (p : Phase) (m : Raw) (after : List ℕ) (e : Error) (out : List EisRequest) (readings : Option (List ℕ)) (old new : Option Piece) → r ≡ Err e → connected past ≡ false → front rest ≡ Whole m after → judge setup past m ≡ Accepted → is_finish m ≡ true → IsCutOff e × TellsFinishInPart setup past old new → Steps setup past times rest handles r p (around None out old readings) (around None out new readings)
+pub steps_cut_off : (setup : Setup) (past : List Raw) (times rest : List ℕ) (handles : List Handle) (r : Result Step Error) (p : Phase) (m : Raw) (after : List ℕ) (e : Error) (out : List EisRequest) (readings : Option (List ℕ)) (old new : Option Piece) → r ≡ Err e → connected past ≡ false → front rest ≡ Whole m after → judge setup past m ≡ Accepted → is_finish m ≡ true → IsCutOff e × TellsFinishInPart setup past old new → Steps setup past times rest handles r p (around no_source out old readings) (around no_source out new readings)
 steps_cut_off setup past times rest handles r p m after e out readings old new same u w j f c =
     rw same (cut_off setup past m (finish_events setup past) times out readings old new (early_item past m u) (finish_reply setup past m u f) rest after e w j c.0 c.1)
 

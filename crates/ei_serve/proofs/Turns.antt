@@ -25,9 +25,11 @@ use Rattle.ei_serve.specs.declared.state.SessionState.{SessionState}
 use Rattle.ei_serve.specs.declared.session.Turn.{Turn}
 use Rattle.ei_serve.specs.declared.session.Turn.TheVariants as turn
 use Rattle.ei_serve.specs.Standing.{Stands, StandsAt, setup_of}
-use Rattle.ei_serve.specs.Around.{Around, around}
+use Rattle.ei_serve.specs.Around.{Around, around, no_source}
 use Rattle.ei_serve.specs.Steps.{Goes, GoesInPart, Breaks}
-use Rattle.ei_serve.specs.Taking.{Hands, HasNone, with_next, ReadsPhase, Holds, TakesPiece, piece_came}
+use Rattle.ei_backend.specs.Outside.{SourceView}
+use Rattle.ei_backend.specs.Incoming.{Hands, HasNone}
+use Rattle.ei_serve.specs.Taking.{with_next, ReadsPhase, Holds, TakesPiece, piece_came}
 use Rattle.ei_serve.specs.Refusing.{refusal_of}
 use Rattle.ei_serve.specs.Turning.{HandlesOn, HandlesTo, HandlesToRefusal, HandlesAll, Closes, ClosesRefused, GoesOn, BreaksOff, Turns, IsAtEnd}
 use Rattle.ei_serve.specs.Turning.{at_end as ended_by, goes_on as going_on}
@@ -36,13 +38,13 @@ use Rattle.ei_serve.proofs.Histories.{count_more, reading_more, goes_on_more, go
 
 -- ---- taking a piece
 
-module _ (setup : Setup) (pieces : List Piece) (times : List ℕ) (s : SessionState) (stands : Stands setup pieces times s) (left_old left_new : Option (List Piece)) (p : Phase) where
+module _ (setup : Setup) (pieces : List Piece) (times : List ℕ) (s : SessionState) (stands : Stands setup pieces times s) (source_old source_new : SourceView) (p : Phase) where
   -- what is unread after the piece
   unread_more : (piece : Piece) → length (stands.unread ++ piece.handles) ≡ handle_count (with_next pieces piece)
   unread_more piece = length-append stands.unread piece.handles ∙ ap (λ (n : ℕ). n + length piece.handles) stands.handles ∙ sym (count_more pieces piece)
 
-  pub holds : (n taken : ℕ) (t : SessionState) → ReadsPhase setup (accepted setup (stream pieces)) times (reading_of setup (stream pieces)).rest stands.unread (Ok n) p left_old left_new → s.taken < s.start.setup.pieces → t.start.setup ≡ s.start.setup → t.phase ≡ p → t.taken ≡ s.taken + 1 →
-      (piece : Piece) × Hands left_old piece left_new × Holds setup pieces times piece t
+  pub holds : (n taken : ℕ) (t : SessionState) → ReadsPhase setup (accepted setup (stream pieces)) times (reading_of setup (stream pieces)).rest stands.unread (Ok n) p source_old source_new → s.taken < s.start.setup.pieces → t.start.setup ≡ s.start.setup → t.phase ≡ p → t.taken ≡ s.taken + 1 →
+      (piece : Piece) × Hands source_old piece source_new × Holds setup pieces times piece t
   holds n taken t r less same_setup same_phase same_taken =
       let piece = r.0 in
       let count = unread_more piece in (
@@ -62,20 +64,20 @@ module _ (setup : Setup) (pieces : List Piece) (times : List ℕ) (s : SessionSt
   full : s.start.setup.pieces ≤ s.taken → setup.pieces ≤ length pieces
   full h = omega (arith, h, stands.taken, ap (λ (x : Setup). x.pieces) stands.started)
 
-  pub at_limit : (n : ℕ) → ReadsPhase setup (accepted setup (stream pieces)) times (reading_of setup (stream pieces)).rest stands.unread (Ok n) p left_old left_new → s.start.setup.pieces ≤ s.taken →
-      (piece : Piece) × Hands left_old piece left_new × (setup.pieces ≤ length pieces)
+  pub at_limit : (n : ℕ) → ReadsPhase setup (accepted setup (stream pieces)) times (reading_of setup (stream pieces)).rest stands.unread (Ok n) p source_old source_new → s.start.setup.pieces ≤ s.taken →
+      (piece : Piece) × Hands source_old piece source_new × (setup.pieces ≤ length pieces)
   at_limit n r h = (r.0, r.1, full h)
 
-  pub at_limit_too : ReadsPhase setup (accepted setup (stream pieces)) times (reading_of setup (stream pieces)).rest stands.unread (Err read_error.HandleLimit) p left_old left_new → s.start.setup.pieces ≤ s.taken →
-      (piece : Piece) × Hands left_old piece left_new × (setup.pieces ≤ length pieces)
+  pub at_limit_too : ReadsPhase setup (accepted setup (stream pieces)) times (reading_of setup (stream pieces)).rest stands.unread (Err read_error.HandleLimit) p source_old source_new → s.start.setup.pieces ≤ s.taken →
+      (piece : Piece) × Hands source_old piece source_new × (setup.pieces ≤ length pieces)
   at_limit_too r h = (r.0, r.1, full h)
 
-  pub overflows : ReadsPhase setup (accepted setup (stream pieces)) times (reading_of setup (stream pieces)).rest stands.unread (Err read_error.HandleLimit) p left_old left_new → s.taken < s.start.setup.pieces →
-      (piece : Piece) × Hands left_old piece left_new × (length pieces < setup.pieces) × (4096 < handle_count (with_next pieces piece))
+  pub overflows : ReadsPhase setup (accepted setup (stream pieces)) times (reading_of setup (stream pieces)).rest stands.unread (Err read_error.HandleLimit) p source_old source_new → s.taken < s.start.setup.pieces →
+      (piece : Piece) × Hands source_old piece source_new × (length pieces < setup.pieces) × (4096 < handle_count (with_next pieces piece))
   overflows r less = (r.0, r.1, omega (arith, less, stands.taken, ap (λ (x : Setup). x.pieces) stands.started), omega (arith, unread_more r.0, r.2.limit, length-append stands.unread r.0.handles))
 
-  pub ends : (t : SessionState) → ReadsPhase setup (accepted setup (stream pieces)) times (reading_of setup (stream pieces)).rest stands.unread (Err read_error.UnexpectedEof) p left_old left_new → t.start.setup ≡ s.start.setup → t.phase ≡ p → t.taken ≡ s.taken →
-      HasNone left_old left_new × Stands setup pieces times t
+  pub ends : (t : SessionState) → ReadsPhase setup (accepted setup (stream pieces)) times (reading_of setup (stream pieces)).rest stands.unread (Err read_error.UnexpectedEof) p source_old source_new → t.start.setup ≡ s.start.setup → t.phase ≡ p → t.taken ≡ s.taken →
+      HasNone source_old source_new × Stands setup pieces times t
   ends t r same_setup same_phase same_taken = (
     r.0,
     record {
@@ -92,9 +94,9 @@ module _ (setup : Setup) (pieces : List Piece) (times : List ℕ) (s : SessionSt
   -- ---- by what was read
 
   abbrev Reads : Result ℕ ReadError → Type 0
-  Reads read = ReadsPhase setup (accepted setup (stream pieces)) times (reading_of setup (stream pieces)).rest stands.unread read p left_old left_new
+  Reads read = ReadsPhase setup (accepted setup (stream pieces)) times (reading_of setup (stream pieces)).rest stands.unread read p source_old source_new
 
-  err_takes_by : (full : Bool) (read : Result ℕ ReadError) (e : Error) (t : SessionState) → nat_le s.start.setup.pieces s.taken ≡ full → Reads read → piece_came full read ≡ Err e → TakesPiece setup pieces times s (Err e) t left_old left_new
+  err_takes_by : (full : Bool) (read : Result ℕ ReadError) (e : Error) (t : SessionState) → nat_le s.start.setup.pieces s.taken ≡ full → Reads read → piece_came full read ≡ Err e → TakesPiece setup pieces times s (Err e) t source_old source_new
   err_takes_by true (Ok n) e t f r c = let same : error.PieceLimit ≡ e = cc in rw (← same) (at_limit n r (leb-true _ _ f))
   err_takes_by false (Ok n) e t f r c = absurd cc
   err_takes_by true (Err read_error.HandleLimit) e t f r c = let same : error.PieceLimit ≡ e = cc in rw (← same) (at_limit_too r (leb-true _ _ f))
@@ -106,10 +108,10 @@ module _ (setup : Setup) (pieces : List Piece) (times : List ℕ) (s : SessionSt
   err_takes_by true (Err read_error.NoMemory) e t f r c = let same : error.NoMemory ≡ e = cc in rw (← same) r
   err_takes_by false (Err read_error.NoMemory) e t f r c = let same : error.NoMemory ≡ e = cc in rw (← same) r
 
-  pub err_takes : (full : Bool) (read : Result ℕ ReadError) (e : Error) (r : Result Bool Error) (t : SessionState) → full ≡ nat_le s.start.setup.pieces s.taken → Reads read → Err e ≡ piece_came full read → r ≡ Err e → TakesPiece setup pieces times s r t left_old left_new
+  pub err_takes : (full : Bool) (read : Result ℕ ReadError) (e : Error) (r : Result Bool Error) (t : SessionState) → full ≡ nat_le s.start.setup.pieces s.taken → Reads read → Err e ≡ piece_came full read → r ≡ Err e → TakesPiece setup pieces times s r t source_old source_new
   err_takes full read e r t f h c same = rw same (err_takes_by full read e t (sym f) h (sym c))
 
-  none_takes_by : (full : Bool) (read : Result ℕ ReadError) (t : SessionState) → Reads read → piece_came full read ≡ Ok false → t.start.setup ≡ s.start.setup → t.phase ≡ p → t.taken ≡ s.taken → HasNone left_old left_new × Stands setup pieces times t
+  none_takes_by : (full : Bool) (read : Result ℕ ReadError) (t : SessionState) → Reads read → piece_came full read ≡ Ok false → t.start.setup ≡ s.start.setup → t.phase ≡ p → t.taken ≡ s.taken → HasNone source_old source_new × Stands setup pieces times t
   none_takes_by true (Ok n) t r c a b d = absurd cc
   none_takes_by false (Ok n) t r c a b d = let g : true ≡ false = cc in absurd cc
   none_takes_by true (Err read_error.HandleLimit) t r c a b d = absurd cc
@@ -121,10 +123,10 @@ module _ (setup : Setup) (pieces : List Piece) (times : List ℕ) (s : SessionSt
   none_takes_by true (Err read_error.NoMemory) t r c a b d = absurd cc
   none_takes_by false (Err read_error.NoMemory) t r c a b d = absurd cc
 
-  pub none_takes : (full : Bool) (read : Result ℕ ReadError) (came : Bool) (t : SessionState) → Reads read → Ok came ≡ piece_came full read → came ≡ false → t.start.setup ≡ s.start.setup → t.phase ≡ p → t.taken ≡ s.taken → HasNone left_old left_new × Stands setup pieces times t
+  pub none_takes : (full : Bool) (read : Result ℕ ReadError) (came : Bool) (t : SessionState) → Reads read → Ok came ≡ piece_came full read → came ≡ false → t.start.setup ≡ s.start.setup → t.phase ≡ p → t.taken ≡ s.taken → HasNone source_old source_new × Stands setup pieces times t
   none_takes full read came t r c no_piece a b d = none_takes_by full read t r (sym c ∙ ap (λ (x : Bool). Ok x) no_piece) a b d
 
-  some_takes_by : (full : Bool) (read : Result ℕ ReadError) (t : SessionState) → nat_le s.start.setup.pieces s.taken ≡ full → Reads read → piece_came full read ≡ Ok true → t.start.setup ≡ s.start.setup → t.phase ≡ p → t.taken ≡ s.taken + 1 → (piece : Piece) × Hands left_old piece left_new × Holds setup pieces times piece t
+  some_takes_by : (full : Bool) (read : Result ℕ ReadError) (t : SessionState) → nat_le s.start.setup.pieces s.taken ≡ full → Reads read → piece_came full read ≡ Ok true → t.start.setup ≡ s.start.setup → t.phase ≡ p → t.taken ≡ s.taken + 1 → (piece : Piece) × Hands source_old piece source_new × Holds setup pieces times piece t
   some_takes_by true (Ok n) t f r c a b d = absurd cc
   some_takes_by false (Ok n) t f r c a b d = holds n n t r (leb-false _ _ f) a b d
   some_takes_by true (Err read_error.HandleLimit) t f r c a b d = absurd cc
@@ -145,7 +147,7 @@ module _ (setup : Setup) (pieces : List Piece) (times : List ℕ) (s : SessionSt
   room_left true (Err read_error.ReadFault) f c = absurd cc
   room_left true (Err read_error.NoMemory) f c = absurd cc
 
-  pub some_takes : (full : Bool) (read : Result ℕ ReadError) (came : Bool) (t : SessionState) → full ≡ nat_le s.start.setup.pieces s.taken → s.start.setup.pieces < 2 ^ 32 → Reads read → Ok came ≡ piece_came full read → came ≡ true → t.start.setup ≡ s.start.setup → t.phase ≡ p → t.taken ≡ min (s.taken + 1) (2 ^ 32 - 1) → (piece : Piece) × Hands left_old piece left_new × Holds setup pieces times piece t
+  pub some_takes : (full : Bool) (read : Result ℕ ReadError) (came : Bool) (t : SessionState) → full ≡ nat_le s.start.setup.pieces s.taken → s.start.setup.pieces < 2 ^ 32 → Reads read → Ok came ≡ piece_came full read → came ≡ true → t.start.setup ≡ s.start.setup → t.phase ≡ p → t.taken ≡ min (s.taken + 1) (2 ^ 32 - 1) → (piece : Piece) × Hands source_old piece source_new × Holds setup pieces times piece t
   some_takes full read came t f small r c some a b d =
       let g : piece_came full read ≡ Ok true = sym c ∙ ap (λ (x : Bool). Ok x) some in
       let less = room_left full read (sym f) g in
@@ -153,15 +155,15 @@ module _ (setup : Setup) (pieces : List Piece) (times : List ℕ) (s : SessionSt
 
 -- ---- the answers that come before the piece is looked at
 
-module _ (setup : Setup) (pieces : List Piece) (times : List ℕ) (left_old left_new : Option (List Piece)) (out : List EisRequest) (took : Option Piece) (readings : Option (List ℕ)) where
+module _ (setup : Setup) (pieces : List Piece) (times : List ℕ) (source_old source_new : SourceView) (out : List EisRequest) (took : Option Piece) (readings : Option (List ℕ)) where
   abbrev Turned : Result Turn Error → SessionState → Type 0
-  Turned r u = Turns setup pieces times r u (around left_old out took readings) (around left_new out took readings)
+  Turned r u = Turns setup pieces times r u (around source_old out took readings) (around source_new out took readings)
 
   -- nothing was given or answered
-  nothing : Goes setup (accepted setup (stream pieces)) (accepted setup (stream pieces)) times [] (around left_old out took readings) (around left_new out took readings)
-  nothing = goes_beside setup (accepted setup (stream pieces)) (accepted setup (stream pieces)) times [] (around None out took readings) (around None out took readings) left_old left_new (goes_none setup (accepted setup (stream pieces)) times (around None out took readings))
+  nothing : Goes setup (accepted setup (stream pieces)) (accepted setup (stream pieces)) times [] (around source_old out took readings) (around source_new out took readings)
+  nothing = goes_beside setup (accepted setup (stream pieces)) (accepted setup (stream pieces)) times [] (around no_source out took readings) (around no_source out took readings) source_old source_new (goes_none setup (accepted setup (stream pieces)) times (around no_source out took readings))
 
-  refused : (s t u : SessionState) (e : Error) → Stands setup pieces times s → TakesPiece setup pieces times s (Err e) t left_old left_new → Turned (Err e) u
+  refused : (s t u : SessionState) (e : Error) → Stands setup pieces times s → TakesPiece setup pieces times s (Err e) t source_old source_new → Turned (Err e) u
   refused s t u error.PieceLimit stands h =
       let is = too_many_pieces setup pieces h.0 stands.goes_on h.2 in
       record { piece = h.0; used = []; hands = h.1; answer_is = ap (λ (o : Outcome). o.answer) is; goes = rw is nothing }
@@ -172,10 +174,10 @@ module _ (setup : Setup) (pieces : List Piece) (times : List ℕ) (left_old left
   refused s t u error.NoMemory stands h = inl (record { keeps = h; out = refl; took = refl; readings = refl })
   refused s t u e stands h = absurd h
 
-  pub refused_as : (s t u : SessionState) (e : Error) (r : Result Turn Error) → r ≡ Err e → Stands setup pieces times s → TakesPiece setup pieces times s (Err e) t left_old left_new → Turned r u
+  pub refused_as : (s t u : SessionState) (e : Error) (r : Result Turn Error) → r ≡ Err e → Stands setup pieces times s → TakesPiece setup pieces times s (Err e) t source_old source_new → Turned r u
   refused_as s t u e r same stands h = rw same (refused s t u e stands h)
 
-  end_of : (t : SessionState) (b : Bool) → Stands setup pieces times t → connected (accepted setup (stream pieces)) ≡ b → HasNone left_old left_new → Turned (ended_by b) t
+  end_of : (t : SessionState) (b : Bool) → Stands setup pieces times t → connected (accepted setup (stream pieces)) ≡ b → HasNone source_old source_new → Turned (ended_by b) t
   end_of t true stands c none =
       let is = going setup pieces stands.goes_on in
       record { none = none; answer_is = ap (λ (o : Outcome). o.answer) is ∙ ap (λ (x : Bool). cond x End UnexpectedEof) c; goes = rw is nothing }
@@ -183,12 +185,12 @@ module _ (setup : Setup) (pieces : List Piece) (times : List ℕ) (left_old left
       let is = going setup pieces stands.goes_on in
       record { none = none; answer_is = ap (λ (o : Outcome). o.answer) is ∙ ap (λ (x : Bool). cond x End UnexpectedEof) c; goes = rw is nothing }
 
-  pub found_end : (t : SessionState) (b : Bool) (r : Result Turn Error) → r ≡ ended_by b → b ≡ connected (accepted setup (stream pieces)) → HasNone left_old left_new × Stands setup pieces times t → Turned r t
+  pub found_end : (t : SessionState) (b : Bool) (r : Result Turn Error) → r ≡ ended_by b → b ≡ connected (accepted setup (stream pieces)) → HasNone source_old source_new × Stands setup pieces times t → Turned r t
   found_end t b r same c h = rw same (end_of t b h.1 (sym c) h.0)
 
 -- ---- the piece is looked at
 
-module _ (setup : Setup) (pieces : List Piece) (times : List ℕ) (s t u : SessionState) (piece : Piece) (stands : Stands setup pieces times s) (holds_it : Holds setup pieces times piece t) (left_old left_new : Option (List Piece)) (hands : Hands left_old piece left_new) (x y : Around) where
+module _ (setup : Setup) (pieces : List Piece) (times : List ℕ) (s t u : SessionState) (piece : Piece) (stands : Stands setup pieces times s) (holds_it : Holds setup pieces times piece t) (source_old source_new : SourceView) (hands : Hands source_old piece source_new) (x y : Around) where
   abbrev before : List Raw
   before = accepted setup (stream pieces)
 
@@ -197,10 +199,10 @@ module _ (setup : Setup) (pieces : List Piece) (times : List ℕ) (s t u : Sessi
 
   -- what stands around it, with what the source has left
   abbrev start : Around
-  start = record x { left = left_old }
+  start = record x { source = source_old }
 
   abbrev finish : Around
-  finish = record y { left = left_new }
+  finish = record y { source = source_new }
 
   same : reading_of setup (stream (with_next pieces piece)) ≡ read (judge setup) before unread
   same = reading_more setup pieces piece stands.waits
@@ -211,7 +213,7 @@ module _ (setup : Setup) (pieces : List Piece) (times : List ℕ) (s t u : Sessi
       let at : answer_at now ≡ answer = ap (λ (r : Reading Cause). answer_at r) same ∙ h.answer_is in
       let is = stopped setup pieces piece stands.goes_on holds_it.room holds_it.few (not_waiting now.stop now.past answer at s) in
       let handled : (session setup (with_next pieces piece)).handled ≡ (read (judge setup) before unread).past = ap (λ (o : Outcome). o.handled) is ∙ ap (λ (r : Reading Cause). r.past) same in
-      let goes = goes_beside setup before (read (judge setup) before unread).past times h.used x y left_old left_new h.goes in
+      let goes = goes_beside setup before (read (judge setup) before unread).past times h.used x y source_old source_new h.goes in
       record { piece = piece; used = h.used; hands = hands; answer_is = ap (λ (o : Outcome). o.answer) is ∙ at; goes = rw handled goes }
 
   closes_refused : (refusal : Option Cause) → HandlesToRefusal setup before times unread refusal x y → ClosesRefused setup pieces times refusal start finish
@@ -230,12 +232,12 @@ module _ (setup : Setup) (pieces : List Piece) (times : List ℕ) (s t u : Sessi
         handles = holds_it.handles;
         taken = same_taken ∙ holds_it.taken ∙ sym (length-append pieces (piece ∷ []));
       } in
-      let goes = goes_beside setup before (read (judge setup) before unread).past times h.used x y left_old left_new h.goes in
+      let goes = goes_beside setup before (read (judge setup) before unread).past times h.used x y source_old source_new h.goes in
       record { piece = piece; used = h.used; hands = hands; stands = made; goes = subst (λ (r : Reading Cause). Goes setup before r.past times h.used start finish) (sym same) goes }
 
   breaks : Breaks setup before times unread x y → BreaksOff setup pieces times start finish
   breaks g =
-      let goes = breaks_beside setup before (read (judge setup) before unread).past times x y left_old left_new g in
+      let goes = breaks_beside setup before (read (judge setup) before unread).past times x y source_old source_new g in
       record { piece = piece; hands = hands; room = holds_it.room; few = holds_it.few; goes = subst (λ (r : Reading Cause). GoesInPart setup before r.past times start finish) (sym same) goes }
 
   pub handled : (r : Result Turn Error) → u.start.setup ≡ t.start.setup → u.taken ≡ t.taken → HandlesAll setup before times unread holds_it.unread r u.phase x y → Turns setup pieces times r u start finish

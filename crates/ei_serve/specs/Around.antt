@@ -1,18 +1,23 @@
 -- What stands around a session: its source, the requests that it handed out, its sink and its clock.
-use Rattle.std.specs.Prelude.{◌≡◌, ℕ, zero, suc, List, [], ◌∷◌, length, drop, Option, Some}
+use Rattle.std.specs.Prelude.{◌≡◌, ℕ, zero, suc, List, [], ◌∷◌, length, drop, Option, Some, None}
 use Rattle.ei_spec.specs.Piece.{Piece}
+use Rattle.ei_backend.specs.Outside.{SourceView}
 use Rattle.ei_request.specs.declared.event.EisRequest.{EisRequest}
 
--- The pieces that the source has left, what the sink took, and the readings that the clock has left, each where it is told; and
--- the requests that were handed out.
+-- What the source says of its pieces; what the sink took, and the readings that the clock has left, each where it is told; and the
+-- requests that were handed out.
 pub record Around : Type 0 where
-  pub left : Option (List Piece)
+  pub source : SourceView
   pub out : List EisRequest
   pub took : Option Piece
   pub readings : Option (List ℕ)
 
-abbrev pub around : Option (List Piece) → List EisRequest → Option Piece → Option (List ℕ) → Around
-around left out took readings = record { left = left; out = out; took = took; readings = readings }
+abbrev pub around : SourceView → List EisRequest → Option Piece → Option (List ℕ) → Around
+around source out took readings = record { source = source; out = out; took = took; readings = readings }
+
+-- the source, where a call has none
+abbrev pub no_source : SourceView
+no_source = record { left = None; given = [] }
 
 -- the first n readings, with 0 past their end
 abbrev pub first_readings : ℕ → List ℕ → List ℕ

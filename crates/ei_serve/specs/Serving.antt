@@ -1,12 +1,12 @@
 -- What a whole session answers, gives and replies.
-use Rattle.std.specs.Prelude.{◌≡◌, ◌≤◌, ◌<◌, ℕ, ◌-◌, true, false, List, [], ◌++◌, take, drop, length, map, Option, Some, None, IsSome, Result, Ok, Err}
+use Rattle.std.specs.Prelude.{◌≡◌, ◌≤◌, ◌<◌, ◌⊎◌, ℕ, ◌-◌, true, false, List, [], ◌++◌, take, drop, length, map, Option, Some, None, IsSome, Result, Ok, Err}
 use Rattle.ei_spec.specs.Message.{Raw, all_bytes}
 use Rattle.ei_spec.specs.Piece.{Piece, stream}
 use Rattle.ei_session.specs.Setup.{Setup}
 use Rattle.ei_session.specs.Requests.{slot, framed}
 use Rattle.ei_session.specs.Events.{replies}
 use Rattle.ei_session.specs.Served.{Answer, Disconnect, End, UnexpectedEof, IdsExhausted, PieceLimit, HandleLimit, is_over, accepted, session, IsValid}
-use Rattle.ei_backend.specs.Outside.{with_more}
+use Rattle.ei_backend.specs.Outside.{SourceView, source_view, with_more}
 use Rattle.ei_spec.specs.History.{each}
 use Rattle.ei_spec.specs.Groups.{frames_made}
 use Rattle.ei_standing.specs.Standing.{request_in_code}
@@ -60,6 +60,37 @@ abbrev pub IsSourceEnd : Result HowEnded Error → Type 0
 IsSourceEnd (Ok ended.End) = Unit {0}
 IsSourceEnd (Err error.UnexpectedEof) = Unit {0}
 IsSourceEnd r = ⊥
+
+-- ---- the pieces of a source
+
+-- the source told these pieces, and has those left
+pub record AreTold (before after : SourceView) (told : List Piece) (left : Option (List Piece)) : Type 0 where
+  pub told_is : before.left ≡ Some told
+  pub left_is : left ≡ after.left
+
+-- The source gave the first of these pieces, whatever it tells, and the others are left: any, but none where it came to its end.
+pub record BeginAsGiven (before after : SourceView) (ended : Type 0) (told : List Piece) (left : Option (List Piece)) : Type 0 where
+  pub came : List Piece
+  pub more : List Piece
+  pub gave : after.given ≡ before.given ++ came
+  pub told_is : told ≡ came ++ more
+  pub left_is : left ≡ Some more
+  pub ends : ended → more ≡ []
+
+-- the pieces of a session over the source, and those left
+abbrev pub ArePieces : SourceView → SourceView → Type 0 → List Piece → Option (List Piece) → Type 0
+ArePieces before after ended told left = AreTold before after told left ⊎ BeginAsGiven before after ended told left
+
+-- what is so of them, told or given
+abbrev pub ForPieces : {S : Type 0} → (S → Option (List Piece)) → (S → List Piece) → Type 0 → S → S → (List Piece → Option (List Piece) → Type 0) → Type 0
+ForPieces left given ended old new P =
+    (told : List Piece) (rest : Option (List Piece)) → ArePieces (source_view left given old) (source_view left given new) ended told rest → P told rest
+
+-- the source gave some pieces more; of those that it told they are the first, and the others are left
+pub record GavePieces (before after : SourceView) : Type 0 where
+  pub came : List Piece
+  pub gave : after.given ≡ before.given ++ came
+  pub told : (told : List Piece) → before.left ≡ Some told → (rest : List Piece) × (after.left ≡ Some rest) × (told ≡ came ++ rest)
 
 -- of the pieces told, so many were taken
 pub record TookPieces (told : List Piece) (left : Option (List Piece)) (k : ℕ) : Type 0 where

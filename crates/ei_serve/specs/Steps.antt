@@ -39,7 +39,7 @@ use Rattle.ei_serve.specs.declared.phase.Rejected.{Rejected}
 use Rattle.ei_serve.specs.declared.phase.Step.{Step}
 use Rattle.ei_serve.specs.declared.phase.Step.TheVariants as step
 use Rattle.ei_serve.specs.Refusing.{refusal_of}
-use Rattle.ei_serve.specs.Around.{Around, around, AreDrawn, LeavesReadings}
+use Rattle.ei_serve.specs.Around.{Around, around, no_source, AreDrawn, LeavesReadings}
 use Rattle.ei_serve.specs.Standing.{StandsAt, ShakesHands, IsConnected, most_capacity, quiet, connection_object, connection_table}
 
 -- ---- what a session gives and answers
@@ -222,4 +222,4 @@ Steps setup past times rest handles (Err e) p old new = RefusesStep setup past t
 -- the same during the handshake: nothing is handed out and no reading is taken, whatever was handed out and is left to read
 abbrev pub StepsInHandshake : Setup → List Raw → List ℕ → List ℕ → List Handle → Result Step Error → Phase → Option Piece → Option Piece → Type 0
 StepsInHandshake setup past times rest handles r p old new = (out : List EisRequest) (readings : Option (List ℕ)) →
-    Steps setup past times rest handles r p (around None out old readings) (around None out new readings)
+    Steps setup past times rest handles r p (around no_source out old readings) (around no_source out new readings)

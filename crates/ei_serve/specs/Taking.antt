@@ -1,11 +1,12 @@
--- What a source hands a session, and what reading it does.
-use Rattle.std.specs.Prelude.{◌≡◌, ◌≤◌, ◌<◌, ℕ, ◌+◌, Bool, true, false, List, [], ◌∷◌, ◌++◌, length, Option, Some, Result, Ok, Err}
+-- What reading a piece does to a session.
+use Rattle.std.specs.Prelude.{◌≡◌, ◌≤◌, ◌<◌, ℕ, ◌+◌, Bool, true, false, List, [], ◌∷◌, ◌++◌, length, Result, Ok, Err}
 use Rattle.ei_spec.specs.declared.handle.Handle.{Handle}
 use Rattle.ei_spec.specs.Message.{Raw}
 use Rattle.ei_spec.specs.Piece.{Piece, stream, handle_count}
 use Rattle.ei_session.specs.Setup.{Setup}
 use Rattle.ei_session.specs.Served.{reading_of, accepted}
-use Rattle.ei_backend.specs.Incoming.{IsFirst, Fits, Overflows}
+use Rattle.ei_backend.specs.Outside.{SourceView}
+use Rattle.ei_backend.specs.Incoming.{Hands, HasNone, Keeps, Fits, Overflows}
 use Rattle.ei_types.specs.Errors.{error_of_read}
 use Rattle.ei_types.specs.declared.error.Error.{Error}
 use Rattle.ei_types.specs.declared.error.Error.TheVariants as error
@@ -16,20 +17,8 @@ use Rattle.ei_serve.specs.declared.state.SessionState.{SessionState}
 use Rattle.ei_serve.specs.Standing.{Stands, StandsAt, setup_of}
 use Rattle.ei_spec.specs.declared.limits.TheConstants.{MOST_UNREAD_HANDLES}
 
--- a source that told its pieces handed out the first
-abbrev pub Hands : Option (List Piece) → Piece → Option (List Piece) → Type 0
-Hands old piece new = (pieces : List Piece) → old ≡ Some pieces → IsFirst pieces new piece
-
--- or had none left
-abbrev pub HasNone : Option (List Piece) → Option (List Piece) → Type 0
-HasNone old new = (pieces : List Piece) → old ≡ Some pieces → (pieces ≡ []) × (new ≡ Some [])
-
--- or keeps what it had
-abbrev pub Keeps : Option (List Piece) → Option (List Piece) → Type 0
-Keeps old new = (pieces : List Piece) → old ≡ Some pieces → new ≡ Some pieces
-
 -- what reading a piece does to a phase
-abbrev pub ReadsPhase : Setup → List Raw → List ℕ → List ℕ → List Handle → Result ℕ ReadError → Phase → Option (List Piece) → Option (List Piece) → Type 0
+abbrev pub ReadsPhase : Setup → List Raw → List ℕ → List ℕ → List Handle → Result ℕ ReadError → Phase → SourceView → SourceView → Type 0
 ReadsPhase setup past times rest handles (Ok n) p old new = (piece : Piece) × Hands old piece new × Fits n handles piece × StandsAt setup past times (rest ++ piece.bytes) (handles ++ piece.handles) p
 ReadsPhase setup past times rest handles (Err read_error.HandleLimit) p old new = (piece : Piece) × Hands old piece new × Overflows handles piece
 ReadsPhase setup past times rest handles (Err read_error.UnexpectedEof) p old new = HasNone old new × StandsAt setup past times rest handles p
@@ -59,7 +48,7 @@ piece_came full (Err read_error.UnexpectedEof) = Ok false
 piece_came full (Err e) = Err (error_of_read e)
 
 -- what taking a piece answers
-abbrev pub TakesPiece : Setup → List Piece → List ℕ → SessionState → Result Bool Error → SessionState → Option (List Piece) → Option (List Piece) → Type 0
+abbrev pub TakesPiece : Setup → List Piece → List ℕ → SessionState → Result Bool Error → SessionState → SourceView → SourceView → Type 0
 TakesPiece setup pieces times s (Ok true) t old new = (piece : Piece) × Hands old piece new × Holds setup pieces times piece t
 TakesPiece setup pieces times s (Ok false) t old new = HasNone old new × Stands setup pieces times t
 TakesPiece setup pieces times s (Err error.PieceLimit) t old new = (piece : Piece) × Hands old piece new × (setup.pieces ≤ length pieces)

@@ -17,7 +17,8 @@ use Rattle.ei_serve.specs.Refusing.{refusal_of}
 use Rattle.ei_serve.specs.Around.{Around}
 use Rattle.ei_serve.specs.Standing.{Stands, StandsAt}
 use Rattle.ei_serve.specs.Steps.{Goes, GoesInPart, Breaks}
-use Rattle.ei_serve.specs.Taking.{Hands, HasNone, Keeps, with_next}
+use Rattle.ei_backend.specs.Incoming.{Hands, HasNone, Keeps}
+use Rattle.ei_serve.specs.Taking.{with_next}
 use Rattle.ei_spec.specs.declared.limits.TheConstants.{MOST_UNREAD_HANDLES}
 
 -- ---- the messages that are whole
@@ -64,7 +65,7 @@ HandlesAll setup past times rest handles (Err e) p old new = RefusesAll setup pa
 pub record Closes (setup : Setup) (pieces : List Piece) (times : List ℕ) (answer : Answer) (old new : Around) : Type 0 where
   pub piece : Piece
   pub used : List ℕ
-  pub hands : Hands old.left piece new.left
+  pub hands : Hands old.source piece new.source
   pub answer_is : (session setup (with_next pieces piece)).answer ≡ answer
   pub goes : Goes setup (accepted setup (stream pieces)) (session setup (with_next pieces piece)).handled times used old new
 
@@ -75,7 +76,7 @@ ClosesRefused setup pieces times (Some refusal) old new = Closes setup pieces ti
 
 -- the session is over where the source ended
 pub record Finds (setup : Setup) (pieces : List Piece) (times : List ℕ) (answer : Answer) (old new : Around) : Type 0 where
-  pub none : HasNone old.left new.left
+  pub none : HasNone old.source new.source
   pub answer_is : (session setup pieces).answer ≡ answer
   pub goes : Goes setup (accepted setup (stream pieces)) (session setup pieces).handled times [] old new
 
@@ -83,13 +84,13 @@ pub record Finds (setup : Setup) (pieces : List Piece) (times : List ℕ) (answe
 pub record GoesOn (setup : Setup) (pieces : List Piece) (times : List ℕ) (t : SessionState) (old new : Around) : Type 0 where
   pub piece : Piece
   pub used : List ℕ
-  pub hands : Hands old.left piece new.left
+  pub hands : Hands old.source piece new.source
   pub stands : Stands setup (with_next pieces piece) (times ++ used) t
   pub goes : Goes setup (accepted setup (stream pieces)) (accepted setup (stream (with_next pieces piece))) times used old new
 
 -- no piece came, and nothing was given or answered
 pub record Stays (old new : Around) : Type 0 where
-  pub keeps : Keeps old.left new.left
+  pub keeps : Keeps old.source new.source
   pub out : new.out ≡ old.out
   pub took : new.took ≡ old.took
   pub readings : new.readings ≡ old.readings
@@ -97,7 +98,7 @@ pub record Stays (old new : Around) : Type 0 where
 -- one more piece came, and handling its messages broke off
 pub record BreaksOff (setup : Setup) (pieces : List Piece) (times : List ℕ) (old new : Around) : Type 0 where
   pub piece : Piece
-  pub hands : Hands old.left piece new.left
+  pub hands : Hands old.source piece new.source
   pub room : length pieces < setup.pieces
   pub few : handle_count (with_next pieces piece) ≤ MOST_UNREAD_HANDLES
   pub goes : GoesInPart setup (accepted setup (stream pieces)) (accepted setup (stream (with_next pieces piece))) times old new

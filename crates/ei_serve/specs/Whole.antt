@@ -1,5 +1,5 @@
 -- All that is said of a whole session.
-use Rattle.std.specs.Prelude.{ℕ, ◌+◌, ◌≤◌, List, Result, OnOk, IsErrOf}
+use Rattle.std.specs.Prelude.{ℕ, ◌+◌, ◌≤◌, List, Option, Result, OnOk, IsErrOf}
 use Rattle.ei_spec.specs.Piece.{Piece}
 use Rattle.ei_session.specs.Setup.{Setup}
 use Rattle.ei_session.specs.Served.{session}
@@ -9,14 +9,14 @@ use Rattle.ei_serve.specs.declared.session.Ended.{Ended as HowEnded}
 use Rattle.ei_serve.specs.Around.{Around}
 use Rattle.ei_serve.specs.Serving.{AnswersAs, IsDecided, IsCutShort, TookPieces, TookAllOf, HandsOut, LeftReadings, Replied, ReadValid, Handled, CutShort}
 
--- Over pieces that were told, the session did what the definitions say, between what stood around it before its start and at its end.
-pub record Serves (setup : Setup) (told : List Piece) (result : Result HowEnded Error) (old new : Around) : Type 0 where
+-- Over these pieces, of which those are left, the session did what the definitions say, between what stood around it before its start and at its end.
+pub record Serves (setup : Setup) (told : List Piece) (left : Option (List Piece)) (result : Result HowEnded Error) (old new : Around) : Type 0 where
   pub answer : AnswersAs (session setup told).answer result
   pub requests : IsDecided result → HandsOut setup (session setup told).handled old.readings old.out new.out
   pub replies : IsDecided result → Replied setup (session setup told).handled old.took new.took
   pub readings : IsDecided result → LeftReadings setup (session setup told).handled old.readings new.readings
-  pub valid : OnOk result (ReadValid setup told new.left (session setup told).handled)
-  pub taken : IsDecided result → TookAllOf setup told new.left result
-  pub pieces : (k : ℕ) × (k ≤ setup.pieces + 1) × TookPieces told new.left k
-  pub handled : IsErrOf result error.ReadFault → Handled setup told new.left old.readings old.out new.out old.took new.took
-  pub cut_short : IsCutShort result → CutShort setup told new.left old.readings old.out new.out old.took new.took
+  pub valid : OnOk result (ReadValid setup told left (session setup told).handled)
+  pub taken : IsDecided result → TookAllOf setup told left result
+  pub pieces : (k : ℕ) × (k ≤ setup.pieces + 1) × TookPieces told left k
+  pub handled : IsErrOf result error.ReadFault → Handled setup told left old.readings old.out new.out old.took new.took
+  pub cut_short : IsCutShort result → CutShort setup told left old.readings old.out new.out old.took new.took

@@ -5,12 +5,12 @@ ghost use Rattle.ei_types.specs.Capability.{bits_of, all_bits};
 ghost use Rattle.ei_types.specs.declared.error.Error.TheVariants as error;
 ghost use Rattle.ei_session.specs.Served.{session};
 ghost use Rattle.ei_session.specs.Complete.{AreComplete};
-ghost use Rattle.ei_backend.specs.Outside.{Piece, Rose};
+ghost use Rattle.ei_backend.specs.Outside.{Piece, Rose, source_view};
 ghost use Rattle.ei_backend.specs.Lent.{LentSource, LentSink, LentClock};
 ghost use Rattle.ei_serve.specs.Around.{around};
 ghost use Rattle.ei_serve.specs.Standing.{Stands, setup_of};
-ghost use Rattle.ei_serve.specs.Serving.{AnswersAs, IsDecided, IsCutShort, IsOfSession, IsSourceEnd, TookPieces, TookAllOf, HandsOut, LeftReadings, Replied};
-ghost use Rattle.ei_serve.specs.Serving.{ReadValid, Handled, CutShort};
+ghost use Rattle.ei_serve.specs.Serving.{AnswersAs, IsDecided, IsCutShort, IsOfSession, IsSourceEnd, TookPieces, TookAllOf, HandsOut};
+ghost use Rattle.ei_serve.specs.Serving.{ForPieces, GavePieces, LeftReadings, Replied, ReadValid, Handled, CutShort};
 ghost use Rattle.ei_serve.specs.Whole.{Serves};
 
 use crate::session::{Ended, Session, Setup, Turn};
@@ -40,30 +40,32 @@ pub fn serve<S: Source, K: Sink, C: Clock>(
     out: &mut Vec<EisRequest>,
 ) -> Result<Ended, Error>
     requires lawful { bits_of setup.capabilities ≤ all_bits }
-    // over a source that tells its pieces: the session that the definitions say
-    ensures answer { (told : List Piece) → S.left source.old ≡ Some told →
-        AnswersAs (session (setup_of setup) told).answer result }
-    ensures requests { (told : List Piece) → S.left source.old ≡ Some told → IsDecided result →
-        HandsOut (setup_of setup) (session (setup_of setup) told).handled (C.readings clock.old) out.old.items out.new.items }
-    ensures replies { (told : List Piece) → S.left source.old ≡ Some told → IsDecided result →
-        Replied (setup_of setup) (session (setup_of setup) told).handled (K.taken sink.old) (K.taken sink.new) }
-    ensures readings { (told : List Piece) → S.left source.old ≡ Some told → IsDecided result →
-        LeftReadings (setup_of setup) (session (setup_of setup) told).handled (C.readings clock.old) (C.readings clock.new) }
-    ensures valid { (told : List Piece) → S.left source.old ≡ Some told →
-        OnOk result (ReadValid (setup_of setup) told (S.left source.new) (session (setup_of setup) told).handled) }
-    ensures taken { (told : List Piece) → S.left source.old ≡ Some told → IsDecided result →
-        TookAllOf (setup_of setup) told (S.left source.new) result }
-    ensures pieces { (told : List Piece) → S.left source.old ≡ Some told →
-        (k : ℕ) × (k ≤ setup.pieces + 1) × TookPieces told (S.left source.new) k }
+    // over the pieces that the source tells, or that it gives: the session that the definitions say
+    ensures answer { ForPieces S.left S.given (IsSourceEnd result) source.old source.new (λ told left.
+        AnswersAs (session (setup_of setup) told).answer result) }
+    ensures requests { ForPieces S.left S.given (IsSourceEnd result) source.old source.new (λ told left. IsDecided result →
+        HandsOut (setup_of setup) (session (setup_of setup) told).handled (C.readings clock.old) out.old.items out.new.items) }
+    ensures replies { ForPieces S.left S.given (IsSourceEnd result) source.old source.new (λ told left. IsDecided result →
+        Replied (setup_of setup) (session (setup_of setup) told).handled (K.taken sink.old) (K.taken sink.new)) }
+    ensures readings { ForPieces S.left S.given (IsSourceEnd result) source.old source.new (λ told left. IsDecided result →
+        LeftReadings (setup_of setup) (session (setup_of setup) told).handled (C.readings clock.old) (C.readings clock.new)) }
+    ensures valid { ForPieces S.left S.given (IsSourceEnd result) source.old source.new (λ told left.
+        OnOk result (ReadValid (setup_of setup) told left (session (setup_of setup) told).handled)) }
+    ensures taken { ForPieces S.left S.given (IsSourceEnd result) source.old source.new (λ told left. IsDecided result →
+        TookAllOf (setup_of setup) told left result) }
+    ensures pieces { ForPieces S.left S.given (IsSourceEnd result) source.old source.new (λ told left.
+        (k : ℕ) × (k ≤ setup.pieces + 1) × TookPieces told left k) }
     // where the source failed, or the session was cut short
-    ensures handled { (told : List Piece) → S.left source.old ≡ Some told → IsErrOf result error.ReadFault →
-        Handled (setup_of setup) told (S.left source.new) (C.readings clock.old) out.old.items out.new.items (K.taken sink.old) (K.taken sink.new) }
-    ensures cut_short { (told : List Piece) → S.left source.old ≡ Some told → IsCutShort result →
-        CutShort (setup_of setup) told (S.left source.new) (C.readings clock.old) out.old.items out.new.items (K.taken sink.old) (K.taken sink.new) }
+    ensures handled { ForPieces S.left S.given (IsSourceEnd result) source.old source.new (λ told left. IsErrOf result error.ReadFault →
+        Handled (setup_of setup) told left (C.readings clock.old) out.old.items out.new.items (K.taken sink.old) (K.taken sink.new)) }
+    ensures cut_short { ForPieces S.left S.given (IsSourceEnd result) source.old source.new (λ told left. IsCutShort result →
+        CutShort (setup_of setup) told left (C.readings clock.old) out.old.items out.new.items (K.taken sink.old) (K.taken sink.new)) }
     // over pieces that make a good end sure, with no fault of the source and none of the sink
-    ensures complete { (told : List Piece) → S.left source.old ≡ Some told → AreComplete (setup_of setup) told →
+    ensures complete { ForPieces S.left S.given (IsSourceEnd result) source.old source.new (λ told left. AreComplete (setup_of setup) told →
         (Rose (S.faults source.old) (S.faults source.new) → ⊥) → (Rose (K.faults sink.old) (K.faults sink.new) → ⊥) →
-        IfErr result (λ e. e ≡ error.NoMemory) }
+        IfErr result (λ e. e ≡ error.NoMemory)) }
+    // the pieces that the source gave, and what it has left of those that it told
+    ensures gave { GavePieces (source_view S.left S.given source.old) (source_view S.left S.given source.new) }
     // over any source
     ensures only { IfErr result IsOfSession }
     // what source, sink and clock say
@@ -85,11 +87,12 @@ fn take_turns<S: Source, K: Sink, C: Clock>(
     out: &mut Vec<EisRequest>,
 ) -> Result<Ended, Error>
     requires started { Stands (setup_of setup) [] [] session.old }
-    // over a source that tells its pieces, where the sink has the greeting behind what it held before: the session that the definitions say
+    // where the sink has the greeting behind what it held before: the session that the definitions say
     ensures serves { (before : Option Piece) → Replied (setup_of setup) [] before (K.taken sink.old) →
-        (told : List Piece) → S.left source.old ≡ Some told →
-        Serves (setup_of setup) told result (around (S.left source.old) out.old.items before (C.readings clock.old))
-        (around (S.left source.new) out.new.items (K.taken sink.new) (C.readings clock.new)) }
+        ForPieces S.left S.given (IsSourceEnd result) source.old source.new (λ told left. Serves (setup_of setup) told left result
+        (around (source_view S.left S.given source.old) out.old.items before (C.readings clock.old))
+        (around (source_view S.left S.given source.new) out.new.items (K.taken sink.new) (C.readings clock.new))) }
+    ensures gave { GavePieces (source_view S.left S.given source.old) (source_view S.left S.given source.new) }
     // over any source
     ensures only { IfErr result IsOfSession }
     // what source, sink and clock say

@@ -4,7 +4,7 @@ ghost use Rattle.std.specs.Prelude.{◌≡◌, ◌≤◌, ◌↔◌, List, [], �
 ghost use Rattle.ei_session.specs.Setup.{Setup as Started};
 ghost use Rattle.ei_types.specs.Capability.{bits_of, all_bits};
 ghost use Rattle.ei_types.specs.declared.error.Error.TheVariants as error;
-ghost use Rattle.ei_backend.specs.Outside.{Piece};
+ghost use Rattle.ei_backend.specs.Outside.{Piece, source_view};
 ghost use Rattle.ei_backend.specs.Lent.{LentSource, LentSink, LentClock};
 ghost use Rattle.ei_serve.specs.Around.{around};
 ghost use Rattle.ei_serve.specs.Causes.{Greeted, GreetedInPart, RefusesToStart};
@@ -157,8 +157,9 @@ impl Session {
         requires going { ¬ IsOver self.old }
         // over a session that stands for the pieces taken, and the readings used, so far
         ensures turns { (setup : Started) (pieces : List Piece) (times : List ℕ) → Stands setup pieces times self.old →
-            Turns setup pieces times result self.new (around (S.left source.old) out.old.items (K.taken sink.old) (C.readings clock.old))
-            (around (S.left source.new) out.new.items (K.taken sink.new) (C.readings clock.new)) }
+            Turns setup pieces times result self.new
+            (around (source_view S.left S.given source.old) out.old.items (K.taken sink.old) (C.readings clock.old))
+            (around (source_view S.left S.given source.new) out.new.items (K.taken sink.new) (C.readings clock.new)) }
         // it is over exactly behind another answer than `GoOn`
         ensures over { goes_on result ≡ false ↔ IsOver self.new }
         ensures little { HoldsLittle self.new }

@@ -3,7 +3,7 @@
 ghost use Rattle.std.specs.Prelude.{◌≡◌, ◌↔◌, List, Option, ℕ, ◌<◌, ◌^◌, nat_le, Ok, false, IsErrOf};
 ghost use Rattle.ei_session.specs.Setup.{Setup as Started};
 ghost use Rattle.ei_types.specs.declared.error.Error.TheVariants as error;
-ghost use Rattle.ei_backend.specs.Outside.{Piece};
+ghost use Rattle.ei_backend.specs.Outside.{Piece, SourceView, source_view};
 ghost use Rattle.ei_backend.specs.Lent.{LentSource, LentSink, LentClock};
 ghost use Rattle.ei_serve.specs.Around.{around};
 ghost use Rattle.ei_serve.specs.Standing.{Stands, StandsForSome};
@@ -38,7 +38,7 @@ impl SessionState {
     /// Takes a piece; false at the source's end.
     pub(crate) fn take_piece<S: Source>(&mut self, source: &mut S) -> Result<bool, Error>
         ensures takes { (setup : Started) (pieces : List Piece) (times : List ℕ) → Stands setup pieces times self.old →
-            TakesPiece setup pieces times self.old result self.new (S.left source.old) (S.left source.new) }
+            TakesPiece setup pieces times self.old result self.new (source_view S.left S.given source.old) (source_view S.left S.given source.new) }
         ensures source { LentSource S.faults S.last S.later (IsErrOf result error.ReadFault)
             (StandsForSome self.old × (result ≡ Ok false)) source.old source.new }
         ensures no_write_fault { IsErrOf result error.WriteFault → ⊥ }
@@ -62,12 +62,12 @@ impl SessionState {
     ) -> Result<Turn, Error>
         requires no_write_fault { IsErrOf came error.WriteFault → ⊥ }
         // over a session that stood for some pieces before it took this
-        ensures turns { (setup : Started) (pieces : List Piece) (times : List ℕ) (before : SessionState) (left left_new : Option (List Piece)) →
-            Stands setup pieces times before → TakesPiece setup pieces times before came self.old left left_new →
-            Turns setup pieces times result self.new (around left out.old.items (K.taken sink.old) (C.readings clock.old))
-            (around left_new out.new.items (K.taken sink.new) (C.readings clock.new)) }
-        ensures ends { (setup : Started) (pieces : List Piece) (times : List ℕ) (before : SessionState) (left left_new : Option (List Piece)) →
-            Stands setup pieces times before → TakesPiece setup pieces times before came self.old left left_new →
+        ensures turns { (setup : Started) (pieces : List Piece) (times : List ℕ) (before : SessionState) (source_old source_new : SourceView) →
+            Stands setup pieces times before → TakesPiece setup pieces times before came self.old source_old source_new →
+            Turns setup pieces times result self.new (around source_old out.old.items (K.taken sink.old) (C.readings clock.old))
+            (around source_new out.new.items (K.taken sink.new) (C.readings clock.new)) }
+        ensures ends { (setup : Started) (pieces : List Piece) (times : List ℕ) (before : SessionState) (source_old source_new : SourceView) →
+            Stands setup pieces times before → TakesPiece setup pieces times before came self.old source_old source_new →
             IsAtEnd result → came ≡ Ok false }
         // what source, sink and clock say
         ensures read_fault { IsErrOf result error.ReadFault ↔ IsErrOf came error.ReadFault }

@@ -3,7 +3,7 @@
 ghost use Rattle.std.specs.Prelude.{◌<◌, ◌≤◌, ◌≡◌, None};
 ghost use Rattle.ei_spec.specs.declared.limits.TheConstants.{MOST_PIECE_BYTES};
 
-use ei_backend::{Fault, LastAnswer, PutError, Sink, Source, Taken};
+use ei_backend::{Fault, GivenPieces, LastAnswer, PutError, Sink, Source, Taken};
 use ei_spec::Handle;
 
 /// Bytes in pieces of one size, the last of which may be shorter, without handles. It tells nothing, and never fails.
@@ -11,6 +11,7 @@ use ei_spec::Handle;
 pub(crate) struct Cut<'a> {
     left: &'a [u8],
     size: usize,
+    given: GivenPieces,
     last: LastAnswer,
     ghost some: { 0 < size },
     ghost within: { size ≤ MOST_PIECE_BYTES },
@@ -25,6 +26,7 @@ impl<'a> Cut<'a> {
         Cut {
             left: bytes,
             size,
+            given: GivenPieces::new(),
             last: LastAnswer::Nothing,
         }
     }
@@ -37,6 +39,8 @@ impl<'a> Cut<'a> {
 
 impl Source for Cut<'_> {
     ghost left = { λ _. None };
+
+    ghost given = { λ s. s.given.pieces };
 
     ghost faults = { λ _. 0 };
 
@@ -53,11 +57,10 @@ impl Source for Cut<'_> {
         let (piece, rest) = self.left.split_at(count);
         bytes[..count].copy_from_slice(piece);
         self.left = rest;
-        self.last = if count == 0 {
-            LastAnswer::End
-        } else {
-            LastAnswer::Piece
-        };
+        self.last = LastAnswer::at(count);
+        if count > 0 {
+            self.given.note(piece, &[]);
+        }
         Ok(Taken {
             bytes: count,
             handles: 0,

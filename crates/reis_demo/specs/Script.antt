@@ -1,6 +1,7 @@
 -- What a script has yet to say, and the stream as its source shows it.
 use Rattle.std.specs.Prelude.{ℕ, ◌+◌, ◌^◌, ◌≤◌, true, false, List, [], ◌∷◌, ◌++◌}
 use Rattle.ei_spec.specs.Message.{Raw}
+use Rattle.ei_spec.specs.Piece.{Piece}
 use Rattle.ei_backend.specs.declared.outside.LastAnswer.{LastAnswer}
 use Rattle.reis_demo.specs.Generated.{groups_from, disconnect_message}
 use Rattle.reis_demo.specs.declared.script.Script.{Script}
@@ -13,7 +14,8 @@ unsaid s = elim s.ended [ true ↦ [] | false ↦ groups_from s.groups s.time s.
 abbrev pub IsTimed : Script → Type 0
 IsTimed s = s.time + s.groups ≤ 2 ^ 32
 
--- the bytes of the stream that are left, and what the source answered last
+-- the bytes of the stream that are left, the pieces given so far, and what the source answered last
 pub record StreamView : Type 0 where
   pub left : List ℕ
+  pub given : List Piece
   pub last : LastAnswer

@@ -1,16 +1,16 @@
 //! The source of the stream.
 
-ghost use Rattle.std.specs.Prelude.{◌≡◌, ◌≤◌, ◌+◌, Some, take, drop, length, min, vec_len, vec_capacity, IfOk, IsOk};
+ghost use Rattle.std.specs.Prelude.{◌≡◌, ◌≤◌, ◌+◌, [], Some, take, drop, length, min, vec_len, vec_capacity, IfOk, IsOk};
 ghost use Rattle.ei_spec.specs.Message.{all_bytes};
 ghost use Rattle.ei_spec.specs.declared.limits.TheConstants.{MOST_PIECE_BYTES, MOST_PIECE_HANDLES};
-ghost use Rattle.ei_backend.specs.Outside.{IsPieceSize, TakesTold, HasCause, last_of};
+ghost use Rattle.ei_backend.specs.Outside.{IsPieceSize, TakesTold, GivesPiece, given_with, HasCause, last_of};
 ghost use Rattle.ei_backend.specs.declared.outside.LastAnswer.TheVariants as answers;
 ghost use Rattle.reis_demo.specs.Generated.{cut, generated_bytes};
 ghost use Rattle.reis_demo.specs.Script.{StreamView, unsaid};
 
 use crate::opening::opening;
 use crate::script::{GROUP_BYTES, Script};
-use ei_backend::{Fault, LastAnswer, Source, Taken};
+use ei_backend::{Fault, GivenPieces, LastAnswer, Source, Taken};
 use ei_spec::Handle;
 use ei_wire::NoMemory;
 use std::alloc::Global;
@@ -32,6 +32,7 @@ pub struct Generated {
     script: Script,
     /// What was said and not handed out.
     waiting: Vec<u8>,
+    given: GivenPieces,
     last: LastAnswer,
 }
 
@@ -43,7 +44,11 @@ impl Model for Generated {
 
     ghost Value = { StreamView };
 
-    ghost view = { λ s. record { left = s.waiting.items ++ all_bytes (unsaid s.script); last = s.last } };
+    ghost view = { λ s. record {
+      left = s.waiting.items ++ all_bytes (unsaid s.script);
+      given = s.given.pieces;
+      last = s.last;
+    } };
 
     ghost invariant = { λ s. IsTimed s.script × (ROOM ≤ vec_capacity s.waiting) };
 }
@@ -53,11 +58,12 @@ impl Generated {
     ///
     /// `NoMemory` where there is none for its buffer.
     pub fn new(alloc: Global, groups: u32, start: u32) -> Result<Generated, NoMemory>
-        ensures { IfOk result (λ s. s ≡ record { left = generated_bytes groups start; last = answers.Nothing }) }
+        ensures { IfOk result (λ s. s ≡ record { left = generated_bytes groups start; given = []; last = answers.Nothing }) }
     {
         Ok(Generated {
             script: Script::new(groups, start),
             waiting: opening(alloc, ROOM)?,
+            given: GivenPieces::new(),
             last: LastAnswer::Nothing,
         })
     }
@@ -70,20 +76,26 @@ impl Generated {
     }
 }
 
-/// Takes the first bytes out, to the front of a slice.
-fn hand_out(waiting: &mut Vec<u8>, count: usize, bytes: &mut [u8])
+/// Takes the first bytes out, to the front of a slice, and notes them as a piece if there are any.
+fn hand_out(waiting: &mut Vec<u8>, count: usize, bytes: &mut [u8], given: &mut GivenPieces)
     requires within { count ≤ vec_len waiting.old }
     requires room { count ≤ length bytes.old }
+    ensures given { given.new.pieces ≡ given_with given.old.pieces count (record { bytes = take count bytes.new; handles = [] }) }
     ensures bytes { take count bytes.new ≡ take count waiting.old.items }
     ensures left { waiting.new.items ≡ drop count waiting.old.items }
     ensures capacity { vec_capacity waiting.new ≡ vec_capacity waiting.old }
 {
     bytes[..count].copy_from_slice(&waiting[..count]);
     waiting.drain(..count);
+    if count > 0 {
+        given.note(&bytes[..count], &[]);
+    }
 }
 
 impl Source for Generated {
     ghost left = { λ s. Some (cut 4096 s.left) };
+
+    ghost given = { λ s. s.given };
 
     ghost faults = { λ _. 0 };
 
@@ -100,6 +112,7 @@ impl Source for Generated {
         requires handle_room { MOST_PIECE_HANDLES ≤ length _handles.old }
         ensures size { IfOk result IsPieceSize }
         ensures pieces { TakesTold (Some (cut 4096 self.old.left)) (Some (cut 4096 self.new.left)) result bytes.new _handles.new }
+        ensures given { GivesPiece self.old.given self.new.given result bytes.new _handles.new }
         ensures cause { HasCause 0 0 result }
         ensures last { self.new.last ≡ last_of result }
         // beyond the trait's: it never fails, and what is left
@@ -109,12 +122,8 @@ impl Source for Generated {
     {
         self.script.say_until(&mut self.waiting, PIECE_BYTES);
         let count = self.waiting.len().min(PIECE_BYTES);
-        hand_out(&mut self.waiting, count, bytes);
-        self.last = if count == 0 {
-            LastAnswer::End
-        } else {
-            LastAnswer::Piece
-        };
+        hand_out(&mut self.waiting, count, bytes, &mut self.given);
+        self.last = LastAnswer::at(count);
         Ok(Taken {
             bytes: count,
             handles: 0,

@@ -53,6 +53,9 @@ gave_on x y z a b b' c p is q = record {
 pub since_is : {I : Type 0} (given : I → List ℕ) (old new : I) (bytes : List ℕ) → given new ≡ given old ++ bytes → given_since given old new ≡ bytes
 since_is given old new bytes gave = ap (drop (length (given old))) gave ∙ drop-append_seam (given old) bytes
 
+pub since_gave : {I : Type 0} (given : I → List ℕ) (old new : I) (bytes : List ℕ) → given new ≡ given old ++ bytes → given new ≡ given old ++ given_since given old new
+since_gave given old new bytes gave = gave ∙ ap (λ v. given old ++ v) (sym (since_is given old new bytes gave))
+
 -- ---- whether the input answered its end
 
 -- some bytes were read

@@ -22,7 +22,7 @@ not_ended : (ended : Bool) → ended ≡ false → ended ≡ true → ⊥
 not_ended ended f t = cc
 
 -- lines that were handed out before the input answered its end have their newlines
-all_ended : (ls : List (List ℕ)) (rest : List ℕ) (ended : Bool) → ended ≡ false → AreLines ls rest ended → AreEnded ls
+pub all_ended : (ls : List (List ℕ)) (rest : List ℕ) (ended : Bool) → ended ≡ false → AreLines ls rest ended → AreEnded ls
 all_ended [] rest ended open_yet w = tt
 all_ended (l ∷ ls) rest ended open_yet (inl w) = (w.0, all_ended ls rest ended open_yet w.1)
 all_ended (l ∷ ls) rest ended open_yet (inr w) = absurd (not_ended ended open_yet w.4)
@@ -31,7 +31,7 @@ but_last : (a : List (List ℕ)) (b : List ℕ) → take (length (a ++ b ∷ [])
 but_last a b = take_at a (b ∷ []) (length (a ++ b ∷ []) - 1) (omega (arith, length-append a (b ∷ [])))
 
 -- the whole lines of a text with a part of a line behind them
-whole_of : (ls : List (List ℕ)) (part : List ℕ) → AreEnded ls → has_newline part ≡ false → whole_lines (joined_lines ls ++ part) ≡ map before_newline ls
+pub whole_of : (ls : List (List ℕ)) (part : List ℕ) → AreEnded ls → has_newline part ≡ false → whole_lines (joined_lines ls ++ part) ≡ map before_newline ls
 whole_of ls part ended quiet =
     let lines = split_lines ls part ended ∙ ap (λ v. map before_newline ls ++ v) (split_all part quiet) in
     ap (λ v. take (length v - 1) v) lines ∙ but_last (map before_newline ls) part

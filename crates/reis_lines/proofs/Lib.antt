@@ -7,3 +7,5 @@ pub mod NewlineLaws
 pub mod GaveLaws
 pub mod ToldLaws
 pub mod MetLaws
+pub mod GivenPieces
+pub mod TextBegins

@@ -13,7 +13,7 @@ use Rattle.reis_lines.specs.Given.{given_since, line_at, HasBadLine, MetBadLine}
 use Rattle.reis_lines.specs.HexSource.{Reading, fresh, joined_lines, AreLines, KnowsEnd, HoldsBadLine, LaterReading}
 use Rattle.reis_lines.specs.Lent.{LentInput}
 use Rattle.reis_lines.proofs.TextLaws.{split_all}
-use Rattle.reis_lines.proofs.GaveLaws.{since_is}
+use Rattle.reis_lines.proofs.GaveLaws.{since_is, since_gave}
 use Rattle.reis_lines.proofs.GivenLaws.{AreEnded, split_lines}
 use Rattle.reis_lines.proofs.ToldLaws.{bad_on, bad_first, newline_at, split_before}
 
@@ -86,7 +86,8 @@ has_as_known bytes ended end place known h = record {
   whole = elim h.whole [ inl newline ↦ inl newline | inr (inl long) ↦ inr (inl long) | inr (inr e) ↦ inr (inr (known e)) ];
 }
 
-known_end : {I : Type 0} (last : I → LastAnswer) (x y : Reading I) → KnowsEnd last x y → x.ended ≡ false → y.ended ≡ true → is_end (last y.input) ≡ true
+-- an end that a source came to know was answered
+pub known_end : {I : Type 0} (last : I → LastAnswer) (x y : Reading I) → KnowsEnd last x y → x.ended ≡ false → y.ended ≡ true → is_end (last y.input) ≡ true
 known_end last x y (inl same) open_yet e = absurd cc
 known_end last x y (inr is) open_yet e = sym is ∙ e
 
@@ -111,7 +112,7 @@ module _ {I : Type 0} (text : I → Option (List ℕ)) (given : I → List ℕ) 
   lent_by old y r =
       let since = since_is given old y.input r.bytes r.gave in
       record {
-        gave = r.gave ∙ ap (λ v. given old ++ v) (sym since);
+        gave = since_gave given old y.input r.bytes r.gave;
         told = λ t told.
             let m = r.left t told in
             (m.0, r.told t told told ∙ m.1, m.2 ∙ ap (λ v. v ++ m.0) (sym since));

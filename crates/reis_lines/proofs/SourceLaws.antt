@@ -94,7 +94,7 @@ first_line None mid bytes ended f ends spells =
     rw (all, gone) (inr (spelled_some mid bytes spells_all, sym same, refl, refl, end), same)
 
 -- a line was handed out
-pub handed_out : (held given mid slice new bytes : List ℕ) (found : Option ℕ) (ended : Bool) (line now : ℕ) → mid ≡ held ++ given → FindsNewline found mid →
+unfoldable pub handed_out : (held given mid slice new bytes : List ℕ) (found : Option ℕ) (ended : Bool) (line now : ℕ) → mid ≡ held ++ given → FindsNewline found mid →
     (found ≡ None → length mid ≤ 131072 → ended ≡ true) → slice ≡ take (line_len found mid) mid → line_bytes slice ≡ Some bytes →
     new ≡ drop (line_skip found mid) mid → now ≡ min (line + 1) (2 ^ 64 - 1) → LaterLines held given new line now ended
 handed_out held given mid slice new bytes found ended number now more f ends is spells gone next =
@@ -232,6 +232,7 @@ pub record GoesOn {I : Type 0} (text : I → Option (List ℕ)) (given : I → L
   pub bytes : List ℕ
   pub gave : given y.input ≡ given x.input ++ bytes
   pub lines : LaterLines x.held bytes y.held x.line y.line y.ended
+  pub pieces : y.pieces ≡ x.pieces ++ lines.pieces
   pub left : LeftBehind (unread text x) bytes (unread text y)
   pub told : (t : List ℕ) → unread text x ≡ Some t → text x.input ≡ Some t → text y.input ≡ unread text y
   pub asked : KnowsEnd last x y
@@ -248,6 +249,7 @@ unmet_later text given last faults later x y none same same_faults g =
       bytes = g.bytes;
       gave = g.gave;
       lines = g.lines;
+      pieces = g.pieces;
       left = g.left;
       told = g.told;
       asked = g.asked;

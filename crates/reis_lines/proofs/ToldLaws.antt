@@ -166,7 +166,7 @@ bad_first held rest ended line n h none =
     let f = begins held rest ended line n h none in
     ap bad_line_of_lines f.is ∙ bad_before f.line (bad_line_of_lines f.others) f.spells f.some
 
-none_first : (held rest : List ℕ) (ended : Bool) (line n : ℕ) → HoldsBadLine held ended line n → (ended ≡ true → rest ≡ []) → pieces_of (held ++ rest) ≡ []
+pub none_first : (held rest : List ℕ) (ended : Bool) (line n : ℕ) → HoldsBadLine held ended line n → (ended ≡ true → rest ≡ []) → pieces_of (held ++ rest) ≡ []
 unfolding pieces_of
 none_first held rest ended line n h none =
     let f = begins held rest ended line n h none in

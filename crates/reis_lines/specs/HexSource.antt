@@ -4,7 +4,7 @@ use Rattle.std.specs.Prelude.{Option, Some, None, IsSome, Result, Ok, Err, Bool,
 use Rattle.std.specs.Option.{option_map}
 use Rattle.std.specs.Borrow.{GName}
 use Rattle.ei_spec.specs.Piece.{Piece}
-use Rattle.ei_backend.specs.Outside.{Rose, is_end}
+use Rattle.ei_backend.specs.Outside.{Rose, given_with, is_end}
 use Rattle.ei_backend.specs.declared.outside.Fault.{Fault}
 use Rattle.ei_backend.specs.declared.outside.LastAnswer.{LastAnswer}
 use Rattle.ei_backend.specs.declared.outside.LastAnswer.TheVariants as answers
@@ -14,7 +14,7 @@ use Rattle.reis_lines.specs.declared.held.TheConstants.{LONGEST_LINE}
 use Rattle.reis_lines.specs.declared.hex_source.HexSource.{HexSource}
 
 -- How far a source has read its input: the bytes held, whether the input answered its end, how many lines went, the bad line that
--- it met, and the faults for that line.
+-- it met, the faults for that line, and the pieces given so far.
 pub record Reading (I : Type 0) : Type 0 where
   pub input : I
   pub held : List ℕ
@@ -22,10 +22,19 @@ pub record Reading (I : Type 0) : Type 0 where
   pub line : ℕ
   pub bad : Option ℕ
   pub bad_faults : ℕ
+  pub pieces : List Piece
 
 -- the reading of a source
 abbrev pub text_reading : {I : Type 0} → HexSource I → Reading I
-text_reading s = record { input = s.input.now; held = s.held; ended = s.ended; line = s.line; bad = s.bad; bad_faults = s.bad_faults }
+text_reading s = record {
+  input = s.input.now;
+  held = s.held;
+  ended = s.ended;
+  line = s.line;
+  bad = s.bad;
+  bad_faults = s.bad_faults;
+  pieces = s.given.pieces;
+}
 
 -- what the source answered last
 abbrev pub answer_of : {I : Type 0} → HexSource I → LastAnswer
@@ -33,7 +42,7 @@ answer_of s = s.last
 
 -- the reading of an input that was not asked yet
 abbrev pub fresh : {I : Type 0} → I → Reading I
-fresh input = record { input = input; held = []; ended = false; line = 0; bad = None; bad_faults = 0 }
+fresh input = record { input = input; held = []; ended = false; line = 0; bad = None; bad_faults = 0; pieces = [] }
 
 -- the name of the reference that a source holds
 abbrev pub reference_of : {I : Type 0} → HexSource I → GName
@@ -102,9 +111,10 @@ KnowsEnd last x y = ((y.input ≡ x.input) × (y.ended ≡ x.ended)) ⊎ (y.ende
 abbrev pub LeftBehind : Option (List ℕ) → List ℕ → Option (List ℕ) → Type 0
 LeftBehind old bytes new = (t : List ℕ) → old ≡ Some t → (rest : List ℕ) × (new ≡ Some rest) × (t ≡ bytes ++ rest)
 
--- A reading goes on. Whatever the input tells, the bytes that it gave are lines that went and the bytes held; a text that it told is
--- these bytes and then what is left. The input isn't asked behind its end. A bad line that is met stands at the front of the bytes
--- held, and behind it nothing is read. The input's count of faults has not fallen, nor that of the faults for the bad line.
+-- A reading goes on. Whatever the input tells, the bytes that it gave are lines that went and the bytes held, and the pieces given
+-- since are those that the lines spell; a text that it told is these bytes and then what is left. The input isn't asked behind its
+-- end. A bad line that is met stands at the front of the bytes held, and behind it nothing is read. The input's count of faults has
+-- not fallen, nor that of the faults for the bad line.
 pub record LaterReading
     {I : Type 0} (text : I → Option (List ℕ)) (given : I → List ℕ) (last : I → LastAnswer) (faults : I → ℕ) (later : I → I → Type 0) (x y : Reading I)
     : Type 0 where
@@ -113,6 +123,7 @@ pub record LaterReading
   pub bytes : List ℕ
   pub gave : given y.input ≡ given x.input ++ bytes
   pub lines : LaterLines x.held bytes y.held x.line y.line y.ended
+  pub pieces : y.pieces ≡ x.pieces ++ lines.pieces
   pub left : LeftBehind (unread text x) bytes (unread text y)
   pub told : (t : List ℕ) → unread text x ≡ Some t → text x.input ≡ Some t → text y.input ≡ unread text y
   pub asked : KnowsEnd last x y
@@ -165,3 +176,8 @@ pub record HandsLine (held text held_new : List ℕ) (left : Option (List ℕ)) 
 abbrev pub NextPiece : List ℕ → List ℕ → Result ℕ Fault → List ℕ → Option (List ℕ) → List ℕ → Type 0
 NextPiece held text (Ok n) held_new left bytes = HandsLine held text held_new left n bytes
 NextPiece held text (Err e) held_new left bytes = Moves held text held_new left
+
+-- told or not, the pieces given so far are those before, and then the first n bytes as a piece; no byte and a fault give none
+abbrev pub GivesLine : List Piece → List Piece → Result ℕ Fault → List ℕ → Type 0
+GivesLine old new (Ok n) bytes = new ≡ given_with old n (record { bytes = take n bytes; handles = [] })
+GivesLine old new (Err e) bytes = new ≡ old

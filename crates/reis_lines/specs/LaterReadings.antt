@@ -17,8 +17,16 @@ joined_lines-append [] b = refl
 joined_lines-append (l ∷ a) b = ap (λ t. l ++ t) (joined_lines-append a b) ∙ sym (append_assoc l (joined_lines a) (joined_lines b))
 
 -- no line went
-pub LaterLines-none : (held given held_new : List ℕ) (line : ℕ) (ended : Bool) → held_new ≡ held ++ given → LaterLines held given held_new line line ended
-LaterLines-none held given held_new line ended is = record { lines = []; pieces = []; same = sym is; are_lines = tt; spelled = refl; grown = omega arith }
+unfoldable pub LaterLines-none : (held given held_new : List ℕ) (line line_new : ℕ) (ended : Bool) → held_new ≡ held ++ given → line_new ≡ line →
+    LaterLines held given held_new line line_new ended
+LaterLines-none held given held_new line line_new ended is same = record {
+  lines = [];
+  pieces = [];
+  same = sym is;
+  are_lines = tt;
+  spelled = refl;
+  grown = omega (arith, same);
+}
 
 pub Stands-refl : {I : Type 0} (x : Reading I) → Stands x x
 Stands-refl x = record { input = refl; held = refl; ended = refl; line = refl; bad = refl }
@@ -74,7 +82,7 @@ Spell-append a b p q s t =
     ap (map piece_of_line) (map-append before_newline a b) ∙ map-append piece_of_line (map before_newline a) (map before_newline b)
     ∙ ap (λ v. v ++ map piece_of_line (map before_newline b)) s ∙ ap (λ v. map (λ (x : Piece). Some x) p ++ v) t ∙ sym (map-append (λ (x : Piece). Some x) p q)
 
-LaterLines-trans : (a given b more c : List ℕ) (i j k : ℕ) (e f : Bool) → LaterLines a given b i j e → LaterLines b more c j k f →
+unfoldable LaterLines-trans : (a given b more c : List ℕ) (i j k : ℕ) (e f : Bool) → LaterLines a given b i j e → LaterLines b more c j k f →
     (e ≡ true → f ≡ true) → (e ≡ true → more ≡ []) → LaterLines a (given ++ more) c i k f
 LaterLines-trans a given b more c i j k e f p q on none = record {
   lines = p.lines ++ q.lines;
@@ -127,12 +135,14 @@ module _ {I : Type 0} (text : I → Option (List ℕ)) (given : I → List ℕ) 
   Later = LaterReading text given last faults later
 
   LaterReading-refl : ((x : I) → later x x) → (x : Reading I) → x.bad ≡ x.bad → Later x x
+  unfolding LaterLines-none
   LaterReading-refl r x same = record {
     input = r x.input;
     count = omega arith;
     bytes = [];
     gave = sym (append-nil (given x.input));
-    lines = LaterLines-none x.held [] x.held x.line x.ended (sym (append-nil x.held));
+    lines = LaterLines-none x.held [] x.held x.line x.line x.ended (sym (append-nil x.held)) refl;
+    pieces = sym (append-nil x.pieces);
     left = left_all (unread text x);
     told = λ t left is. is ∙ sym left;
     asked = inl (refl, refl);
@@ -172,6 +182,7 @@ module _ {I : Type 0} (text : I → Option (List ℕ)) (given : I → List ℕ) 
 
   LaterReading-trans : ((x y z : I) → later x y → later y z → later x z) →
       (x y z : Reading I) → Later x y → Later y z → Later x z
+  unfolding LaterLines-trans
   LaterReading-trans r x y z a b = record {
     input = r x.input y.input z.input a.input b.input;
     count = omega (arith, a.count, b.count);
@@ -179,6 +190,7 @@ module _ {I : Type 0} (text : I → Option (List ℕ)) (given : I → List ℕ) 
     gave = b.gave ∙ ap (λ v. v ++ b.bytes) a.gave ∙ append_assoc (given x.input) a.bytes b.bytes;
     lines = LaterLines-trans x.held a.bytes y.held b.bytes z.held x.line y.line z.line y.ended z.ended a.lines b.lines (λ is. (b.ended is).1)
         (λ is. none_given (given y.input) b.bytes (given z.input) b.gave (ap given (b.ended is).0));
+    pieces = b.pieces ∙ ap (λ v. v ++ b.lines.pieces) a.pieces ∙ append_assoc x.pieces a.lines.pieces b.lines.pieces;
     left = left_on (unread text x) (unread text y) (unread text z) a.bytes b.bytes a.left b.left;
     told = λ t left is. let p = a.left t left in b.told p.0 p.1 (a.told t left is ∙ p.1);
     asked = knows_on last x y z a.asked b.asked;

@@ -1,6 +1,7 @@
 pub mod Given
 pub mod Held
 pub mod HexSource
+pub mod InputText
 pub mod LaterReadings
 pub mod Lent
 pub mod Text

@@ -7,7 +7,7 @@ ghost use Rattle.ei_spec.specs.declared.limits.TheConstants.{MOST_PIECE_BYTES};
 
 use crate::digits::decode_line;
 use crate::held::{Held, LONGEST_LINE, line_extent};
-use ei_backend::{Fault, Input, LastAnswer, Source, Taken};
+use ei_backend::{Fault, GivenPieces, Input, LastAnswer, Source, Taken};
 use ei_spec::Handle;
 use ei_wire::NoMemory;
 use std::alloc::Global;
@@ -27,6 +27,7 @@ pub struct HexSource<'a, I: Input> {
     line: u64,
     bad: Option<u64>,
     bad_faults: u64,
+    given: GivenPieces,
     last: LastAnswer,
 }
 
@@ -36,7 +37,7 @@ impl<'a, I: Input> HexSource<'a, I> {
     ghost use Rattle.ei_backend.specs.declared.outside.LastAnswer.TheVariants as answers;
     ghost use Rattle.reis_lines.specs.Given.{GaveBehind};
     ghost use Rattle.reis_lines.specs.Held.{FindsNewline, Moves, line_skip};
-    ghost use Rattle.reis_lines.specs.HexSource.{reference_of, text_reading, answer_of, fresh, unread, faults_of, LaterReading, NextPiece};
+    ghost use Rattle.reis_lines.specs.HexSource.{reference_of, text_reading, answer_of, fresh, unread, faults_of, LaterReading, NextPiece, GivesLine};
     ghost use Rattle.reis_lines.specs.HexSource.{KnowsEnd, HoldsEnd, HoldsNoLine};
 
     /// `NoMemory` where there is none for the longest line.
@@ -63,6 +64,7 @@ impl<'a, I: Input> HexSource<'a, I> {
             line: 0,
             bad: None,
             bad_faults: 0,
+            given: GivenPieces::new(),
             last: LastAnswer::Nothing,
         }
     }
@@ -103,6 +105,7 @@ impl<'a, I: Input> HexSource<'a, I> {
         ensures same_line { self.new.line ≡ self.old.line }
         ensures same_bad { self.new.bad ≡ self.old.bad }
         ensures same_faults { self.new.bad_faults ≡ self.old.bad_faults }
+        ensures same_pieces { self.new.given.pieces ≡ self.old.given.pieces }
         ensures same_last { self.new.last ≡ self.old.last }
         ensures same_reference { reference_of self.new ≡ reference_of self.old }
     {
@@ -120,6 +123,7 @@ impl<'a, I: Input> HexSource<'a, I> {
         ensures size { IfOk result (λ n. n ≤ MOST_PIECE_BYTES) }
         ensures pieces { (text : List ℕ) → unread I.text (text_reading self.old) ≡ Some text →
             NextPiece (text_reading self.old).held text result (text_reading self.new).held (unread I.text (text_reading self.new)) bytes.new }
+        ensures given { GivesLine (text_reading self.old).pieces (text_reading self.new).pieces result bytes.new }
         ensures end { result ≡ Ok 0 → HoldsEnd (text_reading self.new).held (text_reading self.new).ended }
         ensures fault { IsErr result → HoldsNoLine (text_reading self.new).held (text_reading self.new).ended ⊎ IsSome (text_reading self.new).bad }
         ensures unasked { has_newline (text_reading self.old).held ≡ true → (text_reading self.new).input ≡ (text_reading self.old).input }
@@ -147,6 +151,7 @@ impl<'a, I: Input> HexSource<'a, I> {
             Some(n) => {
                 self.held.remove(skip);
                 self.line = self.line.saturating_add(1);
+                self.given.note(&bytes[..n], &[]);
                 Ok(n)
             }
             None => {
@@ -161,12 +166,14 @@ impl<'a, I: Input> HexSource<'a, I> {
 impl<'a, I: Input> Source for HexSource<'a, I> {
     ghost use Rattle.std.specs.Prelude.{◌≡◌, ◌≤◌, ◌+◌, ℕ, Some, None, length, IfOk, IsErr, true};
     ghost use Rattle.ei_backend.specs.Memory.{counted};
-    ghost use Rattle.ei_backend.specs.Outside.{Piece, HasCause, IsPieceSize, TakesTold, last_of};
+    ghost use Rattle.ei_backend.specs.Outside.{Piece, HasCause, IsPieceSize, TakesTold, GivesPiece, last_of};
     ghost use Rattle.reis_lines.specs.Text.{has_newline};
     ghost use Rattle.reis_lines.specs.HexSource.{text_reading, answer_of, left_of, faults_of, LaterSource};
     ghost use Rattle.reis_lines.specs.LaterReadings.{LaterSource-refl, LaterSource-trans};
 
     ghost left = { λ s. left_of I.text (text_reading s) };
+
+    ghost given = { λ s. (text_reading s).pieces };
 
     ghost faults = { λ s. faults_of I.faults (text_reading s) };
 
@@ -183,6 +190,7 @@ impl<'a, I: Input> Source for HexSource<'a, I> {
         requires handle_room { 64 ≤ length _handles.old }
         ensures size { IfOk result IsPieceSize }
         ensures pieces { TakesTold (left_of I.text (text_reading self.old)) (left_of I.text (text_reading self.new)) result bytes.new _handles.new }
+        ensures given { GivesPiece (text_reading self.old).pieces (text_reading self.new).pieces result bytes.new _handles.new }
         ensures cause { HasCause (faults_of I.faults (text_reading self.old)) (faults_of I.faults (text_reading self.new)) result }
         ensures last { answer_of self.new ≡ last_of result }
         ensures later { LaterSource I.text I.given I.last I.faults I.later self.old self.new }

@@ -1,9 +1,8 @@
 -- What a session over the lines of an input came to.
-use Rattle.std.proofs.Common.{◌≡◌, ◌≤◌, ◌<◌, ◌⊎◌, inl, inr, ℕ, Bool, true, List, [], ◌∷◌, ◌++◌, ◌-◌, false, length, take, drop, Option, Some, None}
+use Rattle.std.proofs.Common.{◌≡◌, ◌≤◌, ◌<◌, ◌⊎◌, inl, inr, ℕ, Bool, true, List, [], ◌++◌, ◌-◌, false, length, take, drop, Option, Some, None}
 use Rattle.std.proofs.Common.{Result, Ok, Err, refl, sym, ap, ◌∙◌, subst, arith, length-append}
 use Rattle.std.proofs.lemmas.List.{append-nil, length-drop, take_at}
 use Rattle.std.specs.Prelude.{map, IsErrOf, IsSome}
-use Rattle.std.specs.Option.{option_map}
 use Rattle.ei_spec.specs.Message.{Raw}
 use Rattle.ei_spec.specs.Piece.{Piece, stream}
 use Rattle.ei_spec.specs.History.{each, joined}
@@ -15,106 +14,141 @@ use Rattle.ei_session.specs.Refusals.{Refusal}
 use Rattle.ei_session.specs.Served.{Answer, Disconnect, End, UnexpectedEof, IdsExhausted, PieceLimit, HandleLimit, Refused}
 use Rattle.ei_session.specs.Served.{Outcome, at_end, read_first, session, accepted, is_over}
 use Rattle.ei_session.proofs.AllParts.{session_end}
-use Rattle.ei_backend.specs.Outside.{Rose, with_more}
+use Rattle.ei_backend.specs.Lent.{LentSource}
+use Rattle.ei_backend.specs.Outside.{Rose, SourceView, with_more}
 use Rattle.ei_standing.specs.Standing.{request_in_code}
 use Rattle.ei_request.specs.declared.event.EisRequest.{EisRequest}
 use Rattle.ei_serve.specs.declared.session.Ended.{Ended as HowEnded}
 use Rattle.ei_serve.specs.declared.session.Ended.TheVariants as ended
 use Rattle.ei_serve.specs.Refusing.{refusal_of, IsRefused}
-use Rattle.ei_serve.specs.Serving.{AnswersAs, IsDecided, IsCutShort, IsSourceEnd, AreReadings, HandsOut, Replied}
+use Rattle.ei_serve.specs.Serving.{AnswersAs, IsDecided, IsCutShort, IsSourceEnd, ArePieces, AreReadings, HandsOut, Replied}
 use Rattle.ei_serve.specs.Serving.{LeftReadings, Handled, RepliedAtLeast, CutShort}
 use Rattle.ei_types.specs.declared.error.Error.{Error}
 use Rattle.ei_types.specs.declared.error.Error.TheVariants as error
 use Rattle.ei_backend.specs.declared.outside.LastAnswer.{LastAnswer}
 use Rattle.ei_backend.specs.declared.outside.LastAnswer.TheVariants as answers
-use Rattle.reis_lines.specs.HexSource.{Reading, text_reading, answer_of, fresh, unread, left_of, faults_of, LaterReading, LaterSource, IsAtEnd}
-use Rattle.reis_lines.specs.HexSource.{HoldsNoLine, AnswersTruly, EndsTruly}
+use Rattle.reis_lines.specs.HexSource.{Reading, text_reading, answer_of, fresh, left_of, faults_of, LaterReading, LaterSource, HoldsNoLine, AnswersTruly}
 use Rattle.reis_lines.specs.declared.hex_source.HexSource.{HexSource}
 use Rattle.reis_lines.specs.Text.{pieces_of, bad_line_of, number_from, AreGiven}
-use Rattle.reis_lines.specs.Given.{MetBadLine}
+use Rattle.reis_lines.specs.Given.{given_since, MetBadLine}
+use Rattle.reis_lines.specs.InputText.{IsText}
 use Rattle.reis_lines.specs.Lent.{LentInput}
-use Rattle.reis_lines.proofs.GivenLaws.{are_given}
+use Rattle.reis_lines.proofs.GivenPieces.{gave_since, pieces_since, spent_at_end, spent_at_bad_line, whole_lines_given, bad_number_given, no_bad_line_given}
 use Rattle.reis_lines.proofs.MetLaws.{met_bad_line, lent_by}
-use Rattle.reis_lines.proofs.ToldLaws.{later_text, number_told, spent_told}
+use Rattle.reis_lines.proofs.TextBegins.{TextBegins, text_begins}
 use Rattle.reis_run.specs.Session.{end_behind, end_of, EndsAs, last_line_of, IsDecidedLine, IsAnswered, IsReadFault, IsCutShortLine, IsBadLine}
 use Rattle.reis_run.specs.Session.{HandledGiven, pieces_left, reply_bytes}
 use Rattle.reis_run.specs.declared.session.LastLine.TheVariants as last_line
 
 -- ---- the source
 
--- a source over a fresh input tells the pieces of its text
-pub told_at_first : {I : Type 0} (text : I → Option (List ℕ)) (r : Reading I) (input : I) (t : List ℕ) → r ≡ fresh input → text input ≡ Some t → left_of text r ≡ Some (pieces_of t)
-told_at_first text r input t e told = ap (left_of text) e ∙ ap (option_map pieces_of) told
-
 -- how a source over a fresh input went on, behind an answer of the session
 pub record Went {I : Type 0} (text : I → Option (List ℕ)) (given : I → List ℕ) (last : I → LastAnswer) (faults : I → ℕ) (later : I → I → Type 0) (input after : I) (y : HexSource I) (answer : Result HowEnded Error) : Type 0 where
   pub reading : LaterReading text given last faults later (fresh input) (text_reading y)
   pub same : after ≡ (text_reading y).input
   pub truly : AnswersTruly (text_reading y) (answer_of y)
-  pub ends : (t : List ℕ) → text input ≡ Some t → EndsTruly text (text_reading y) (answer_of y)
   pub risen : faults_of faults (fresh input) < faults_of faults (text_reading y) → IsErrOf answer error.ReadFault
   pub rose : IsErrOf answer error.ReadFault → Rose (faults_of faults (fresh input)) (faults_of faults (text_reading y))
   pub last_end : IsSourceEnd answer → answer_of y ≡ answers.End
   pub last_fault : IsErrOf answer error.ReadFault → answer_of y ≡ answers.Fault
 
+-- what a session says of a source that it was lent
+abbrev pub Lent : {I : Type 0} → (I → Option (List ℕ)) → (I → List ℕ) → (I → LastAnswer) → (I → ℕ) → (I → I → Type 0) → Result HowEnded Error → HexSource I → HexSource I → Type 0
+Lent text given last faults later answer x y =
+    LentSource (λ s. faults_of faults (text_reading s)) answer_of (LaterSource text given last faults later) (IsErrOf answer error.ReadFault) (IsSourceEnd answer) x y
+
 pub went : {I : Type 0} (text : I → Option (List ℕ)) (given : I → List ℕ) (last : I → LastAnswer) (faults : I → ℕ) (later : I → I → Type 0) (input after : I) (x y : HexSource I) (answer : Result HowEnded Error) →
-    text_reading x ≡ fresh input → answer_of x ≡ answers.Nothing → LaterSource text given last faults later x y → after ≡ (text_reading y).input →
-    (faults_of faults (text_reading x) < faults_of faults (text_reading y) → IsErrOf answer error.ReadFault) →
-    (IsErrOf answer error.ReadFault → Rose (faults_of faults (text_reading x)) (faults_of faults (text_reading y))) →
-    (IsSourceEnd answer → answer_of y ≡ answers.End) → (IsErrOf answer error.ReadFault → answer_of y ≡ answers.Fault) →
+    text_reading x ≡ fresh input → answer_of x ≡ answers.Nothing → Lent text given last faults later answer x y → after ≡ (text_reading y).input →
     Went text given last faults later input after y answer
-went {I} text given last faults later input after x y answer new unasked l same risen rose last_end last_fault = record {
-  reading = subst (λ (v : Reading I). LaterReading text given last faults later v (text_reading y)) new l.reading;
+went {I} text given last faults later input after x y answer new unasked l same = record {
+  reading = subst (λ (v : Reading I). LaterReading text given last faults later v (text_reading y)) new l.later_source.reading;
   same = same;
-  truly = l.truly (record { ends = λ e. absurd cc; fails = λ e. absurd cc });
-  ends = λ t told. l.ends t (ap (unread text) new ∙ told) (λ e. absurd cc);
-  risen = subst (λ (v : Reading I). faults_of faults v < faults_of faults (text_reading y) → IsErrOf answer error.ReadFault) new risen;
-  rose = subst (λ (v : Reading I). IsErrOf answer error.ReadFault → Rose (faults_of faults v) (faults_of faults (text_reading y))) new rose;
-  last_end = last_end;
-  last_fault = last_fault;
+  truly = l.later_source.truly (record { ends = λ e. absurd cc; fails = λ e. absurd cc });
+  risen = subst (λ (v : Reading I). faults_of faults v < faults_of faults (text_reading y) → IsErrOf answer error.ReadFault) new l.read_risen;
+  rose = subst (λ (v : Reading I). IsErrOf answer error.ReadFault → Rose (faults_of faults v) (faults_of faults (text_reading y))) new l.read_fault;
+  last_end = l.last_end;
+  last_fault = l.last_fault;
 }
 
--- a session has a read fault where a bad line was met
-met_fault : {I : Type 0} (text : I → Option (List ℕ)) (given : I → List ℕ) (last : I → LastAnswer) (faults : I → ℕ) (later : I → I → Type 0) (input after : I) (y : HexSource I) (answer : Result HowEnded Error) (n : ℕ) →
-    Went text given last faults later input after y answer → (text_reading y).bad ≡ Some n → IsErrOf answer error.ReadFault
-met_fault text given last faults later input after y answer n w is = w.risen (omega (arith, w.reading.count, w.reading.met refl n is))
+module _
+    {I : Type 0} {text : I → Option (List ℕ)} {given : I → List ℕ} {last : I → LastAnswer} {faults : I → ℕ} {later : I → I → Type 0} {input after : I} {y : HexSource I} {answer : Result HowEnded Error}
+    (w : Went text given last faults later input after y answer) where
+  -- a session has a read fault where a bad line was met
+  met_fault : (n : ℕ) → (text_reading y).bad ≡ Some n → IsErrOf answer error.ReadFault
+  met_fault n is = w.risen (omega (arith, w.reading.count, w.reading.met refl n is))
 
--- and where none was met, the input failed
-unmet_rose : {I : Type 0} (text : I → Option (List ℕ)) (given : I → List ℕ) (last : I → LastAnswer) (faults : I → ℕ) (later : I → I → Type 0) (input after : I) (y : HexSource I) (answer : Result HowEnded Error) →
-    Went text given last faults later input after y answer → (text_reading y).bad ≡ None → IsErrOf answer error.ReadFault → Rose (faults input) (faults after)
-unmet_rose {I} text given last faults later input after y answer w none e =
-    let same : 0 ≡ (text_reading y).bad_faults = (w.reading.unmet none).1 in
-    subst (λ (a : I). Rose (faults input) (faults a)) (sym w.same) (omega (arith, w.rose e, same))
+  -- and where none was met, the input failed
+  unmet_rose : (text_reading y).bad ≡ None → IsErrOf answer error.ReadFault → Rose (faults input) (faults after)
+  unmet_rose none e =
+      let same : 0 ≡ (text_reading y).bad_faults = (w.reading.unmet none).1 in
+      subst (λ (a : I). Rose (faults input) (faults a)) (sym w.same) (omega (arith, w.rose e, same))
 
--- what a call says of the input that the source read
-pub went_input : {I : Type 0} (text : I → Option (List ℕ)) (given : I → List ℕ) (last : I → LastAnswer) (faults : I → ℕ) (later : I → I → Type 0) (input after : I) (y : HexSource I) (answer : Result HowEnded Error) →
-    Went text given last faults later input after y answer → LentInput text given faults later input after
-went_input {I} text given last faults later input after y answer w =
-    subst (λ (a : I). LentInput text given faults later input a) (sym w.same) (lent_by text given last faults later input (text_reading y) w.reading)
+  -- what a call says of the input that the source read
+  pub went_input : LentInput text given faults later input after
+  went_input = subst (λ (a : I). LentInput text given faults later input a) (sym w.same) (lent_by text given last faults later input (text_reading y) w.reading)
 
--- what the input tells is what is unread behind the bytes held
-told_after : {I : Type 0} (text : I → Option (List ℕ)) (given : I → List ℕ) (last : I → LastAnswer) (faults : I → ℕ) (later : I → I → Type 0) (input after : I) (y : HexSource I) (answer : Result HowEnded Error) (t : List ℕ) →
-    Went text given last faults later input after y answer → text input ≡ Some t → unread text (text_reading y) ≡ text after
-told_after text given last faults later input after y answer t w told = sym (w.reading.told t told told) ∙ ap text (sym w.same)
+-- what a source says of its pieces
+abbrev pub view_of : {I : Type 0} → (I → Option (List ℕ)) → HexSource I → SourceView
+view_of text s = record { left = left_of text (text_reading s); given = (text_reading s).pieces }
 
-none_at_end : (text : List ℕ) → IsAtEnd text → bad_line_of text ≡ None
-unfolding bad_line_of
-none_at_end text (inl e) = ap bad_line_of e
-none_at_end [] (inr e) = refl
-none_at_end (b ∷ bs) (inr e) = let newline : b ≡ 10 = cc in rw newline refl
+-- a text that begins with the bytes that the input gave
+abbrev pub Begins : {I : Type 0} → (I → List ℕ) → I → HexSource I → List ℕ → Option (List ℕ) → Type 0
+Begins given input y t left = TextBegins given input (text_reading y).input (text_reading y).ended t left
 
-no_number : (line : ℕ) (o : Option ℕ) → number_from line o ≡ None → IsSome o → ⊥
-no_number line None e some = cc
-no_number line (Some n) e some = cc
+module _
+    {I : Type 0} {text : I → Option (List ℕ)} {given : I → List ℕ} {last : I → LastAnswer} {faults : I → ℕ} {later : I → I → Type 0} {input after : I} {y : HexSource I} {answer : Result HowEnded Error}
+    (w : Went text given last faults later input after y answer) {t : List ℕ} {left : Option (List ℕ)} (b : Begins given input y t left) where
+  abbrev bytes : List ℕ
+  bytes = given_since given input (text_reading y).input
 
--- at the source's end no line of the text was bad
-no_bad_line : {I : Type 0} (text : I → Option (List ℕ)) (given : I → List ℕ) (last : I → LastAnswer) (faults : I → ℕ) (later : I → I → Type 0) (input after : I) (y : HexSource I) (answer : Result HowEnded Error) (t : List ℕ) (n : ℕ) →
-    Went text given last faults later input after y answer → text input ≡ Some t → IsSourceEnd answer → number_from 0 (bad_line_of t) ≡ Some n → ⊥
-no_bad_line text given last faults later input after y answer t n w told end bad =
-    let p = later_text text given last faults later (fresh input) (text_reading y) w.reading t told in
-    let here : IsAtEnd (y.held ++ p.rest) = w.ends t told (w.last_end end) p.rest p.left_is in
-    let none = p.bad ∙ ap (number_from y.line) (none_at_end (y.held ++ p.rest) here) in
-    absurd cc
+  gave : given (text_reading y).input ≡ given input ++ bytes
+  gave = gave_since text given last faults later (fresh input) (text_reading y) w.reading
+
+  -- the pieces that are left of the text
+  abbrev behind : List Piece
+  behind = pieces_of (y.held ++ b.more)
+
+  pieces_are : pieces_of t ≡ (text_reading y).pieces ++ behind
+  pieces_are = ap pieces_of b.text_is ∙ pieces_since text given last faults later (fresh input) (text_reading y) w.reading refl refl b.more b.ends
+
+  -- they are the pieces of the session
+  are_pieces : (x : HexSource I) → text_reading x ≡ fresh input → ArePieces (view_of text x) (view_of text y) (IsSourceEnd answer) (pieces_of t) (Some behind)
+  are_pieces x new = inr (record {
+    came = (text_reading y).pieces;
+    more = behind;
+    gave = ap (λ (r : Reading I). r.pieces ++ (text_reading y).pieces) (sym new);
+    told_is = pieces_are;
+    left_is = refl;
+    ends = λ end. spent_at_end y.held b.more y.ended (w.truly.ends (w.last_end end)) b.ends;
+  })
+
+  -- at the source's end no line of the text was bad
+  no_bad_line : (n : ℕ) → IsSourceEnd answer → number_from 0 (bad_line_of t) ≡ Some n → ⊥
+  no_bad_line n end bad =
+      let none : bad_line_of t ≡ None =
+      ap bad_line_of b.text_is ∙ no_bad_line_given text given last faults later (fresh input) (text_reading y) w.reading refl bytes b.more gave b.ends (w.truly.ends (w.last_end end)) in
+      let number : number_from 0 (bad_line_of t) ≡ None = ap (number_from 0) none in
+      absurd cc
+
+  -- a bad line that was met is the first of the text
+  number_is : (n : ℕ) → (text_reading y).bad ≡ Some n → number_from 0 (bad_line_of t) ≡ Some n
+  number_is n is =
+      ap (λ (v : List ℕ). number_from 0 (bad_line_of v)) b.text_is
+      ∙ bad_number_given text given last faults later (fresh input) (text_reading y) w.reading refl refl bytes b.more gave b.ends n (w.reading.holds refl n is)
+
+  -- and no piece is left behind it
+  none_behind : (n : ℕ) → (text_reading y).bad ≡ Some n → Some behind ≡ Some []
+  none_behind n is = ap (λ (v : List Piece). Some v) (spent_at_bad_line y.held b.more y.ended (text_reading y).line n (w.reading.holds refl n is) b.ends)
+
+  -- where no whole line is held, the pieces given are those of the whole lines
+  lines_given : HoldsNoLine y.held y.ended → AreGiven t left (text_reading y).pieces
+  lines_given no_line = record {
+    rest = b.more;
+    left_is = b.left_is;
+    given = bytes;
+    text_is = b.text_is;
+    spelled = whole_lines_given text given last faults later (fresh input) (text_reading y) w.reading refl refl bytes gave no_line;
+  }
 
 -- ---- the answer
 
@@ -235,7 +269,7 @@ ended_of_handled setup pieces left readings old new took_old took_new none h = e
 
 -- ---- what a session says
 
--- what a session says of the pieces that its source told
+-- what a session says of the pieces of its source
 pub record Says (setup : Setup) (pieces : List Piece) (left : Option (List Piece)) (readings readings_left : Option (List ℕ)) (answer : Result HowEnded Error) (old new : List EisRequest) (took_old took_new : Option Piece) : Type 0 where
   pub answers : AnswersAs (session setup pieces).answer answer
   pub gives : IsDecided answer → HandsOut setup (session setup pieces).handled readings old new
@@ -244,44 +278,19 @@ pub record Says (setup : Setup) (pieces : List Piece) (left : Option (List Piece
   pub handled : IsErrOf answer error.ReadFault → Handled setup pieces left readings old new took_old took_new
   pub cut : IsCutShort answer → CutShort setup pieces left readings old new took_old took_new
 
--- the same over a source that went on, and the bad line that it met
-pub record Served {I : Type 0} (text : I → Option (List ℕ)) (given : I → List ℕ) (last : I → LastAnswer) (faults : I → ℕ) (later : I → I → Type 0) (input after : I) (y : HexSource I) (setup : Setup) (t : List ℕ) (readings readings_left : Option (List ℕ)) (answer : Result HowEnded Error) (old new : List EisRequest) (took_old took_new : Option Piece) : Type 0 where
+-- the same over a source that went on, of the pieces of a text
+pub record Served {I : Type 0} (text : I → Option (List ℕ)) (given : I → List ℕ) (last : I → LastAnswer) (faults : I → ℕ) (later : I → I → Type 0) (input after : I) (y : HexSource I) (setup : Setup) (t : List ℕ) (left readings readings_left : Option (List ℕ)) (answer : Result HowEnded Error) (old new : List EisRequest) (took_old took_new : Option Piece) : Type 0 where
   pub went : Went text given last faults later input after y answer
-  pub told : text input ≡ Some t
-  pub says : Says setup (pieces_of t) (left_of text (text_reading y)) readings readings_left answer old new took_old took_new
+  pub begins : Begins given input y t left
+  pub says : Says setup (pieces_of t) (Some (pieces_of (y.held ++ begins.more))) readings readings_left answer old new took_old took_new
 
-pub line_ends : {I : Type 0} (text : I → Option (List ℕ)) (given : I → List ℕ) (last : I → LastAnswer) (faults : I → ℕ) (later : I → I → Type 0) (input after : I) (y : HexSource I) (setup : Setup) (t : List ℕ) (readings readings_left : Option (List ℕ)) (answer : Result HowEnded Error) (old new : List EisRequest) (took_old took_new : Option Piece) (bad : Option ℕ) →
-    Served text given last faults later input after y setup t readings readings_left answer old new took_old took_new → bad ≡ (text_reading y).bad →
-    IsDecidedLine (last_line_of bad answer) → EndsAs (end_of setup t) (last_line_of bad answer)
-line_ends text given last faults later input after y setup t readings readings_left answer old new took_old took_new None s is d =
-    answered (session setup (pieces_of t)).answer (number_from 0 (bad_line_of t)) answer s.says.answers d (λ n bad end. no_bad_line text given last faults later input after y answer t n s.went s.told end bad)
-line_ends text given last faults later input after y setup t readings readings_left answer old new took_old took_new (Some n) s is d =
-    let fault = met_fault text given last faults later input after y answer n s.went (sym is) in
-    let at_the_end = ended_of_handled setup (pieces_of t) (left_of text (text_reading y)) readings old new took_old took_new (spent_told text given last faults later (fresh input) (text_reading y) s.went.reading refl n (sym is) t s.told) (s.says.handled fault) in
-    ended_bad (session setup (pieces_of t)).answer (number_from 0 (bad_line_of t)) n at_the_end (number_told text given last faults later (fresh input) (text_reading y) s.went.reading refl n (sym is) t s.told)
-
-pub line_handles : {I : Type 0} (text : I → Option (List ℕ)) (given : I → List ℕ) (last : I → LastAnswer) (faults : I → ℕ) (later : I → I → Type 0) (input after : I) (y : HexSource I) (setup : Setup) (t : List ℕ) (readings readings_left : Option (List ℕ)) (answer : Result HowEnded Error) (old new : List EisRequest) (took_old took_new : Option Piece) (bad : Option ℕ) →
-    Served text given last faults later input after y setup t readings readings_left answer old new took_old took_new → bad ≡ (text_reading y).bad →
-    IsDecidedLine (last_line_of bad answer) → Both setup (session setup (pieces_of t)).handled readings old new took_old took_new
-line_handles text given last faults later input after y setup t readings readings_left answer old new took_old took_new None s is d = (s.says.gives d, s.says.replied d)
-line_handles text given last faults later input after y setup t readings readings_left answer old new took_old took_new (Some n) s is d =
-    let fault = met_fault text given last faults later input after y answer n s.went (sym is) in
-    all_of_handled setup (pieces_of t) (left_of text (text_reading y)) readings old new took_old took_new (spent_told text given last faults later (fresh input) (text_reading y) s.went.reading refl n (sym is) t s.told) (s.says.handled fault)
-
-pub line_clock : {I : Type 0} (text : I → Option (List ℕ)) (given : I → List ℕ) (last : I → LastAnswer) (faults : I → ℕ) (later : I → I → Type 0) (input after : I) (y : HexSource I) (setup : Setup) (t : List ℕ) (readings readings_left : Option (List ℕ)) (answer : Result HowEnded Error) (old new : List EisRequest) (took_old took_new : Option Piece) (bad : Option ℕ) →
-    Served text given last faults later input after y setup t readings readings_left answer old new took_old took_new → IsAnswered (last_line_of bad answer) → LeftReadings setup (session setup (pieces_of t)).handled readings readings_left
-line_clock text given last faults later input after y setup t readings readings_left answer old new took_old took_new None s d = s.says.clock d
-line_clock text given last faults later input after y setup t readings readings_left answer old new took_old took_new (Some n) s d = absurd d
-
-pub line_cut : {I : Type 0} (text : I → Option (List ℕ)) (given : I → List ℕ) (last : I → LastAnswer) (faults : I → ℕ) (later : I → I → Type 0) (input after : I) (y : HexSource I) (setup : Setup) (t : List ℕ) (readings readings_left : Option (List ℕ)) (answer : Result HowEnded Error) (old new : List EisRequest) (took_old took_new : Option Piece) (bad : Option ℕ) →
-    Served text given last faults later input after y setup t readings readings_left answer old new took_old took_new → IsCutShortLine (last_line_of bad answer) →
-    (unread : List ℕ) × CutShort setup (pieces_of t) (pieces_left unread (text after)) readings old new took_old took_new
-line_cut {I} text given last faults later input after y setup t readings readings_left answer old new took_old took_new None s d = (
-  y.held,
-  subst (λ (o : Option (List ℕ)). CutShort setup (pieces_of t) (pieces_left y.held o) readings old new took_old took_new)
-      (told_after text given last faults later input after y answer t s.went s.told) (s.says.cut d),
-)
-line_cut text given last faults later input after y setup t readings readings_left answer old new took_old took_new (Some n) s d = absurd d
+pub served : {I : Type 0} (text : I → Option (List ℕ)) (given : I → List ℕ) (last : I → LastAnswer) (faults : I → ℕ) (later : I → I → Type 0) (input after : I) (x y : HexSource I) (setup : Setup) (t : List ℕ) (left readings readings_left : Option (List ℕ)) (answer : Result HowEnded Error) (old new : List EisRequest) (took_old took_new : Option Piece) →
+    text_reading x ≡ fresh input → Went text given last faults later input after y answer → IsText text given last input after t left →
+    ((pieces : List Piece) (rest : Option (List Piece)) → ArePieces (view_of text x) (view_of text y) (IsSourceEnd answer) pieces rest → Says setup pieces rest readings readings_left answer old new took_old took_new) →
+    Served text given last faults later input after y setup t left readings readings_left answer old new took_old took_new
+served {I} text given last faults later input after x y setup t left readings readings_left answer old new took_old took_new fresh_one w is says =
+    let b = text_begins text given last faults later input (text_reading y) w.reading t left (subst (λ (a : I). IsText text given last input a t left) w.same is) in
+    record { went = w; begins = b; says = says (pieces_of t) (Some (pieces_of (y.held ++ b.more))) (are_pieces w b x fresh_one) }
 
 answer_same : (answer : Result HowEnded Error) → last_line.Answer answer ≡ last_line.Answer (Err error.ReadFault) → answer ≡ Err error.ReadFault
 answer_same answer e = cc
@@ -289,26 +298,11 @@ answer_same answer e = cc
 bad_not_answer : (n : ℕ) (answer : Result HowEnded Error) → last_line.BadLine n ≡ last_line.Answer answer → ⊥
 bad_not_answer n answer e = cc
 
-pub line_fault : {I : Type 0} (text : I → Option (List ℕ)) (given : I → List ℕ) (last : I → LastAnswer) (faults : I → ℕ) (later : I → I → Type 0) (input after : I) (y : HexSource I) (answer : Result HowEnded Error) (bad : Option ℕ) →
-    Went text given last faults later input after y answer → bad ≡ (text_reading y).bad → IsReadFault (last_line_of bad answer) → Rose (faults input) (faults after)
-line_fault text given last faults later input after y answer None w is e = unmet_rose text given last faults later input after y answer w (sym is) (answer_same answer e)
-line_fault text given last faults later input after y answer (Some n) w is e = absurd (bad_not_answer n (Err error.ReadFault) e)
-
 bad_same : (n m : ℕ) → last_line.BadLine n ≡ last_line.BadLine m → n ≡ m
 bad_same n m e = cc
 
 answer_not_bad : (answer : Result HowEnded Error) (n : ℕ) → last_line.Answer answer ≡ last_line.BadLine n → ⊥
 answer_not_bad answer n e = cc
-
--- a bad line was met, whatever the input tells
-pub line_met : {I : Type 0} (text : I → Option (List ℕ)) (given : I → List ℕ) (last : I → LastAnswer) (faults : I → ℕ) (later : I → I → Type 0) (input after : I) (y : HexSource I) (answer : Result HowEnded Error) (bad : Option ℕ) (n : ℕ) →
-    Went text given last faults later input after y answer → bad ≡ (text_reading y).bad → IsBadLine n (last_line_of bad answer) → MetBadLine given last input after n
-line_met text given last faults later input after y answer None n w is e = absurd (answer_not_bad answer n e)
-line_met {I} text given last faults later input after y answer (Some m) n w is e =
-    subst (λ (a : I). MetBadLine given last input a n) (sym w.same)
-    (met_bad_line text given last faults later input (text_reading y) n w.reading (sym is ∙ ap (λ k. Some k) (bad_same m n e)))
-
--- ---- what was given
 
 -- of all pieces the first k were taken, and these are left behind them
 record FirstTaken (all first : List Piece) (k : ℕ) : Type 0 where
@@ -328,35 +322,71 @@ no_line_held held ended bad (inl q) none = q
 no_line_held held ended None (inr some) none = absurd cc
 no_line_held held ended (Some n) (inr some) none = absurd cc
 
-given_of : {I : Type 0} (text : I → Option (List ℕ)) (given : I → List ℕ) (last : I → LastAnswer) (faults : I → ℕ) (later : I → I → Type 0) (input after : I) (y : HexSource I) (setup : Setup) (t : List ℕ) (readings readings_left : Option (List ℕ)) (answer : Result HowEnded Error) (old new : List EisRequest) (took_old took_new : Option Piece) →
-    Served text given last faults later input after y setup t readings readings_left answer old new took_old took_new → (text_reading y).bad ≡ None → IsErrOf answer error.ReadFault →
-    HandledGiven setup t (text after) readings old new took_old took_new
-given_of {I} text given last faults later input after y setup t readings readings_left answer old new took_old took_new s none e =
-    let w = s.went in
-    let no_line = no_line_held y.held y.ended (text_reading y).bad (w.truly.fails (w.last_fault e)) none in
-    let p = later_text text given last faults later (fresh input) (text_reading y) w.reading t s.told in
-    let h = s.says.handled e in
-    let behind = pieces_of (y.held ++ p.rest) in
-    let left : drop h.k (pieces_of t) ≡ behind =
-    pieces_same (drop h.k (pieces_of t)) behind (sym h.took.left_is ∙ ap (option_map (λ (v : List ℕ). pieces_of (y.held ++ v))) p.left_is) in
-    let f = first_taken (pieces_of t) p.pieces behind h.k h.took.within p.handed left in
-    record {
-      pieces = p.pieces;
-      given =
-          subst (λ (o : Option (List ℕ)). AreGiven t o p.pieces) (told_after text given last faults later input after y answer t w s.told)
-          (are_given t y.held (unread text (text_reading y)) 0 y.line y.ended p no_line);
-      first = (behind, p.handed);
-      goes_on = λ j low high. h.goes_on j low (omega (arith, high, f.number));
-      requests = subst (λ (v : List Piece). HandsOut setup (accepted setup (stream v)) readings old new) f.same h.requests;
-      replies = subst (λ (v : List Piece). Replied setup (accepted setup (stream v)) took_old took_new) f.same h.replies;
-    }
+module _
+    {I : Type 0} {text : I → Option (List ℕ)} {given : I → List ℕ} {last : I → LastAnswer} {faults : I → ℕ} {later : I → I → Type 0} {input after : I} {y : HexSource I} {answer : Result HowEnded Error}
+    (w : Went text given last faults later input after y answer) where
+  pub line_fault : (bad : Option ℕ) → bad ≡ (text_reading y).bad → IsReadFault (last_line_of bad answer) → Rose (faults input) (faults after)
+  line_fault None is e = unmet_rose w (sym is) (answer_same answer e)
+  line_fault (Some n) is e = absurd (bad_not_answer n (Err error.ReadFault) e)
 
-pub line_given : {I : Type 0} (text : I → Option (List ℕ)) (given : I → List ℕ) (last : I → LastAnswer) (faults : I → ℕ) (later : I → I → Type 0) (input after : I) (y : HexSource I) (setup : Setup) (t : List ℕ) (readings readings_left : Option (List ℕ)) (answer : Result HowEnded Error) (old new : List EisRequest) (took_old took_new : Option Piece) (bad : Option ℕ) →
-    Served text given last faults later input after y setup t readings readings_left answer old new took_old took_new → bad ≡ (text_reading y).bad → IsReadFault (last_line_of bad answer) →
-    HandledGiven setup t (text after) readings old new took_old took_new
-line_given text given last faults later input after y setup t readings readings_left answer old new took_old took_new None s is e =
-    given_of text given last faults later input after y setup t readings readings_left answer old new took_old took_new s (sym is) (answer_same answer e)
-line_given text given last faults later input after y setup t readings readings_left answer old new took_old took_new (Some n) s is e = absurd (bad_not_answer n (Err error.ReadFault) e)
+  -- a bad line was met
+  pub line_met : (bad : Option ℕ) (n : ℕ) → bad ≡ (text_reading y).bad → IsBadLine n (last_line_of bad answer) → MetBadLine given last input after n
+  line_met None n is e = absurd (answer_not_bad answer n e)
+  line_met (Some m) n is e =
+      subst (λ (a : I). MetBadLine given last input a n) (sym w.same)
+      (met_bad_line text given last faults later input (text_reading y) n w.reading (sym is ∙ ap (λ k. Some k) (bad_same m n e)))
+
+module _
+    {I : Type 0} {text : I → Option (List ℕ)} {given : I → List ℕ} {last : I → LastAnswer} {faults : I → ℕ} {later : I → I → Type 0} {input after : I} {y : HexSource I} {setup : Setup}
+    {t : List ℕ} {left readings readings_left : Option (List ℕ)} {answer : Result HowEnded Error} {old new : List EisRequest} {took_old took_new : Option Piece}
+    (s : Served text given last faults later input after y setup t left readings readings_left answer old new took_old took_new) where
+  abbrev behind_text : List Piece
+  behind_text = pieces_of (y.held ++ s.begins.more)
+
+  pub line_ends : (bad : Option ℕ) → bad ≡ (text_reading y).bad → IsDecidedLine (last_line_of bad answer) → EndsAs (end_of setup t) (last_line_of bad answer)
+  line_ends None is d =
+      answered (session setup (pieces_of t)).answer (number_from 0 (bad_line_of t)) answer s.says.answers d (λ n bad end. no_bad_line s.went s.begins n end bad)
+  line_ends (Some n) is d =
+      let fault = met_fault s.went n (sym is) in
+      let at_the_end = ended_of_handled setup (pieces_of t) (Some behind_text) readings old new took_old took_new (none_behind s.went s.begins n (sym is)) (s.says.handled fault) in
+      ended_bad (session setup (pieces_of t)).answer (number_from 0 (bad_line_of t)) n at_the_end (number_is s.went s.begins n (sym is))
+
+  pub line_handles : (bad : Option ℕ) → bad ≡ (text_reading y).bad → IsDecidedLine (last_line_of bad answer) → Both setup (session setup (pieces_of t)).handled readings old new took_old took_new
+  line_handles None is d = (s.says.gives d, s.says.replied d)
+  line_handles (Some n) is d =
+      let fault = met_fault s.went n (sym is) in
+      all_of_handled setup (pieces_of t) (Some behind_text) readings old new took_old took_new (none_behind s.went s.begins n (sym is)) (s.says.handled fault)
+
+  pub line_clock : (bad : Option ℕ) → IsAnswered (last_line_of bad answer) → LeftReadings setup (session setup (pieces_of t)).handled readings readings_left
+  line_clock None d = s.says.clock d
+  line_clock (Some n) d = absurd d
+
+  pub line_cut : (bad : Option ℕ) → IsCutShortLine (last_line_of bad answer) →
+      (unread : List ℕ) × CutShort setup (pieces_of t) (pieces_left unread left) readings old new took_old took_new
+  line_cut None d = (
+    y.held,
+    subst (λ (o : Option (List ℕ)). CutShort setup (pieces_of t) (pieces_left y.held o) readings old new took_old took_new) (sym s.begins.left_is) (s.says.cut d),
+  )
+  line_cut (Some n) d = absurd d
+
+  given_of : (text_reading y).bad ≡ None → IsErrOf answer error.ReadFault → HandledGiven setup t left readings old new took_old took_new
+  given_of none e =
+      let no_line = no_line_held y.held y.ended (text_reading y).bad (s.went.truly.fails (s.went.last_fault e)) none in
+      let h = s.says.handled e in
+      let whole = pieces_are s.went s.begins in
+      let f = first_taken (pieces_of t) (text_reading y).pieces behind_text h.k h.took.within whole (sym (pieces_same behind_text (drop h.k (pieces_of t)) h.took.left_is)) in
+      record {
+        pieces = (text_reading y).pieces;
+        given = lines_given s.went s.begins no_line;
+        first = (behind_text, whole);
+        goes_on = λ j low high. h.goes_on j low (omega (arith, high, f.number));
+        requests = subst (λ (v : List Piece). HandsOut setup (accepted setup (stream v)) readings old new) f.same h.requests;
+        replies = subst (λ (v : List Piece). Replied setup (accepted setup (stream v)) took_old took_new) f.same h.replies;
+      }
+
+  pub line_given : (bad : Option ℕ) → bad ≡ (text_reading y).bad → IsReadFault (last_line_of bad answer) → HandledGiven setup t left readings old new took_old took_new
+  line_given None is e = given_of (sym is) (answer_same answer e)
+  line_given (Some n) is e = absurd (bad_not_answer n (Err error.ReadFault) e)
 
 -- ---- nothing was handled
 

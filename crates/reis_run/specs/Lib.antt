@@ -13,6 +13,7 @@ pub use Rattle.ei_serve.specs.Serving
 pub use Rattle.ei_serve.specs.Standing
 pub use Rattle.reis_lines.specs.Given
 pub use Rattle.reis_lines.specs.HexSource
+pub use Rattle.reis_lines.specs.InputText
 pub use Rattle.reis_lines.specs.Text
 pub use Rattle.reis_demo.specs.Generated
 pub use Rattle.reis_demo.specs.Summary

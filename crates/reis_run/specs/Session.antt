@@ -13,6 +13,7 @@ use Rattle.ei_serve.specs.declared.session.Ended.{Ended as HowEnded}
 use Rattle.ei_serve.specs.Serving.{AnswersAs, IsDecided, IsCutShort, TookPieces, AreReadings, LeftReadings, HandsOut, Replied}
 use Rattle.ei_types.specs.declared.error.Error.{Error}
 use Rattle.ei_types.specs.declared.error.Error.TheVariants as error
+use Rattle.reis_lines.specs.InputText.{ForEachText}
 use Rattle.reis_lines.specs.Text.{pieces_of, bad_line_of, number_from, AreGiven}
 use Rattle.reis_run.specs.Tell.{Report}
 use Rattle.reis_run.specs.declared.session.LastLine.{LastLine}
@@ -71,10 +72,6 @@ IsCutShortLine (last_line.BadLine n) = ⊥
 
 -- ---- what it handles
 
--- what is so of a text, where it was told
-abbrev pub ForText : Option (List ℕ) → (List ℕ → Type 0) → Type 0
-ForText told P = (text : List ℕ) → told ≡ Some text → P text
-
 -- At a read fault the messages of exactly the pieces of the whole lines given were handled, and the session was over with none of these.
 pub record HandledGiven
     (setup : Setup) (text : List ℕ) (left readings : Option (List ℕ)) (out_old out_new : List EisRequest) (took_old took_new : Option Piece) : Type 0 where
@@ -127,16 +124,16 @@ pub record IsOfFirst (setup : Setup) (pieces : List Piece) (left readings : Opti
   pub replied : 0 < k → (more : List ℕ) × (report.reply ≡ reply_bytes setup (accepted setup (stream (take (k - 1) pieces))) ++ more)
   pub requests_are : AreRequests setup reached readings report.requests
 
--- The report is that of the session over the text that an input told. Where the input failed it is that of the lines given, and
--- where memory ran out that of the first messages. A read fault is reported only where the input failed, and a bad line only where
--- one was met, told or not.
+-- The report is that of the session over each text of an input: one that it told, or the bytes that it gave with any behind them.
+-- Where the input failed it is that of the lines given, and where memory ran out that of the first messages. A read fault is
+-- reported only where the input failed, and a bad line only where one was met.
 pub record IsReport
-    (setup : Setup) (told left readings readings_left : Option (List ℕ)) (failed : Type 0) (met : ℕ → Type 0) (report : Report) : Type 0 where
-  pub ends : ForText told (λ text. IsDecidedLine report.last → EndsAs (end_of setup text) report.last)
-  pub decided : ForText told (λ text. IsDecidedLine report.last → IsOf setup (session setup (pieces_of text)).handled readings report)
-  pub clock : ForText told (λ text. IsAnswered report.last → LeftReadings setup (session setup (pieces_of text)).handled readings readings_left)
-  pub given : ForText told (λ text. IsReadFault report.last → IsOfGiven setup text left readings report)
-  pub cut_short : ForText told (λ text. IsCutShortLine report.last → IsOfFirst setup (pieces_of text) left readings report)
+    (setup : Setup) (is_text : List ℕ → Option (List ℕ) → Type 0) (readings readings_left : Option (List ℕ)) (failed : Type 0) (met : ℕ → Type 0) (report : Report) : Type 0 where
+  pub ends : ForEachText is_text (λ text left. IsDecidedLine report.last → EndsAs (end_of setup text) report.last)
+  pub decided : ForEachText is_text (λ text left. IsDecidedLine report.last → IsOf setup (session setup (pieces_of text)).handled readings report)
+  pub clock : ForEachText is_text (λ text left. IsAnswered report.last → LeftReadings setup (session setup (pieces_of text)).handled readings readings_left)
+  pub given : ForEachText is_text (λ text left. IsReadFault report.last → IsOfGiven setup text left readings report)
+  pub cut_short : ForEachText is_text (λ text left. IsCutShortLine report.last → IsOfFirst setup (pieces_of text) left readings report)
   pub fault : IsReadFault report.last → failed
   pub bad_line : (n : ℕ) → IsBadLine n report.last → met n
 

@@ -12,11 +12,12 @@ ghost use Rattle.ei_serve.specs.declared.session.Ended.TheVariants as ended;
 ghost use Rattle.reis_demo.specs.Generated.{demo_setup};
 ghost use Rattle.reis_demo.specs.Summary.{demo_session, demo_lines};
 ghost use Rattle.reis_lines.specs.Given.{MetBadLine};
+ghost use Rattle.reis_lines.specs.InputText.{IsText, ForText};
 ghost use Rattle.reis_lines.specs.Lent.{LentInput};
 ghost use Rattle.reis_lines.specs.Text.{pieces_of, bad_line_of};
 ghost use Rattle.reis_run.specs.Words.{command_of};
 ghost use Rattle.reis_run.specs.Tell.{report_text, traced_text, told_text, Tells, Reports};
-ghost use Rattle.reis_run.specs.Session.{ForText, end_of, IsReport, status_of_end, IsStatus, HasReadCause};
+ghost use Rattle.reis_run.specs.Session.{end_of, IsReport, status_of_end, IsStatus, HasReadCause};
 ghost use Rattle.reis_run.specs.Asked.{setup_with, ForServe, ForTrace, ForSession, ForDemo};
 
 use crate::session::serve_lines;
@@ -64,13 +65,15 @@ fn serve_command<I: Input, O: Sink, C: Clock>(
     clock: &mut C,
 ) -> u8
     requires lawful { bits_of setup.capabilities ≤ all_bits }
-    ensures report { Reports (IsReport (setup_of setup) (I.text input.old) (I.text input.new) (C.readings clock.old) (C.readings clock.new)
+    ensures report { Reports (IsReport (setup_of setup) (IsText I.text I.given I.last input.old input.new)
+        (C.readings clock.old) (C.readings clock.new)
         (Rose (I.faults input.old) (I.faults input.new)) (MetBadLine I.given I.last input.old input.new))
         (told_text form) result (O.taken output.old) (O.taken output.new) }
-    ensures status { ForText (I.text input.old) (λ text.
+    ensures status { ForText I.text I.given I.last input.old input.new (λ text left.
         IsStatus (status_of_end (end_of (setup_of setup) text)) (Rose (I.faults input.old) (I.faults input.new)) result) }
     ensures cause { HasReadCause result (Rose (I.faults input.old) (I.faults input.new)) (MetBadLine I.given I.last input.old input.new) }
-    ensures complete { ForText (I.text input.old) (λ text. bad_line_of text ≡ None → AreComplete (setup_of setup) (pieces_of text) →
+    ensures complete { ForText I.text I.given I.last input.old input.new (λ text left.
+        bad_line_of text ≡ None → AreComplete (setup_of setup) (pieces_of text) →
         (Rose (I.faults input.old) (I.faults input.new) → ⊥) → (Rose (O.faults output.old) (O.faults output.new) → ⊥) →
         (result ≡ 0) ⊎ (result ≡ 5)) }
     ensures served { result ≡ 2 → ⊥ }
@@ -133,12 +136,14 @@ pub fn run<I: Input, O: Sink, C: Clock>(
     ensures unasked { command_of words.now ≡ None → input.new ≡ input.old }
     ensures unread { command_of words.now ≡ None → clock.new ≡ clock.old }
     ensures served { IsSome (command_of words.now) → result ≡ 2 → ⊥ }
-    // the words of `serve`: the report of the session over the lines that the input gives
-    ensures report { ForServe words.now (λ setup. Reports (IsReport setup (I.text input.old) (I.text input.new) (C.readings clock.old) (C.readings clock.new)
+    // the words of `serve`: the report of the session over the lines of the input, of a text that it told or of what it gave
+    ensures report { ForServe words.now (λ setup. Reports (IsReport setup (IsText I.text I.given I.last input.old input.new)
+        (C.readings clock.old) (C.readings clock.new)
         (Rose (I.faults input.old) (I.faults input.new)) (MetBadLine I.given I.last input.old input.new))
         report_text result (O.taken output.old) (O.taken output.new)) }
     // the words of `trace`: the same, and behind it the trace of the reply bytes
-    ensures trace { ForTrace words.now (λ setup. Reports (IsReport setup (I.text input.old) (I.text input.new) (C.readings clock.old) (C.readings clock.new)
+    ensures trace { ForTrace words.now (λ setup. Reports (IsReport setup (IsText I.text I.given I.last input.old input.new)
+        (C.readings clock.old) (C.readings clock.new)
         (Rose (I.faults input.old) (I.faults input.new)) (MetBadLine I.given I.last input.old input.new))
         traced_text result (O.taken output.old) (O.taken output.new)) }
     // the words of `demo`: six lines of the session over the generated stream, which ends with the disconnect
@@ -149,13 +154,14 @@ pub fn run<I: Input, O: Sink, C: Clock>(
         LeftReadings demo_setup (demo_session groups start).handled (C.readings clock.old) (C.readings clock.new)) }
     ensures demo_unasked { ForDemo words.now (λ groups start. input.new ≡ input.old) }
     // the status of `serve` and `trace`
-    ensures status { ForSession words.now (λ setup. ForText (I.text input.old) (λ text.
+    ensures status { ForSession words.now (λ setup. ForText I.text I.given I.last input.old input.new (λ text left.
         IsStatus (status_of_end (end_of setup text)) (Rose (I.faults input.old) (I.faults input.new)) result)) }
     // over any input, told or not: 3 only where it failed, or the bytes that it gave have a bad line, whole
     ensures cause { ForSession words.now (λ setup.
         HasReadCause result (Rose (I.faults input.old) (I.faults input.new)) (MetBadLine I.given I.last input.old input.new)) }
     // over a text of lines whose pieces make a good end sure, where neither the input nor the output fails
-    ensures complete { ForSession words.now (λ setup. ForText (I.text input.old) (λ text. bad_line_of text ≡ None → AreComplete setup (pieces_of text) →
+    ensures complete { ForSession words.now (λ setup. ForText I.text I.given I.last input.old input.new (λ text left.
+        bad_line_of text ≡ None → AreComplete setup (pieces_of text) →
         (Rose (I.faults input.old) (I.faults input.new) → ⊥) → (Rose (O.faults output.old) (O.faults output.new) → ⊥) →
         (result ≡ 0) ⊎ (result ≡ 5))) }
     // the input, the output and the clock: status 4 exactly where the output failed

@@ -8,9 +8,10 @@ ghost use Rattle.ei_session.specs.Served.{session};
 ghost use Rattle.ei_serve.specs.Standing.{setup_of};
 ghost use Rattle.ei_serve.specs.Serving.{HandsOut, Replied, LeftReadings, CutShort};
 ghost use Rattle.reis_lines.specs.Given.{MetBadLine};
+ghost use Rattle.reis_lines.specs.InputText.{ForText};
 ghost use Rattle.reis_lines.specs.Lent.{LentInput};
 ghost use Rattle.reis_lines.specs.Text.{pieces_of};
-ghost use Rattle.reis_run.specs.Session.{ForText, end_of, EndsAs, IsDecidedLine, IsAnswered, IsReadFault, IsCutShortLine, pieces_left, HandledGiven};
+ghost use Rattle.reis_run.specs.Session.{end_of, EndsAs, IsDecidedLine, IsAnswered, IsReadFault, IsCutShortLine, pieces_left, HandledGiven};
 ghost use Rattle.reis_run.specs.Session.{last_line_of, IsBadLine};
 
 use ei_backend::{Clock, Input, Tray};
@@ -50,20 +51,20 @@ pub(crate) fn serve_lines<I: Input, C: Clock>(
     requests: &mut Vec<EisRequest>,
 ) -> LastLine
     requires lawful { bits_of setup.capabilities ≤ all_bits }
-    // over an input that tells its text: the session over its pieces, or its first bad line
-    ensures ends { ForText (I.text input.old) (λ text. IsDecidedLine result → EndsAs (end_of (setup_of setup) text) result) }
-    ensures requests { ForText (I.text input.old) (λ text. IsDecidedLine result →
+    // over a text of the input, told or given: the session over its pieces, or its first bad line
+    ensures ends { ForText I.text I.given I.last input.old input.new (λ text left. IsDecidedLine result → EndsAs (end_of (setup_of setup) text) result) }
+    ensures requests { ForText I.text I.given I.last input.old input.new (λ text left. IsDecidedLine result →
         HandsOut (setup_of setup) (session (setup_of setup) (pieces_of text)).handled (C.readings clock.old) requests.old.items requests.new.items) }
-    ensures replies { ForText (I.text input.old) (λ text. IsDecidedLine result →
+    ensures replies { ForText I.text I.given I.last input.old input.new (λ text left. IsDecidedLine result →
         Replied (setup_of setup) (session (setup_of setup) (pieces_of text)).handled (Some reply.old.held) (Some reply.new.held)) }
-    ensures readings { ForText (I.text input.old) (λ text. IsAnswered result →
+    ensures readings { ForText I.text I.given I.last input.old input.new (λ text left. IsAnswered result →
         LeftReadings (setup_of setup) (session (setup_of setup) (pieces_of text)).handled (C.readings clock.old) (C.readings clock.new)) }
     // where the input failed, or the session was cut short
-    ensures given { ForText (I.text input.old) (λ text. IsReadFault result →
-        HandledGiven (setup_of setup) text (I.text input.new) (C.readings clock.old) requests.old.items requests.new.items
+    ensures given { ForText I.text I.given I.last input.old input.new (λ text left. IsReadFault result →
+        HandledGiven (setup_of setup) text left (C.readings clock.old) requests.old.items requests.new.items
         (Some reply.old.held) (Some reply.new.held)) }
-    ensures cut_short { ForText (I.text input.old) (λ text. IsCutShortLine result → (unread : List ℕ) ×
-        CutShort (setup_of setup) (pieces_of text) (pieces_left unread (I.text input.new)) (C.readings clock.old) requests.old.items requests.new.items
+    ensures cut_short { ForText I.text I.given I.last input.old input.new (λ text left. IsCutShortLine result → (unread : List ℕ) ×
+        CutShort (setup_of setup) (pieces_of text) (pieces_left unread left) (C.readings clock.old) requests.old.items requests.new.items
         (Some reply.old.held) (Some reply.new.held)) }
     // over any input
     ensures fault { IsReadFault result → Rose (I.faults input.old) (I.faults input.new) }

@@ -1,6 +1,7 @@
 //! Standard input, standard output and the clock, as the outside of the program.
 //!
-//! They tell nothing of what they will give or of what they took. Each error of theirs counts as a fault.
+//! They tell nothing of what they will give. Standard input says what it gave, and standard output what it took. Each error of
+//! theirs counts as a fault.
 
 ghost use Rattle.std.specs.Prelude.{◌≡◌, ◌<◌, ◌≤◌, ℕ, List, [], None, Some, IfOk, IfSome, length};
 ghost use Rattle.std.specs.Duration.{as_nanos};
@@ -9,7 +10,7 @@ ghost use Rattle.ei_backend.specs.Outside.{HasCause, HasPutCause, HasPutWant, Fe
 ghost use Rattle.ei_backend.specs.declared.outside.LastAnswer.TheVariants as answers;
 ghost use Rattle.reis_run.specs.StdIo.{Counts, IsSince, ReadsOrRepeats, faults_of_start, whole_micros};
 
-use ei_backend::{Clock, Fault, Given, Input, LastAnswer, PutError, Sink};
+use ei_backend::{Clock, Fault, Given, Input, LastAnswer, PutError, Sink, TakenPiece};
 use ei_spec::Handle;
 use std::io::{Read, Write};
 use std::time::{Clock as TimeSource, Duration, Instant};
@@ -86,23 +87,30 @@ impl<R: Read + Drop> Input for StdInput<R> {
     }
 }
 
-/// Standard output, of any writer. It has no place for handles, and never wants memory.
+/// Standard output, of any writer. It keeps nothing of what it took: that is for clauses alone. It has no place for handles: they
+/// go nowhere, and count as taken. It never wants memory.
 #[derive(Drop)]
 pub struct StdOutput<W: Write + Drop> {
     writer: W,
+    taken: TakenPiece,
     faults: u64,
 }
 
 impl<W: Write + Drop> StdOutput<W> {
     pub fn new(writer: W) -> Self
-        ensures { result.faults ≡ 0 }
+        ensures taken { result.taken.piece ≡ record { bytes = []; handles = [] } }
+        ensures faults { result.faults ≡ 0 }
     {
-        StdOutput { writer, faults: 0 }
+        StdOutput {
+            writer,
+            taken: TakenPiece::new(),
+            faults: 0,
+        }
     }
 }
 
 impl<W: Write + Drop> Sink for StdOutput<W> {
-    ghost taken = { λ _. None };
+    ghost taken = { λ s. Some s.taken.piece };
 
     ghost faults = { λ s. s.faults };
 
@@ -114,16 +122,19 @@ impl<W: Write + Drop> Sink for StdOutput<W> {
 
     ghost later_trans = { λ _ _ _ _ _. tt };
 
-    fn put(&mut self, bytes: &[u8], _handles: &[Handle]) -> Result<usize, PutError>
+    fn put(&mut self, bytes: &[u8], handles: &[Handle]) -> Result<usize, PutError>
         ensures size { IfOk result (λ n. IsPutSize n bytes.now) }
-        ensures taken { Puts None None result bytes.now _handles.now }
+        ensures taken { Puts (Some self.old.taken.piece) (Some self.new.taken.piece) result bytes.now handles.now }
         ensures cause { HasPutCause self.old.faults self.new.faults result }
         ensures want { HasPutWant 0 0 result }
         // beyond the trait's
         ensures counts { Counts result self.old.faults self.new.faults }
     {
         match self.writer.write(bytes) {
-            Ok(n) if n > 0 || bytes.is_empty() => Ok(n),
+            Ok(n) if n > 0 || bytes.is_empty() => {
+                self.taken.note(&bytes[..n], handles);
+                Ok(n)
+            }
             _ => {
                 count_fault(&mut self.faults);
                 Err(PutError::Fault)

@@ -19,7 +19,8 @@ use Rattle.ei_session.specs.Refusals.{Refusal as Cause}
 use Rattle.ei_session.specs.Served.{Answer, Outcome, Disconnect, End, UnexpectedEof, IdsExhausted, PieceLimit, HandleLimit, Refused, session, is_over}
 use Rattle.ei_session.specs.Served.{is_waiting, reading_of, accepted}
 use Rattle.ei_session.proofs.AllParts.{framed_readings, replies_prefix}
-use Rattle.ei_backend.specs.Outside.{with_more}
+use Rattle.ei_backend.specs.Outside.{SourceView, with_more}
+use Rattle.ei_backend.specs.Incoming.{Hands}
 use Rattle.ei_request.specs.declared.event.EisRequest.{EisRequest}
 use Rattle.ei_standing.specs.Standing.{handed_as, request_in_code}
 use Rattle.ei_types.specs.declared.error.Error.{Error}
@@ -32,7 +33,7 @@ use Rattle.ei_serve.specs.declared.session.Ended.TheVariants as ended
 use Rattle.ei_serve.specs.Around.{Around, around, AreDrawn}
 use Rattle.ei_serve.specs.Standing.{Stands}
 use Rattle.ei_serve.specs.Steps.{GivesOut, Replies, RepliesInPart, Goes, GoesInPart}
-use Rattle.ei_serve.specs.Taking.{Hands, with_next}
+use Rattle.ei_serve.specs.Taking.{with_next}
 use Rattle.ei_serve.specs.Refusing.{refusal_of, IsRefused}
 use Rattle.ei_serve.specs.Turning.{Closes, ClosesRefused, Finds, Stays, BreaksOff, Turns}
 use Rattle.ei_serve.specs.Serving.{AnswersAs, IsDecided}
@@ -226,12 +227,12 @@ module _ (setup : Setup) (fed : List Fed) (sent : Piece) (given ready coming : L
     times_now : readings_of setup (f ∷ fed) ≡ times ++ replicate frames_in time
     times_now = readings_more setup fed f
 
-    module _ (t : Session) (new : Piece) (coming_new : List EisRequest) (left_new : Option (List Piece)) (readings_new : Option (List ℕ)) where
+    module _ (t : Session) (new : Piece) (coming_new : List EisRequest) (had : List Piece) (source_new : SourceView) (readings_new : Option (List ℕ)) where
       abbrev x : Around
-      x = around (Some (piece ∷ [])) coming (Some unsent) (Some (replicate k time))
+      x = around (record { left = Some (piece ∷ []); given = had }) coming (Some unsent) (Some (replicate k time))
 
       abbrev y : Around
-      y = around left_new coming_new (Some new) readings_new
+      y = around source_new coming_new (Some new) readings_new
 
       abbrev after : Option (Result Ended Error) → ServerView
       after answer = record { session = t; unsent = new; requests = ready ++ coming_new; answer = answer }
@@ -283,8 +284,8 @@ module _ (setup : Setup) (fed : List Fed) (sent : Piece) (given ready coming : L
       }
 
       -- the piece that came is the one that was lent
-      lent_is : (q : Piece) → Hands (Some (piece ∷ [])) q left_new → q ≡ piece
-      lent_is q hands = let first : Some piece ≡ Some q = (hands (piece ∷ []) refl).first in cc
+      lent_is : (q : Piece) → Hands x.source q y.source → q ≡ piece
+      lent_is q hands = let first : Some piece ≡ Some q = (hands.told (piece ∷ []) refl).first in cc
 
       accepted_is : length (pieces_of fed) < setup.pieces → handle_count with_piece ≤ 4096 → end ≡ accepted setup (stream with_piece)
       accepted_is room few = over_or_on setup (pieces_of fed) piece (is_waiting (reading_of setup (stream with_piece)).stop) on.stands.goes_on room few refl
@@ -316,7 +317,7 @@ module _ (setup : Setup) (fed : List Fed) (sent : Piece) (given ready coming : L
       refused (Some refusal) h = let c = closed (Refused refusal) h in record { used = c.used; answer_is = c.answer_is; goes = c.goes }
 
       no_end : {P : Type 0} (answer : Answer) → Finds setup (pieces_of fed) times answer x y → P
-      no_end answer h = let none : piece ∷ [] ≡ [] = (h.none (piece ∷ []) refl).0 in absurd cc
+      no_end answer h = let none : piece ∷ [] ≡ [] = (h.none.told (piece ∷ []) refl).0 in absurd cc
 
       pub took_one : (turned : Result Turn Error) → NoFault turned → Turns setup (pieces_of fed) times turned t x y → IsServing setup (f ∷ fed) sent given (after (ended_by turned)) × IsNoInputEnd (ended_by turned)
       took_one (Ok turn.GoOn) ok g =
@@ -338,12 +339,12 @@ module _ (setup : Setup) (fed : List Fed) (sent : Piece) (given ready coming : L
 
   -- ---- at the end
 
-  module _ (t : Session) (new : Piece) (coming_new : List EisRequest) (left_new : Option (List Piece)) (readings_new : Option (List ℕ)) where
+  module _ (t : Session) (new : Piece) (coming_new : List EisRequest) (had : List Piece) (source_new : SourceView) (readings_new : Option (List ℕ)) where
     abbrev at : Around
-    at = around (Some []) coming (Some unsent) (Some (replicate k time))
+    at = around (record { left = Some []; given = had }) coming (Some unsent) (Some (replicate k time))
 
     abbrev to : Around
-    to = around left_new coming_new (Some new) readings_new
+    to = around source_new coming_new (Some new) readings_new
 
     abbrev ended_so : Option (Result Ended Error) → ServerView
     ended_so answer = record { session = t; unsent = new; requests = ready ++ coming_new; answer = answer }
@@ -386,8 +387,8 @@ module _ (setup : Setup) (fed : List Fed) (sent : Piece) (given ready coming : L
           replied = (all_bytes front.0, waits ∙ ap bytes_alone (ap (λ (m : List Raw). all_bytes (replies setup m)) owed.1 ∙ ap all_bytes front.1 ∙ joined_bytes (replies setup (handled setup (drop 1 fed))) front.0));
         }
 
-    no_piece : {P : Type 0} (q : Piece) → Hands (Some []) q left_new → P
-    no_piece q hands = let first : None ≡ Some q = (hands [] refl).first in absurd cc
+    no_piece : {P : Type 0} (q : Piece) → Hands at.source q to.source → P
+    no_piece q hands = let first : None ≡ Some q = (hands.told [] refl).first in absurd cc
 
     none_refused : {P : Type 0} (o : Option Cause) → ClosesRefused setup (pieces_of fed) times o at to → P
     none_refused None h = absurd h

@@ -4,7 +4,7 @@ ghost use Rattle.std.specs.Prelude.{◌≡◌, ◌<◌, ◌≤◌, List, [], ◌
 ghost use Rattle.ei_backend.specs.Outside.{IsPieceSize, TakesTold, HasCause, last_of};
 ghost use Rattle.ei_spec.specs.declared.limits.TheConstants.{MOST_PIECE_BYTES, MOST_PIECE_HANDLES};
 
-use ei_backend::{Fault, LastAnswer, Source, Taken};
+use ei_backend::{Fault, GivenPieces, LastAnswer, Source, Taken};
 use ei_spec::Handle;
 use ei_spec::limits::{MOST_PIECE_BYTES, MOST_PIECE_HANDLES};
 
@@ -13,6 +13,7 @@ use ei_spec::limits::{MOST_PIECE_BYTES, MOST_PIECE_HANDLES};
 pub(crate) struct OnePiece<'a> {
     bytes: &'a [u8],
     handles: &'a [Handle],
+    given: GivenPieces,
     last: LastAnswer,
     ghost few_bytes: { length bytes.now ≤ 65536 },
     ghost few_handles: { length handles.now ≤ 64 },
@@ -29,6 +30,7 @@ impl<'a> OnePiece<'a> {
         OnePiece {
             bytes,
             handles,
+            given: GivenPieces::new(),
             last: LastAnswer::Nothing,
         }
     }
@@ -38,6 +40,8 @@ impl<'a> Source for OnePiece<'a> {
     ghost use Rattle.reis_server.specs.Lent.{lent};
 
     ghost left = { λ s. Some (lent s.bytes.now s.handles.now) };
+
+    ghost given = { λ s. s.given.pieces };
 
     ghost faults = { λ _. 0 };
 
@@ -61,6 +65,7 @@ impl<'a> Source for OnePiece<'a> {
         let handle_count = self.handles.len();
         bytes[..count].copy_from_slice(self.bytes);
         handles[..handle_count].copy_from_slice(self.handles);
+        self.given.note(self.bytes, self.handles);
         self.bytes = &[];
         self.handles = &[];
         self.last = LastAnswer::Piece;

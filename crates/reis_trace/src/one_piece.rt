@@ -4,13 +4,14 @@ ghost use Rattle.std.specs.Prelude.{◌≡◌, ◌<◌, ◌≤◌, length};
 ghost use Rattle.ei_spec.specs.declared.limits.TheConstants.{MOST_PIECE_BYTES};
 ghost use Rattle.ei_backend.specs.declared.outside.LastAnswer.TheVariants as answers;
 
-use ei_backend::{Fault, LastAnswer, Source, Taken};
+use ei_backend::{Fault, GivenPieces, LastAnswer, Source, Taken};
 use ei_spec::Handle;
 
 /// A source of the bytes that are left, in one piece without handles. It never fails.
 #[derive(Drop)]
 pub(crate) struct OnePiece<'a> {
     bytes: &'a [u8],
+    given: GivenPieces,
     last: LastAnswer,
     ghost most: { length bytes.now ≤ MOST_PIECE_BYTES },
 }
@@ -22,6 +23,7 @@ impl<'a> OnePiece<'a> {
     {
         OnePiece {
             bytes,
+            given: GivenPieces::new(),
             last: LastAnswer::Nothing,
         }
     }
@@ -32,6 +34,8 @@ impl Source for OnePiece<'_> {
     ghost use Rattle.reis_trace.specs.Pieces.{piece_left};
 
     ghost left = { λ s. Some (piece_left s.bytes.now) };
+
+    ghost given = { λ s. s.given.pieces };
 
     ghost faults = { λ _. 0 };
 
@@ -45,13 +49,17 @@ impl Source for OnePiece<'_> {
 
     fn take(&mut self, bytes: &mut [u8], _handles: &mut [Handle]) -> Result<Taken, Fault> {
         let count = self.bytes.len();
+        if count == 0 {
+            self.last = LastAnswer::End;
+            return Ok(Taken {
+                bytes: 0,
+                handles: 0,
+            });
+        }
         bytes[..count].copy_from_slice(self.bytes);
+        self.given.note(self.bytes, &[]);
         self.bytes = &[];
-        self.last = if count == 0 {
-            LastAnswer::End
-        } else {
-            LastAnswer::Piece
-        };
+        self.last = LastAnswer::Piece;
         Ok(Taken {
             bytes: count,
             handles: 0,

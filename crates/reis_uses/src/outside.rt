@@ -2,7 +2,7 @@
 
 ghost use Rattle.std.specs.Prelude.{None};
 
-use ei_backend::{Fault, LastAnswer, PutError, Sink, Source, Taken};
+use ei_backend::{Fault, GivenPieces, LastAnswer, PutError, Sink, Source, Taken};
 use ei_spec::Handle;
 use std::alloc::Global;
 
@@ -13,6 +13,7 @@ const MOST: usize = 65536;
 #[derive(Drop)]
 pub(crate) struct Inbox<'a> {
     bytes: &'a [u8],
+    given: GivenPieces,
     last: LastAnswer,
 }
 
@@ -21,6 +22,7 @@ impl<'a> Inbox<'a> {
     pub(crate) fn new(bytes: &'a [u8]) -> Inbox<'a> {
         Inbox {
             bytes,
+            given: GivenPieces::new(),
             last: LastAnswer::Nothing,
         }
     }
@@ -28,6 +30,8 @@ impl<'a> Inbox<'a> {
 
 impl Source for Inbox<'_> {
     ghost left = { λ _. None };
+
+    ghost given = { λ s. s.given.pieces };
 
     ghost faults = { λ _. 0 };
 
@@ -44,11 +48,10 @@ impl Source for Inbox<'_> {
         let (piece, rest) = self.bytes.split_at(count);
         bytes[..count].copy_from_slice(piece);
         self.bytes = rest;
-        self.last = if count > 0 {
-            LastAnswer::Piece
-        } else {
-            LastAnswer::End
-        };
+        self.last = LastAnswer::at(count);
+        if count > 0 {
+            self.given.note(piece, &[]);
+        }
         Ok(Taken {
             bytes: count,
             handles: 0,

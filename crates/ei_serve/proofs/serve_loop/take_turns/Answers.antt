@@ -2,12 +2,15 @@ use Rattle.std.proofs.Common.{◌∙◌, [], ap, Err, None, arith}
 use Rattle.std.proofs.lemmas.Result.{err_from_is_err_and}
 use Rattle.ei_backend.proofs.Lending.{untouched_source, source_as, source_twice, untouched_sink, sink_twice, untouched_clock, clock_twice}
 use Rattle.ei_types.specs.declared.error.Error.{Error}
+use Rattle.ei_backend.specs.Outside.{source_view}
+use Rattle.ei_serve.specs.Around.{around}
 use Rattle.ei_serve.specs.Standing.{setup_of}
 use Rattle.ei_serve.proofs.Causes.{err_as, no_risen}
 use Rattle.ei_serve.proofs.Lent.{err_back, sink_passed, sink_unfailed, sink_ok}
 use Rattle.ei_serve.proofs.BetweenTurns.{not_over}
 use Rattle.ei_serve.proofs.Running.{starts, goes_on, untold_replied}
-use Rattle.ei_serve.proofs.Serves.{failed, disconnects, ends, no_end, too_many_turns, turn_is_of_session}
+use Rattle.ei_serve.proofs.AsTold.{failed, disconnects, ends, all_gave}
+use Rattle.ei_serve.proofs.Serves.{no_end, too_many_turns, turn_is_of_session}
 use Rattle.ei_serve.proofs.serve_loop.take_turns.Goals as goal
 
 pub loop-turn-init : goal.loop-turn-init
@@ -35,10 +38,18 @@ loop-turn-preserved g c = record {
 
 -- a turn failed
 pub returns-in_err-turn-clause-serves : goal.returns-in_err-turn-clause-serves
-returns-in_err-turn-clause-serves g c = λ before replied told is.
+returns-in_err-turn-clause-serves g c = λ before replied told left are.
     let p = err_from_is_err_and c.from_residual.result c.from_residual.ensures.1 in
     let r = c.loop-turn.invariant.running before replied in
-    failed (setup_of c.args.setup) _ _ _ _ _ r (omega (arith, c.loop-turn-test.true, c.from-turn-end.ensures)) told is _ _ _ (p.1 ∙ ap (λ (e : Error). Err e) p.2) (c.in_err-turn.ensures.turns (setup_of c.args.setup) r.pieces r.times r.stands)
+    failed (setup_of c.args.setup) _ _ _ _ _ r (omega (arith, c.loop-turn-test.true, c.from-turn-end.ensures)) told left _ _ _ (p.1 ∙ ap (λ (e : Error). Err e) p.2) are
+    (c.in_err-turn.ensures.turns (setup_of c.args.setup) r.pieces r.times r.stands)
+
+pub returns-in_err-turn-clause-gave : goal.returns-in_err-turn-clause-gave
+returns-in_err-turn-clause-gave g c =
+    let r = c.loop-turn.invariant.running None (untold_replied (setup_of c.args.setup) [] _) in
+    all_gave (setup_of c.args.setup) _ _ c.turn.new.self c.turn.result _ _
+    (around (source_view g.S.Source.left g.S.Source.given c.turn.new.source) c.turn.new.out.items (g.K.Sink.taken c.turn.new.sink) (g.C.Clock.readings c.turn.new.clock))
+    r (c.turn.ensures.turns (setup_of c.args.setup) r.pieces r.times r.stands)
 
 pub returns-in_err-turn-clause-only : goal.returns-in_err-turn-clause-only
 returns-in_err-turn-clause-only g c =
@@ -62,9 +73,17 @@ returns-in_err-turn-clause-clock g c = clock_twice g.met.C.Clock.later_trans c.l
 
 -- the client disconnected
 pub returns-in-Disconnect-clause-serves : goal.returns-in-Disconnect-clause-serves
-returns-in-Disconnect-clause-serves g c = λ before replied told is.
+returns-in-Disconnect-clause-serves g c = λ before replied told left are.
     let r = c.loop-turn.invariant.running before replied in
-    disconnects (setup_of c.args.setup) _ _ _ _ _ r (omega (arith, c.loop-turn-test.true, c.from-turn-end.ensures)) told is (rw c.in-Disconnect.is at (c.in_ok-turn.ensures.turns (setup_of c.args.setup) r.pieces r.times r.stands))
+    disconnects (setup_of c.args.setup) _ _ _ _ _ r (omega (arith, c.loop-turn-test.true, c.from-turn-end.ensures)) told left c.turn.new.self are
+    (rw c.in-Disconnect.is at (c.in_ok-turn.ensures.turns (setup_of c.args.setup) r.pieces r.times r.stands))
+
+pub returns-in-Disconnect-clause-gave : goal.returns-in-Disconnect-clause-gave
+returns-in-Disconnect-clause-gave g c =
+    let r = c.loop-turn.invariant.running None (untold_replied (setup_of c.args.setup) [] _) in
+    all_gave (setup_of c.args.setup) _ _ c.turn.new.self c.turn.result _ _
+    (around (source_view g.S.Source.left g.S.Source.given c.turn.new.source) c.turn.new.out.items (g.K.Sink.taken c.turn.new.sink) (g.C.Clock.readings c.turn.new.clock))
+    r (c.turn.ensures.turns (setup_of c.args.setup) r.pieces r.times r.stands)
 
 pub returns-in-Disconnect-clause-source : goal.returns-in-Disconnect-clause-source
 returns-in-Disconnect-clause-source g c = source_as (no_risen _ _) (no_risen _ _) (λ f. absurd f) (source_twice g.met.S.Source.later_trans (λ f. f) c.loop-turn.invariant.source c.in_ok-turn.ensures.source)
@@ -77,9 +96,17 @@ returns-in-Disconnect-clause-clock g c = clock_twice g.met.C.Clock.later_trans c
 
 -- the source is at its end
 pub returns-in-End-clause-serves : goal.returns-in-End-clause-serves
-returns-in-End-clause-serves g c = λ before replied told is.
+returns-in-End-clause-serves g c = λ before replied told left are.
     let r = c.loop-turn.invariant.running before replied in
-    ends (setup_of c.args.setup) _ _ _ _ _ r (omega (arith, c.loop-turn-test.true, c.from-turn-end.ensures)) told is (rw c.in-End.is at (c.in_ok-turn.ensures.turns (setup_of c.args.setup) r.pieces r.times r.stands))
+    ends (setup_of c.args.setup) _ _ _ _ _ r (omega (arith, c.loop-turn-test.true, c.from-turn-end.ensures)) told left c.turn.new.self are
+    (rw c.in-End.is at (c.in_ok-turn.ensures.turns (setup_of c.args.setup) r.pieces r.times r.stands))
+
+pub returns-in-End-clause-gave : goal.returns-in-End-clause-gave
+returns-in-End-clause-gave g c =
+    let r = c.loop-turn.invariant.running None (untold_replied (setup_of c.args.setup) [] _) in
+    all_gave (setup_of c.args.setup) _ _ c.turn.new.self c.turn.result _ _
+    (around (source_view g.S.Source.left g.S.Source.given c.turn.new.source) c.turn.new.out.items (g.K.Sink.taken c.turn.new.sink) (g.C.Clock.readings c.turn.new.clock))
+    r (c.turn.ensures.turns (setup_of c.args.setup) r.pieces r.times r.stands)
 
 pub returns-in-End-clause-source : goal.returns-in-End-clause-source
 returns-in-End-clause-source g c = source_as (no_risen _ _) (no_risen _ _) (λ _. rw c.in-End.is tt) (source_twice g.met.S.Source.later_trans (λ f. f) c.loop-turn.invariant.source c.in_ok-turn.ensures.source)
@@ -93,6 +120,9 @@ returns-in-End-clause-clock g c = clock_twice g.met.C.Clock.later_trans c.loop-t
 -- there are no more turns than that
 pub returns-clause-serves : goal.returns-clause-serves
 returns-clause-serves g c = absurd (too_many_turns (setup_of c.args.setup) _ _ _ _ (c.loop-turn.invariant.running None (untold_replied (setup_of c.args.setup) [] _)) (omega (arith, c.loop-turn-test.false, c.from-turn-end.ensures)))
+
+pub returns-clause-gave : goal.returns-clause-gave
+returns-clause-gave g c = absurd (too_many_turns (setup_of c.args.setup) _ _ _ _ (c.loop-turn.invariant.running None (untold_replied (setup_of c.args.setup) [] _)) (omega (arith, c.loop-turn-test.false, c.from-turn-end.ensures)))
 
 pub returns-clause-source : goal.returns-clause-source
 returns-clause-source g c = absurd (too_many_turns (setup_of c.args.setup) _ _ _ _ (c.loop-turn.invariant.running None (untold_replied (setup_of c.args.setup) [] _)) (omega (arith, c.loop-turn-test.false, c.from-turn-end.ensures)))

@@ -1,5 +1,5 @@
 use Rattle.std.proofs.Common.{Option, []}
-use Rattle.ei_backend.specs.Outside.{Piece}
+use Rattle.ei_backend.specs.Outside.{Piece, source_view}
 use Rattle.ei_backend.specs.Lent.{LentSource, LentSink, LentClock}
 use Rattle.ei_serve.specs.Around.{around}
 use Rattle.ei_serve.specs.Serving.{Replied}
@@ -10,7 +10,7 @@ use Rattle.ei_serve.proofs.serve_loop.take_turns.Given as goal
 abbrev pub invariant-loop-turn : goal.invariant-loop-turn
 invariant-loop-turn g l = record {
   running : (before : Option Piece) → Replied (setup_of l.fn.setup) [] before (g.K.Sink.taken l.fn.sink) →
-      Running (setup_of l.fn.setup) l._turn l.session (around (g.S.Source.left l.fn.source) l.fn.out.items before (g.C.Clock.readings l.fn.clock)) (around (g.S.Source.left l.source) l.out.items (g.K.Sink.taken l.sink) (g.C.Clock.readings l.clock));
+      Running (setup_of l.fn.setup) l._turn l.session (around (source_view g.S.Source.left g.S.Source.given l.fn.source) l.fn.out.items before (g.C.Clock.readings l.fn.clock)) (around (source_view g.S.Source.left g.S.Source.given l.source) l.out.items (g.K.Sink.taken l.sink) (g.C.Clock.readings l.clock));
   source : LentSource g.S.Source.faults g.S.Source.last g.S.Source.later ⊥ ⊥ l.fn.source l.source;
   sink : LentSink g.K.Sink.faults g.K.Sink.later ⊥ l.fn.sink l.sink;
   clock : LentClock g.C.Clock.later l.fn.clock l.clock;

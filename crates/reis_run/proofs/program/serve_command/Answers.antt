@@ -8,10 +8,10 @@ returns-clause-report g c =
       report = record { reply = c.bytes.result.now; requests = c.deref.result.now; last = c.serve_lines-last.result };
       is = record {
         ends = says.ends;
-        decided = λ text told d. is_of _ _ _ c.new-reply.result c.serve_lines-last.new.reply.held c.bytes.result.now c.new-requests.result.items c.serve_lines-last.new.requests.items c.deref.result.now c.serve_lines-last.result (record { empty = c.new-reply.ensures; reply_same = c.bytes.ensures; none = c.new-requests.ensures.items; requests_same = c.deref.ensures.value }) (says.requests text told d) (says.replies text told d);
+        decided = λ text left is d. is_of _ _ _ c.new-reply.result c.serve_lines-last.new.reply.held c.bytes.result.now c.new-requests.result.items c.serve_lines-last.new.requests.items c.deref.result.now c.serve_lines-last.result (record { empty = c.new-reply.ensures; reply_same = c.bytes.ensures; none = c.new-requests.ensures.items; requests_same = c.deref.ensures.value }) (says.requests text left is d) (says.replies text left is d);
         clock = says.readings;
-        given = λ text told e. is_of_given _ text _ _ c.new-reply.result c.serve_lines-last.new.reply.held c.bytes.result.now c.new-requests.result.items c.serve_lines-last.new.requests.items c.deref.result.now c.serve_lines-last.result (record { empty = c.new-reply.ensures; reply_same = c.bytes.ensures; none = c.new-requests.ensures.items; requests_same = c.deref.ensures.value }) (says.given text told e);
-        cut_short = λ text told d. is_of_first _ _ _ _ c.new-reply.result c.serve_lines-last.new.reply.held c.bytes.result.now c.new-requests.result.items c.serve_lines-last.new.requests.items c.deref.result.now c.serve_lines-last.result (record { empty = c.new-reply.ensures; reply_same = c.bytes.ensures; none = c.new-requests.ensures.items; requests_same = c.deref.ensures.value }) (says.cut_short text told d);
+        given = λ text left is e. is_of_given _ text left _ c.new-reply.result c.serve_lines-last.new.reply.held c.bytes.result.now c.new-requests.result.items c.serve_lines-last.new.requests.items c.deref.result.now c.serve_lines-last.result (record { empty = c.new-reply.ensures; reply_same = c.bytes.ensures; none = c.new-requests.ensures.items; requests_same = c.deref.ensures.value }) (says.given text left is e);
+        cut_short = λ text left is d. is_of_first _ _ left _ c.new-reply.result c.serve_lines-last.new.reply.held c.bytes.result.now c.new-requests.result.items c.serve_lines-last.new.requests.items c.deref.result.now c.serve_lines-last.result (record { empty = c.new-reply.ensures; reply_same = c.bytes.ensures; none = c.new-requests.ensures.items; requests_same = c.deref.ensures.value }) (says.cut_short text left is d);
         fault = says.fault;
         bad_line = says.bad_line;
       };
@@ -20,13 +20,13 @@ returns-clause-report g c =
     }
 
 pub returns-clause-status : goal.returns-clause-status
-returns-clause-status g c = λ text told.
-    is_status _ c.serve_lines-last.result _ _ (c.serve_lines-last.ensures.ends text told) c.serve_lines-last.ensures.fault c.tell_session.ensures.statuses
+returns-clause-status g c = λ text left is.
+    is_status _ c.serve_lines-last.result _ _ (c.serve_lines-last.ensures.ends text left is) c.serve_lines-last.ensures.fault c.tell_session.ensures.statuses
 
 pub returns-clause-complete : goal.returns-clause-complete
-returns-clause-complete g c = λ text told none complete f k.
+returns-clause-complete g c = λ text left is none complete f k.
     is_complete _ text _ _ _ none complete
-    (is_status _ c.serve_lines-last.result _ _ (c.serve_lines-last.ensures.ends text told) c.serve_lines-last.ensures.fault c.tell_session.ensures.statuses)
+    (is_status _ c.serve_lines-last.result _ _ (c.serve_lines-last.ensures.ends text left is) c.serve_lines-last.ensures.fault c.tell_session.ensures.statuses)
     f c.tell_session.ensures.output.write_fault k
 
 pub returns-clause-cause : goal.returns-clause-cause

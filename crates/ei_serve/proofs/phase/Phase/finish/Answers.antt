@@ -1,8 +1,8 @@
-use Rattle.std.proofs.Common.{[], ap, sym, Err, None, refl}
+use Rattle.std.proofs.Common.{[], ap, sym, Err, refl}
 use Rattle.ei_types.specs.declared.error.Error.{Error}
 use Rattle.ei_types.specs.declared.error.Error.TheVariants as error
 use Rattle.ei_serve.specs.declared.phase.Phase.TheVariants.{Over}
-use Rattle.ei_serve.specs.Around.{around}
+use Rattle.ei_serve.specs.Around.{around, no_source}
 use Rattle.ei_serve.specs.Standing.{setup_of}
 use Rattle.ei_serve.proofs.Lent.{as_err, inner_not, sink_inner}
 use Rattle.ei_serve.proofs.ShakingSteps.{completed, finish_inner, refused_finish}
@@ -29,7 +29,7 @@ returns-in-Err-connect-clause-steps g c = λ past times rest handles h out readi
 pub returns-in-Err-clause-steps : goal.returns-in-Err-clause-steps
 returns-in-Err-clause-steps g c = λ past times rest handles h out readings.
     let s = rw c.in-Handshake.is at h in
-    steps_refused (setup_of c.args.start.setup) past times rest handles (Err c.refuse-in-Err.new.why) Over c.in-Err.error (around None out _ readings) (ap (λ (e : Error). Err e) c.refuse-in-Err.ensures)
+    steps_refused (setup_of c.args.start.setup) past times rest handles (Err c.refuse-in-Err.new.why) Over c.in-Err.error (around no_source out _ readings) (ap (λ (e : Error). Err e) c.refuse-in-Err.ensures)
     (refused_finish (setup_of c.args.start.setup) past rest handles c.args.handshake.now _ _ s.1 c.in-Err.error _ _ c.in-Err.ensures.err)
 
 pub returns-in-Err-clause-sink : goal.returns-in-Err-clause-sink

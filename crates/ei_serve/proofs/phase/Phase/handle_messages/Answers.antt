@@ -1,9 +1,9 @@
-use Rattle.std.proofs.Common.{◌++◌, ◌∙◌, Result, Err, None, refl}
+use Rattle.std.proofs.Common.{◌++◌, ◌∙◌, Result, Err, refl}
 use Rattle.ei_backend.proofs.Lending.{untouched_sink, sink_twice, untouched_clock, clock_twice}
 use Rattle.ei_types.specs.declared.error.Error.{Error}
 use Rattle.ei_types.specs.declared.error.Error.TheVariants as error
 use Rattle.ei_serve.specs.declared.session.Turn.{Turn}
-use Rattle.ei_serve.specs.Around.{around}
+use Rattle.ei_serve.specs.Around.{around, no_source}
 use Rattle.ei_serve.specs.Standing.{setup_of}
 use Rattle.ei_serve.proofs.Lent.{sink_passed, sink_unfailed, sink_ok}
 use Rattle.ei_serve.proofs.Handling.{none_yet, one_more, waits, ends, refused, all_read, all_rounds, unread_at}
@@ -11,7 +11,7 @@ use Rattle.ei_serve.proofs.phase.Phase.handle_messages.Goals as goal
 
 pub loop-message-init : goal.loop-message-init
 loop-message-init g c = record {
-  handling = λ past times rest handles h. none_yet (setup_of c.args.start.setup) past times rest handles c.args.self.now (around None c.args.out.now.items _ _) h;
+  handling = λ past times rest handles h. none_yet (setup_of c.args.start.setup) past times rest handles c.args.self.now (around no_source c.args.out.now.items _ _) h;
   sink = untouched_sink (g.met.K.Sink.later_refl _);
   clock = untouched_clock (g.met.C.Clock.later_refl _);
 }

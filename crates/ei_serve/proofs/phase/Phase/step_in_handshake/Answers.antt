@@ -1,6 +1,6 @@
-use Rattle.std.proofs.Common.{[], Err, None, refl}
+use Rattle.std.proofs.Common.{[], Err, refl}
 use Rattle.ei_serve.specs.declared.phase.Phase.TheVariants.{Over}
-use Rattle.ei_serve.specs.Around.{around}
+use Rattle.ei_serve.specs.Around.{around, no_source}
 use Rattle.ei_serve.specs.Standing.{setup_of}
 use Rattle.ei_serve.proofs.Going.{goes_none}
 use Rattle.ei_serve.proofs.Stepping.{steps_refused, goes_quiet}
@@ -11,13 +11,13 @@ pub returns-in-Ok-Waiting-clause-steps : goal.returns-in-Ok-Waiting-clause-steps
 returns-in-Ok-Waiting-clause-steps g c = λ past times rest handles h out readings.
     let s = rw c.in-Handshake.is at h in
     let k = rw c.in-Ok-Waiting.field-0-is at (c.in-Ok-Waiting.ensures.shakes (setup_of c.args.start.setup) past rest handles s.1) in
-    record { short = k.0; stands = (s.0, k.1); goes = goes_none (setup_of c.args.start.setup) past times (around None out _ readings) }
+    record { short = k.0; stands = (s.0, k.1); goes = goes_none (setup_of c.args.start.setup) past times (around no_source out _ readings) }
 
 pub returns-in-Ok-Handled-clause-steps : goal.returns-in-Ok-Handled-clause-steps
 returns-in-Ok-Handled-clause-steps g c = λ past times rest handles h out readings.
     let s = rw c.in-Handshake.is at h in
     let k = rw c.in-Ok-Handled.field-0-is at (c.in-Ok-Handled.ensures.shakes (setup_of c.args.start.setup) past rest handles s.1) in
-    record { m = k.0; after = k.1; front_is = k.2; accepted = k.3; used = []; stands = (none_used times s.0, k.5); goes = goes_quiet (setup_of c.args.start.setup) past k.0 times (around None out _ readings) s.1.unfinished k.4 }
+    record { m = k.0; after = k.1; front_is = k.2; accepted = k.3; used = []; stands = (none_used times s.0, k.5); goes = goes_quiet (setup_of c.args.start.setup) past k.0 times (around no_source out _ readings) s.1.unfinished k.4 }
 
 pub returns-in-Ok-Finish-clause-steps : goal.returns-in-Ok-Finish-clause-steps
 returns-in-Ok-Finish-clause-steps g c = λ past times rest handles h out readings.
@@ -28,4 +28,4 @@ returns-in-Ok-Finish-clause-steps g c = λ past times rest handles h out reading
 pub returns-in-Err-clause-steps : goal.returns-in-Err-clause-steps
 returns-in-Err-clause-steps g c = λ past times rest handles h out readings.
     let s = rw c.in-Handshake.is at h in
-    steps_refused (setup_of c.args.start.setup) past times rest handles (Err c.shake.new.why) Over c.shake.new.why (around None out _ readings) refl (c.in-Err.ensures.shakes (setup_of c.args.start.setup) past rest handles s.1)
+    steps_refused (setup_of c.args.start.setup) past times rest handles (Err c.shake.new.why) Over c.shake.new.why (around no_source out _ readings) refl (c.in-Err.ensures.shakes (setup_of c.args.start.setup) past rest handles s.1)

@@ -1,4 +1,4 @@
-use Rattle.std.proofs.Common.{◌≡◌, ◌<◌, inl, [], length, take, refl, arith, ap, sym, ◌∙◌, Ok, None, true}
+use Rattle.std.proofs.Common.{◌≡◌, ◌<◌, inl, [], ◌∷◌, ◌++◌, length, take, refl, arith, ap, sym, ◌∙◌, Ok, None, true}
 use Rattle.std.proofs.lemmas.List.{append-nil, length-take-le}
 use Rattle.std.specs.Prelude.{is_some}
 use Rattle.reis_lines.specs.LaterReadings.{LaterLines-none, left_all}
@@ -7,6 +7,7 @@ use Rattle.reis_lines.proofs.SourceLaws.{ends_here, holds_end, holds_bad, left_b
 use Rattle.reis_lines.proofs.hex_source.HexSource.next_piece.Goals as goal
 
 pub returns-then-is_some-clause-later : goal.returns-then-is_some-clause-later
+unfolding LaterLines-none
 returns-then-is_some-clause-later g c =
     let some : is_some c.args.self.now.bad ≡ true = cc in
     record {
@@ -14,7 +15,8 @@ returns-then-is_some-clause-later g c =
       count = omega arith;
       bytes = [];
       gave = sym (append-nil _);
-      lines = LaterLines-none _ [] _ _ _ (sym (append-nil _));
+      lines = LaterLines-none _ [] _ _ _ _ (sym (append-nil _)) refl;
+      pieces = sym (append-nil _);
       left = left_all _;
       told = λ t left is. is ∙ sym left;
       asked = inl (refl, refl);
@@ -27,6 +29,7 @@ returns-then-is_some-clause-later g c =
     }
 
 pub returns-in_err-found-clause-later : goal.returns-in_err-found-clause-later
+unfolding LaterLines-none
 returns-in_err-found-clause-later g c =
     let is = c.in_err-found.ensures in
     unmet_later g.I.Input.text g.I.Input.given g.I.Input.last g.I.Input.faults g.I.Input.later _ _ (none_if_not_some _ (sym c.is_some.ensures ∙ c.if-is_some.false)) is.same_bad
@@ -36,7 +39,8 @@ returns-in_err-found-clause-later g c =
       count = is.cause.later;
       bytes = is.given.bytes;
       gave = is.given.gave;
-      lines = rw is.same_line (LaterLines-none _ _ _ _ _ is.given.held);
+      lines = LaterLines-none _ _ _ _ _ _ is.given.held is.same_line;
+      pieces = is.same_pieces ∙ sym (append-nil _);
       left = left_behind _ _ _ _ is.given.bytes is.given.held is.text;
       told = is.told;
       asked = is.asked;
@@ -44,6 +48,7 @@ returns-in_err-found-clause-later g c =
     })
 
 pub returns-then-count-eq0-clause-later : goal.returns-then-count-eq0-clause-later
+unfolding LaterLines-none
 returns-then-count-eq0-clause-later g c =
     let is = c.in_ok-found.ensures in
     unmet_later g.I.Input.text g.I.Input.given g.I.Input.last g.I.Input.faults g.I.Input.later _ _ (none_if_not_some _ (sym c.is_some.ensures ∙ c.if-is_some.false)) is.same_bad
@@ -53,7 +58,8 @@ returns-then-count-eq0-clause-later g c =
       count = is.cause.later;
       bytes = is.given.bytes;
       gave = is.given.gave;
-      lines = rw is.same_line (LaterLines-none _ _ _ _ _ is.given.held);
+      lines = LaterLines-none _ _ _ _ _ _ is.given.held is.same_line;
+      pieces = is.same_pieces ∙ sym (append-nil _);
       left = left_behind _ _ _ _ is.given.bytes is.given.held is.text;
       told = is.told;
       asked = is.asked;
@@ -86,6 +92,7 @@ returns-in-Some-clause-pieces g c = λ text told.
     (removed_is found _ _ _ _ c.line_extent-count.ensures.skip c.bytes-line.ensures c.remove.ensures) m.left_is c.in-Some.ensures.size.0
 
 pub returns-in-Some-clause-later : goal.returns-in-Some-clause-later
+unfolding handed_out
 returns-in-Some-clause-later g c =
     let found = c.in_ok-found.found in
     let is = c.in_ok-found.ensures in
@@ -100,6 +107,7 @@ returns-in-Some-clause-later g c =
           (line_is found _ _ _ c.line_extent-count.ensures.count c.bytes-line.ensures) c.in-Some.ensures.spells
           (removed_is found _ _ _ _ c.line_extent-count.ensures.skip c.bytes-line.ensures c.remove.ensures)
           (omega (arith, c.saturating_add-self-in-Some.ensures, is.same_line));
+      pieces = c.note.ensures ∙ ap (λ v. v ++ record { bytes = take c.in-Some.n c.decode_line.new.bytes; handles = [] } ∷ []) is.same_pieces;
       left = left_behind _ _ _ _ is.given.bytes is.given.held is.text;
       told = is.told;
       asked = is.asked;
@@ -107,6 +115,7 @@ returns-in-Some-clause-later g c =
     })
 
 pub returns-in-None-clause-later : goal.returns-in-None-clause-later
+unfolding LaterLines-none
 returns-in-None-clause-later g c =
     let unmet : c.args.self.now.bad ≡ None = none_if_not_some _ (sym c.is_some.ensures ∙ c.if-is_some.false) in
     let found = c.in_ok-found.found in
@@ -124,7 +133,8 @@ returns-in-None-clause-later g c =
       count = is.cause.later;
       bytes = is.given.bytes;
       gave = is.given.gave;
-      lines = rw is.same_line (LaterLines-none _ _ _ _ _ is.given.held);
+      lines = LaterLines-none _ _ _ _ _ _ is.given.held is.same_line;
+      pieces = is.same_pieces ∙ sym (append-nil _);
       left = left_behind _ _ _ _ is.given.bytes is.given.held is.text;
       told = is.told;
       asked = is.asked;
