@@ -1,6 +1,7 @@
-//! What a program must bring: a source of pieces, a sink for replies, a clock. Those in memory serve for tests.
+//! What a program must bring: a source of pieces, a sink for replies, a clock. Those in memory serve for tests; what a type that
+//! keeps nothing gave or took is noted by `GivenPieces`, `Given` and `TakenPiece`, which take no memory.
 
 pub use ei_backend::{
-    Clock, Fault, Input, LastAnswer, MemoryText, Pieces, PutError, Readings, Sink, Source, Taken,
-    Tray,
+    Clock, Fault, Given, GivenPieces, Input, LastAnswer, MemoryText, Pieces, PutError, Readings,
+    Sink, Source, Taken, TakenPiece, Tray,
 };

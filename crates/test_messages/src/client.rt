@@ -1,6 +1,6 @@
 //! The client's end: its proxies, and its requests, each with the arguments that the table has.
 
-use crate::end::{End, HALF, MINUS_ONE, ONE, Sends, TWO, send_by, send_to, without_proxy};
+use crate::end::{End, HALF, MINUS_ONE, ONE, Sends, Shown, TWO, send_by, send_to, without_proxy};
 use crate::proxies::shown;
 use ei_backend::{Interface, Kind, Object, PendingRequestResult};
 use ei_client::{
@@ -10,7 +10,7 @@ use ei_client::{
 use ei_spec::KnownInterface;
 use ei_types::{ButtonState, ContextType, KeyState};
 use ei_wire::{NoMemory, SendError};
-use std::alloc::{AllocError, Global};
+use std::alloc::Global;
 
 impl End for Context {
     type Message = Event;
@@ -42,11 +42,7 @@ impl End for Context {
         }
     }
 
-    fn text_of<K: Kind + Drop>(
-        &self,
-        alloc: Global,
-        object: &Object,
-    ) -> Result<Option<String>, AllocError> {
+    fn text_of<K: Kind + Drop>(&self, alloc: Global, object: &Object) -> Shown {
         shown::<Proxy<K>, Context>(alloc, self, object)
     }
 }
@@ -75,11 +71,7 @@ impl Sends<Context> for Connection {
 }
 
 /// A client sends nothing to a callback.
-impl Sends<Context> for Callback {
-    fn send(&self, _context: &mut Context, _opcode: u32) -> Result<(), SendError> {
-        Ok(())
-    }
-}
+impl Sends<Context> for Callback {}
 
 impl Sends<Context> for Pingpong {
     fn send(&self, context: &mut Context, opcode: u32) -> Result<(), SendError> {

@@ -16,6 +16,9 @@ pub(crate) const ONE: RawFloat = RawFloat(0x3f80_0000);
 
 pub(crate) const TWO: RawFloat = RawFloat(0x4000_0000);
 
+/// A proxy as a text, or `None` where there is none.
+pub(crate) type Shown = Result<Option<String>, AllocError>;
+
 /// The context of one end.
 pub(crate) trait End: HasBackend + Drop {
     /// What it reads.
@@ -36,17 +39,15 @@ pub(crate) trait End: HasBackend + Drop {
     fn announced(message: &Self::Message) -> Option<&Object>;
 
     /// The proxy of that kind over the object as a text: `None` where the object has none.
-    fn text_of<K: Kind + Drop>(
-        &self,
-        alloc: Global,
-        object: &Object,
-    ) -> Result<Option<String>, AllocError>;
+    fn text_of<K: Kind + Drop>(&self, alloc: Global, object: &Object) -> Shown;
 }
 
 /// A proxy that sends each message of its interface, with the arguments that the table has.
 pub(crate) trait Sends<C>: Interface + Drop {
-    /// Sends the message of that opcode. Nothing where the interface has no such message of this end.
-    fn send(&self, context: &mut C, opcode: u32) -> Result<(), SendError>;
+    /// Sends the message of that opcode. Nothing where the interface has no such message of this end, or none at all.
+    fn send(&self, _context: &mut C, _opcode: u32) -> Result<(), SendError> {
+        Ok(())
+    }
 }
 
 /// Sends the message of that opcode by the proxy of that type, if there is one.

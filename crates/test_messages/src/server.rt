@@ -1,6 +1,6 @@
 //! The server's end: its proxies, and its events, each with the arguments that the table has.
 
-use crate::end::{End, HALF, MINUS_ONE, ONE, Sends, TWO, send_by, send_to, without_proxy};
+use crate::end::{End, HALF, MINUS_ONE, ONE, Sends, Shown, TWO, send_by, send_to, without_proxy};
 use crate::proxies::shown;
 use ei_backend::{Interface, Kind, Object, PendingRequestResult};
 use ei_server::{
@@ -10,7 +10,7 @@ use ei_server::{
 use ei_spec::{Handle, KnownInterface};
 use ei_types::{ButtonState, DeviceType, DisconnectReason, KeyState, KeymapType};
 use ei_wire::{NoMemory, SendError};
-use std::alloc::{AllocError, Global};
+use std::alloc::Global;
 
 impl End for Context {
     type Message = Request;
@@ -38,11 +38,7 @@ impl End for Context {
         }
     }
 
-    fn text_of<K: Kind + Drop>(
-        &self,
-        alloc: Global,
-        object: &Object,
-    ) -> Result<Option<String>, AllocError> {
+    fn text_of<K: Kind + Drop>(&self, alloc: Global, object: &Object) -> Shown {
         shown::<Proxy<K>, Context>(alloc, self, object)
     }
 }
@@ -80,11 +76,7 @@ impl Sends<Context> for Callback {
 }
 
 /// A server sends nothing to a ping-pong.
-impl Sends<Context> for Pingpong {
-    fn send(&self, _context: &mut Context, _opcode: u32) -> Result<(), SendError> {
-        Ok(())
-    }
-}
+impl Sends<Context> for Pingpong {}
 
 impl Sends<Context> for Seat {
     fn send(&self, context: &mut Context, opcode: u32) -> Result<(), SendError> {
