@@ -19,6 +19,10 @@ around source out took readings = record { source = source; out = out; took = to
 abbrev pub no_source : SourceView
 no_source = record { left = None; given = [] }
 
+-- what stands around a call that has no source
+abbrev pub beside : List EisRequest → Option Piece → Option (List ℕ) → Around
+beside out took readings = around no_source out took readings
+
 -- the first n readings, with 0 past their end
 abbrev pub first_readings : ℕ → List ℕ → List ℕ
 first_readings zero told = []

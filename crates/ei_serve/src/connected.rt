@@ -7,7 +7,7 @@ ghost use Rattle.ei_types.specs.declared.error.Error.TheVariants as error;
 ghost use Rattle.ei_backend.specs.Lent.{LentSink, LentClock};
 ghost use Rattle.ei_session.specs.Setup.{Setup as Started};
 ghost use Rattle.ei_session.specs.Handshake.{connected, is_finish};
-ghost use Rattle.ei_serve.specs.Around.{around, no_source};
+ghost use Rattle.ei_serve.specs.Around.{beside};
 ghost use Rattle.ei_serve.specs.Standing.{IsConnected, setup_of};
 ghost use Rattle.ei_serve.specs.Steps.{HandsOver, Connects, Steps, told};
 ghost use Rattle.ei_serve.specs.AtFront.{IsAsked};
@@ -63,7 +63,7 @@ pub(crate) fn converse<K: Sink, C: Clock>(
     ensures converses { (setup : Started) (past : List Raw) (times rest : List ℕ) (handles : List Handle) →
         IsConnected setup past times rest handles converter.old →
         Steps setup past times rest handles (told result why.new) (phases.Connected converter.new)
-        (around no_source out.old.items (K.taken sink.old) (C.readings clock.old)) (around no_source out.new.items (K.taken sink.new) (C.readings clock.new)) }
+        (beside out.old.items (K.taken sink.old) (C.readings clock.old)) (beside out.new.items (K.taken sink.new) (C.readings clock.new)) }
     ensures sink { LentSink K.faults K.later (IsErrOf (told result why.new) error.WriteFault) sink.old sink.new }
     ensures no_read_fault { IsErrOf (told result why.new) error.ReadFault → ⊥ }
     ensures clock { LentClock C.later clock.old clock.new }
@@ -101,7 +101,7 @@ fn take_request<K: Sink, C: Clock>(
     ensures takes { (setup : Started) (past : List Raw) (times rest : List ℕ) (handles : List Handle) →
         IsAsked setup past times rest handles request converter.old →
         Steps setup past times rest handles (told result why.new) (phases.Connected converter.new)
-        (around no_source out.old.items (K.taken sink.old) (C.readings clock.old)) (around no_source out.new.items (K.taken sink.new) (C.readings clock.new)) }
+        (beside out.old.items (K.taken sink.old) (C.readings clock.old)) (beside out.new.items (K.taken sink.new) (C.readings clock.new)) }
     ensures sink { LentSink K.faults K.later (IsErrOf (told result why.new) error.WriteFault) sink.old sink.new }
     ensures no_read_fault { IsErrOf (told result why.new) error.ReadFault → ⊥ }
     ensures clock { LentClock C.later clock.old clock.new }

@@ -14,7 +14,7 @@ ghost use Rattle.ei_backend.specs.Lent.{LentSource, LentSink, LentClock};
 ghost use Rattle.ei_session.specs.Setup.{Setup as Started};
 ghost use Rattle.ei_session.specs.Handshake.{connected, is_finish};
 ghost use Rattle.ei_serve.specs.declared.phase.Phase.TheVariants as phases;
-ghost use Rattle.ei_serve.specs.Around.{around, no_source};
+ghost use Rattle.ei_serve.specs.Around.{beside};
 ghost use Rattle.ei_serve.specs.Causes.{Greeted, GreetedInPart, RefusesToStart};
 ghost use Rattle.ei_serve.specs.Standing.{context_in, unread_in, unsent_in, capacity_in, IsOpenIn, IsShaking, StandsAt, setup_of};
 ghost use Rattle.ei_serve.specs.Steps.{Steps, StepsInHandshake, AsksToFinishIn, HandsOverIn, ConnectsPhase, told};
@@ -205,7 +205,7 @@ impl Phase {
         ensures steps { (past : List Raw) (times rest : List ℕ) (handles : List Handle) →
             StandsAt (setup_of start.setup) past times rest handles self.old →
             Steps (setup_of start.setup) past times rest handles (told result why.new) self.new
-            (around no_source out.old.items (K.taken sink.old) (C.readings clock.old)) (around no_source out.new.items (K.taken sink.new) (C.readings clock.new)) }
+            (beside out.old.items (K.taken sink.old) (C.readings clock.old)) (beside out.new.items (K.taken sink.new) (C.readings clock.new)) }
         ensures sink { LentSink K.faults K.later (IsErrOf (told result why.new) error.WriteFault) sink.old sink.new }
         ensures no_read_fault { IsErrOf (told result why.new) error.ReadFault → ⊥ }
         ensures clock { LentClock C.later clock.old clock.new }
@@ -303,7 +303,7 @@ impl Phase {
         ensures handles { (past : List Raw) (times rest : List ℕ) (handles : List Handle) →
             StandsAt (setup_of start.setup) past times rest handles self.old →
             HandlesAll (setup_of start.setup) past times rest handles result self.new
-            (around no_source out.old.items (K.taken sink.old) (C.readings clock.old)) (around no_source out.new.items (K.taken sink.new) (C.readings clock.new)) }
+            (beside out.old.items (K.taken sink.old) (C.readings clock.old)) (beside out.new.items (K.taken sink.new) (C.readings clock.new)) }
         ensures sink { LentSink K.faults K.later (IsErrOf result error.WriteFault) sink.old sink.new }
         ensures no_read_fault { IsErrOf result error.ReadFault → ⊥ }
         ensures clock { LentClock C.later clock.old clock.new }
