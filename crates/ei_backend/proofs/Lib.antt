@@ -1,6 +1,7 @@
 pub mod Objects
 pub mod Equal
 pub mod OwnAndPeer
+pub mod Kept
 pub mod GivenOnce
 pub mod GivenParts
 pub mod FirstObject
@@ -15,6 +16,7 @@ pub mod FrontNeeds
 pub mod Behind
 pub mod Copied
 pub mod BodyIs
+pub mod Beside
 pub mod FoundAfter
 pub mod NextIs
 pub mod ShortRows

@@ -1,4 +1,4 @@
--- The two vectors of a table: where an id is looked up, and what an object that comes or goes changes.
+-- The own objects of a table and the others: where an id is looked up, and what an object that comes or goes changes.
 use Rattle.std.proofs.Common.{◌≡◌, ◌≤◌, ◌<◌, ◌+◌, ◌^◌, inl, inr, eqb, ltb, leb, Ok, arith, ℕ, Bool, true}
 use Rattle.std.proofs.Common.{false, cond, List, [], ◌∷◌, ◌++◌, Option, Some, None, IfSome, Bor, refl, sym, ap, ◌∙◌, append_assoc}
 use Rattle.std.specs.Option.{option_or}
@@ -8,7 +8,7 @@ use Rattle.std.proofs.lemmas.Bool.{le-ltb}
 use Rattle.std.proofs.lemmas.Bool.Decides.{nat_tests, eqb_tells}
 use Rattle.std.proofs.lemmas.List.{append-nil}
 use Rattle.ei_spec.specs.Interface.{Interface, ObjectView}
-use Rattle.ei_backend.specs.Table.{TableView, RiseWithin, Rise, by_id, is_own, own_end, peer_end, table_of, StandsInVectors}
+use Rattle.ei_backend.specs.Table.{TableView, RiseWithin, Rise, by_id, is_own, own_end, peer_end, table_of, StandsInOrder}
 use Rattle.ei_backend.specs.Table.{first_server_id, first_object, own_start, own_limit, accept, found, own, with_own, without}
 use Rattle.ei_backend.proofs.Objects.{at, get_at, range_le, widened, below_range, above_range, same_objects, get_with, get_without}
 use Rattle.ei_backend.proofs.FirstObject.{first_kept, first_left, first_there, first_found}
@@ -29,7 +29,7 @@ gone_right q k x y none = elim (eqb_tells q k) [ inl p ↦ rw (p.0, none p.1) re
 
 -- ---- where an id is looked up
 
-module _ (t : TableView) (own peer : List ObjectView) (len places : ℕ) (h : StandsInVectors t own peer len places) where
+module _ (t : TableView) (own peer : List ObjectView) (places : ℕ) (h : StandsInOrder t own peer places) where
   none_in_peer : (q : ℕ) → is_own t.client q ≡ true → at q peer ≡ None
   none_in_peer q is = elim t.client as (λ b. is_own b q ≡ true → RiseWithin (cond b first_server_id 0) t.next_peer peer → t.next_peer ≤ cond b 18446744073709551615 first_server_id → at q peer ≡ None) [
     | true ↦ λ i r e. below_range peer first_server_id t.next_peer q r (grind (arith, nat_tests))
@@ -102,7 +102,7 @@ put_peer own peer o none = same_objects _ _ (λ q.
     ap (λ (l : List ObjectView). get (by_id l) q) (sym (append_assoc own peer (o ∷ []))) ∙ get_at ((own ++ peer) ++ o ∷ []) q ∙ at_more (own ++ peer) [] q o none
     ∙ ap (λ (l : List ObjectView). cond (eqb q o.id) (Some o) (at q l)) (append-nil (own ++ peer)) ∙ ap (cond (eqb q o.id) (Some o)) (sym (get_at (own ++ peer) q)) ∙ sym (get_with (by_id (own ++ peer)) o.id q o))
 
-module _ (row peer : List ObjectView) (next_own next_peer : ℕ) (client : Bool) (room len places : ℕ) (h : StandsInVectors (table_of row peer next_own next_peer client room) row peer len places) where
+module _ (row peer : List ObjectView) (next_own next_peer : ℕ) (client : Bool) (room places : ℕ) (h : StandsInOrder (table_of row peer next_own next_peer client room) row peer places) where
   -- the next own object comes
   own_comes : (o : ObjectView) → o.id ≡ next_own → by_id ((row ++ o ∷ []) ++ peer) ≡ insert (by_id (row ++ peer)) next_own o
   own_comes o is = put_own row peer o (above_range row _ next_own o.id h.own_rises (omega arith)) ∙ ap (λ (k : ℕ). insert (by_id (row ++ peer)) k o) is
@@ -113,9 +113,9 @@ module _ (row peer : List ObjectView) (next_own next_peer : ℕ) (client : Bool)
       let comes = own_comes o (ap (λ (x : ObjectView). x.id) made) in
       (made, rw (is, comes, made) refl)
 
-  pub own_stands : (o : ObjectView) (row' : List ObjectView) (len' places' : ℕ) → o.id ≡ next_own → row' ≡ row ++ o ∷ [] → next_own < own_end (table_of row peer next_own next_peer client room) →
-      len' ≡ len + 1 → places ≤ places' → StandsInVectors (table_of row' peer (next_own + 1) next_peer client room) row' peer len' places'
-  own_stands o row' len' places' id is lt more wide = record {
+  pub own_stands : (o : ObjectView) (row' : List ObjectView) (places' : ℕ) → o.id ≡ next_own → row' ≡ row ++ o ∷ [] → next_own < own_end (table_of row peer next_own next_peer client room) →
+      places ≤ places' + 1 → StandsInOrder (table_of row' peer (next_own + 1) next_peer client room) row' peer places'
+  own_stands o row' places' id is lt left = record {
     first = first_kept (by_id (row ++ peer)) (by_id (row' ++ peer)) next_own o _ _ _ _ _ _ _ h.first (rw is (own_comes o id)) h.first.own (omega arith) h.first.peer;
     own_rises = rw is (rises_more row _ next_own (next_own + 1) o h.own_rises (omega arith) (omega arith));
     peer_rises = h.peer_rises;
@@ -146,7 +146,7 @@ module _ (row peer : List ObjectView) (next_own next_peer : ℕ) (client : Bool)
       rw (first, second, is, comes, made) refl
 
   pub peer_stands : (id : ℕ) (o : ObjectView) (peer' : List ObjectView) → o.id ≡ id → peer' ≡ peer ++ o ∷ [] → next_peer ≤ id → id < peer_end (table_of row peer next_own next_peer client room) →
-      StandsInVectors (table_of row peer' next_own (id + 1) client room) row peer' len places
+      StandsInOrder (table_of row peer' next_own (id + 1) client room) row peer' places
   peer_stands id o peer' is same low high = record {
     first = first_kept (by_id (row ++ peer)) (by_id (row ++ peer')) id o _ _ _ _ _ _ _ h.first (rw same (peer_comes o id is low high)) (omega (arith, h.first.peer)) h.first.own (omega arith);
     own_rises = h.own_rises;
@@ -161,14 +161,14 @@ module _ (row peer : List ObjectView) (next_own next_peer : ℕ) (client : Bool)
   own_goes row' k is gone = same_objects _ _ (λ q.
       let left = sym (get_at row' q) ∙ ap (λ (m : FinMap nat_cmp ObjectView). get m q) gone ∙ get_without (by_id row) k q ∙ ap (cond (eqb q k) None) (get_at row q) in
       get_at (row' ++ peer) q ∙ at_both row' peer q ∙ ap (λ (x : Option ObjectView). option_or x (at q peer)) left
-      ∙ gone_left q k (at q row) (at q peer) (λ same. ap (λ (j : ℕ). at j peer) same ∙ none_in_peer _ row peer len places h k is)
+      ∙ gone_left q k (at q row) (at q peer) (λ same. ap (λ (j : ℕ). at j peer) same ∙ none_in_peer _ row peer places h k is)
       ∙ ap (cond (eqb q k) None) (sym (get_at (row ++ peer) q ∙ at_both row peer q)) ∙ sym (get_without (by_id (row ++ peer)) k q))
 
   peer_goes : (peer' : List ObjectView) (k : ℕ) → is_own client k ≡ false → by_id peer' ≡ remove (by_id peer) k → by_id (row ++ peer') ≡ remove (by_id (row ++ peer)) k
   peer_goes peer' k is gone = same_objects _ _ (λ q.
       let left = sym (get_at peer' q) ∙ ap (λ (m : FinMap nat_cmp ObjectView). get m q) gone ∙ get_without (by_id peer) k q ∙ ap (cond (eqb q k) None) (get_at peer q) in
       get_at (row ++ peer') q ∙ at_both row peer' q ∙ ap (λ (x : Option ObjectView). option_or (at q row) x) left
-      ∙ gone_right q k (at q row) (at q peer) (λ same. ap (λ (j : ℕ). at j row) same ∙ none_in_own _ row peer len places h k is)
+      ∙ gone_right q k (at q row) (at q peer) (λ same. ap (λ (j : ℕ). at j row) same ∙ none_in_own _ row peer places h k is)
       ∙ ap (cond (eqb q k) None) (sym (get_at (row ++ peer) q ∙ at_both row peer q)) ∙ sym (get_without (by_id (row ++ peer)) k q))
 
   abbrev this : TableView
@@ -180,9 +180,9 @@ module _ (row peer : List ObjectView) (next_own next_peer : ℕ) (client : Bool)
   pub peer_gone : (peer' : List ObjectView) (k : ℕ) → is_own client k ≡ false → by_id peer' ≡ remove (by_id peer) k → table_of row peer' next_own next_peer client room ≡ without this k
   peer_gone peer' k is gone = rw (peer_goes peer' k is gone) refl
 
-  pub own_left : (row' : List ObjectView) (k len' places' : ℕ) → is_own client k ≡ true → by_id row' ≡ remove (by_id row) k → ((from end : ℕ) → RiseWithin from end row → RiseWithin from end row') →
-      len' ≤ len → places' ≡ places → StandsInVectors (table_of row' peer next_own next_peer client room) row' peer len' places'
-  own_left row' k len' places' is gone rises fewer same = record {
+  pub own_left : (row' : List ObjectView) (k places' : ℕ) → is_own client k ≡ true → by_id row' ≡ remove (by_id row) k → ((from end : ℕ) → RiseWithin from end row → RiseWithin from end row') →
+      places ≤ places' → StandsInOrder (table_of row' peer next_own next_peer client room) row' peer places'
+  own_left row' k places' is gone rises left = record {
     first = first_left _ _ k _ _ _ _ h.first (own_goes row' k is gone);
     own_rises = rises _ _ h.own_rises;
     peer_rises = h.peer_rises;
@@ -192,7 +192,7 @@ module _ (row peer : List ObjectView) (next_own next_peer : ℕ) (client : Bool)
   }
 
   pub peer_left : (peer' : List ObjectView) (k : ℕ) → is_own client k ≡ false → by_id peer' ≡ remove (by_id peer) k → ((from end : ℕ) → RiseWithin from end peer → RiseWithin from end peer') →
-      StandsInVectors (table_of row peer' next_own next_peer client room) row peer' len places
+      StandsInOrder (table_of row peer' next_own next_peer client room) row peer' places
   peer_left peer' k is gone rises = record {
     first = first_left _ _ k _ _ _ _ h.first (peer_goes peer' k is gone);
     own_rises = h.own_rises;
@@ -203,9 +203,9 @@ module _ (row peer : List ObjectView) (next_own next_peer : ℕ) (client : Bool)
   }
 
 -- a new table
-pub new_client : (row peer : List ObjectView) (client : Bool) (next_own len places : ℕ) (o : ObjectView) → client ≡ true → o ≡ first_object client → row ≡ o ∷ [] → peer ≡ [] →
-    own_start client ≤ next_own → next_own ≤ own_limit client → StandsInVectors (table_of row peer next_own first_server_id client 0) row peer len places
-new_client row peer client next_own len places o is_client is low high from to =
+pub new_client : (row peer : List ObjectView) (client : Bool) (next_own places : ℕ) (o : ObjectView) → client ≡ true → o ≡ first_object client → row ≡ o ∷ [] → peer ≡ [] →
+    own_start client ≤ next_own → next_own ≤ own_limit client → StandsInOrder (table_of row peer next_own first_server_id client 0) row peer places
+new_client row peer client next_own places o is_client is low high from to =
     rw (low, high, is, is_client) (record {
       first = first_there _ _ _ true 0 refl (rw is_client at from) (omega arith);
       own_rises = (omega arith, rw is_client at from);
@@ -215,9 +215,9 @@ new_client row peer client next_own len places o is_client is low high from to =
       room = λ below. omega (arith, below);
     })
 
-pub new_server : (row peer : List ObjectView) (client : Bool) (next_own len places : ℕ) (o : ObjectView) → client ≡ false → o ≡ first_object client → row ≡ [] → peer ≡ o ∷ [] →
-    own_start client ≤ next_own → next_own ≤ own_limit client → StandsInVectors (table_of row peer next_own 1 client 0) row peer len places
-new_server row peer client next_own len places o is_server is high low from to =
+pub new_server : (row peer : List ObjectView) (client : Bool) (next_own places : ℕ) (o : ObjectView) → client ≡ false → o ≡ first_object client → row ≡ [] → peer ≡ o ∷ [] →
+    own_start client ≤ next_own → next_own ≤ own_limit client → StandsInOrder (table_of row peer next_own 1 client 0) row peer places
+new_server row peer client next_own places o is_server is high low from to =
     let start : first_server_id ≤ next_own = rw is_server at from in
     rw (low, high, is, is_server) (record {
       first = first_there _ _ _ false 0 refl (omega (arith, start)) (omega arith);

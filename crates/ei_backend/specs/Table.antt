@@ -1,7 +1,6 @@
 -- The objects of one endpoint.
 use Rattle.std.specs.Prelude.{◌≡◌, ℕ, ◌+◌, ◌^◌, ◌<◌, ◌≤◌, Bool, ◌||◌, List, [], ◌∷◌, ◌++◌}
-use Rattle.std.specs.Prelude.{length, Option, Some, None, Result, Ok, Err, nat_lt, nat_le, min, max, if◌then◌else◌}
-use Rattle.std.specs.List.{HoldsAt}
+use Rattle.std.specs.Prelude.{Option, Some, None, Result, Ok, Err, nat_lt, nat_le, min, max, if◌then◌else◌}
 use Rattle.std.specs.Ordering.{nat_cmp}
 use Rattle.std.specs.FinMap as map
 use Rattle.ei_spec.specs.Reading.{Fault, InvalidId}
@@ -115,11 +114,6 @@ RiseWithin from end (o ∷ objects) = (from ≤ o.id) × RiseWithin (o.id + 1) e
 abbrev pub Rise : List ObjectView → Type 0
 Rise objects = RiseWithin 0 (2 ^ 64) objects
 
--- the object of the id stands at the place
-pub record IsPlace (id : ℕ) (objects : List ObjectView) (place : ℕ) : Type 0 where
-  pub within : place < length objects
-  pub has : HoldsAt (λ o. o.id ≡ id) objects place
-
 -- whether an id lies in the range of the own ones, in which a client has id 0 too
 abbrev pub is_own : Bool → ℕ → Bool
 is_own client id = if client then nat_lt id first_server_id else nat_le first_server_id id
@@ -128,15 +122,31 @@ is_own client id = if client then nat_lt id first_server_id else nat_le first_se
 abbrev pub table_of : List ObjectView → List ObjectView → ℕ → ℕ → Bool → ℕ → TableView
 table_of own peer next_own next_peer client room = record { objects = by_id (own ++ peer); next_own = next_own; next_peer = next_peer; client = client; room = room }
 
--- a vector of so many own objects, with places for so many, has places for those below the room's end
-abbrev pub HasPlaces : TableView → ℕ → ℕ → Type 0
-HasPlaces t len places = t.next_own < t.room → len + t.room ≤ places + t.next_own
+-- so many more own objects have a place, as many as there are ids below the room's end
+abbrev pub HasPlaces : TableView → ℕ → Type 0
+HasPlaces t places = t.next_own < t.room → t.room ≤ places + t.next_own
 
--- the two vectors that a table is kept in: each rises within its range, and the first has its places
-pub record StandsInVectors (t : TableView) (own peer : List ObjectView) (len places : ℕ) : Type 0 where
+-- the own objects and the others by rising ids: each rise within their range, and the first have so many places more
+pub record StandsInOrder (t : TableView) (own peer : List ObjectView) (places : ℕ) : Type 0 where
   pub first : HasFirst t
   pub own_rises : RiseWithin (if t.client then 0 else first_server_id) t.next_own own
   pub peer_rises : RiseWithin (if t.client then first_server_id else 0) t.next_peer peer
   pub own_ends : t.next_own ≤ own_end t
   pub peer_ends : t.next_peer ≤ peer_end t
-  pub room : HasPlaces t len places
+  pub room : HasPlaces t places
+
+-- the objects behind their keys
+abbrev pub objects_in : List (ℕ × ObjectView) → List ObjectView
+objects_in [] = []
+objects_in (x ∷ xs) = x.1 ∷ objects_in xs
+
+-- each key is the id of its object
+abbrev pub AreIds : List (ℕ × ObjectView) → Type 0
+AreIds [] = Unit {0}
+AreIds (x ∷ xs) = (x.0 ≡ x.1.id) × AreIds xs
+
+-- what a table is kept in: its own objects and the others, by their ids
+pub record IsKept (own peer : List (ℕ × ObjectView)) (t : TableView) (places : ℕ) : Type 0 where
+  pub own_ids : AreIds own
+  pub peer_ids : AreIds peer
+  pub stands : StandsInOrder t (objects_in own) (objects_in peer) places

@@ -69,16 +69,6 @@ impl InterfaceName {
             _ => false,
         }
     }
-
-    /// Whether it is that interface of the thirteen.
-    pub(crate) fn stands_for(&self, interface: KnownInterface) -> bool
-        ensures { IsTrue result ↔ (interface_view self.now ≡ Known interface) }
-    {
-        match self {
-            InterfaceName::Known(known) => *known == interface,
-            InterfaceName::Other(_) => false,
-        }
-    }
 }
 
 impl Clone for InterfaceName {

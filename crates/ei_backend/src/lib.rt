@@ -1,6 +1,7 @@
 //! The outside, and one endpoint over it: objects, buffers, and the messages in them.
 #![tactic(auto)]
 
+mod announcement;
 mod backend;
 mod failing;
 mod front;
@@ -20,7 +21,6 @@ mod pieces;
 mod proxy;
 mod reading;
 mod ring;
-mod sorted_objects;
 mod table;
 mod tray;
 mod words;

@@ -10,11 +10,13 @@ ghost use Rattle.ei_spec.specs.Message.{message, size};
 ghost use Rattle.ei_wire.specs.Gives.{value_of_arg};
 ghost use Rattle.ei_wire.specs.declared.error.SendError.TheVariants as send_error;
 ghost use Rattle.ei_backend.specs.Object.{interface_view, HasFixedName, object_text, same_object, same_object_equiv};
+ghost use Rattle.ei_backend.specs.Announcement.{known_in};
 ghost use Rattle.ei_backend.specs.Table.{found};
 ghost use Rattle.ei_backend.specs.Backend.{sent, unsent_of};
 ghost use Rattle.ei_backend.specs.Outgoing.{HasRoomFor};
 ghost use Rattle.ei_spec.specs.declared.limits.TheConstants.{MOST_MESSAGE_BYTES};
 
+use crate::announcement::Announcement;
 use crate::has_backend::HasBackend;
 use crate::interface::InterfaceName;
 use crate::proxy::{Described, Interface};
@@ -32,21 +34,19 @@ use std::marker::Model;
 #[derive(Drop)]
 pub struct Object {
     id: u64,
-    interface: InterfaceName,
-    version: u32,
-    client_side: bool,
+    announced: Announcement,
 }
 
 impl Model for Object {
     ghost use Rattle.ei_spec.specs.Interface.{ObjectView};
-    ghost use Rattle.ei_backend.specs.Object.{interface_view};
+    ghost use Rattle.ei_backend.specs.Announcement.{announced_as};
     ghost use Rattle.ei_backend.specs.Codes.{object_code};
 
     ghost Value = { ObjectView };
 
     ghost coded = { object_code };
 
-    ghost view = { λ o. record { id = o.id; interface = interface_view o.interface; version = o.version; client_side = o.client_side } };
+    ghost view = { λ o. announced_as o.id o.announced };
 }
 
 impl Object {
@@ -55,9 +55,27 @@ impl Object {
     {
         Object {
             id,
-            interface,
-            version,
-            client_side,
+            announced: Announcement::new(interface, version, client_side),
+        }
+    }
+
+    /// An object of one of the thirteen interfaces.
+    #[inline(always)]
+    pub(crate) fn known(
+        id: u64,
+        interface: KnownInterface,
+        version: u32,
+        client_side: bool,
+    ) -> Object
+        ensures { result ≡ record { id = id; interface = Known interface; version = version; client_side = client_side } }
+    {
+        Object {
+            id,
+            announced: Announcement::Known {
+                client_side,
+                interface,
+                version,
+            },
         }
     }
 
@@ -72,28 +90,29 @@ impl Object {
     pub fn interface(&self) -> &str
         ensures { result.now ≡ bytes_of self.now.interface }
     {
-        self.interface.as_str()
+        self.announced.name()
     }
 
-    /// The interface.
-    pub fn interface_name(&self) -> &InterfaceName
-        ensures { interface_view result.now ≡ self.now.interface }
+    /// The interface, if it is one of the thirteen.
+    #[inline(always)]
+    pub fn known_interface(&self) -> Option<KnownInterface>
+        ensures { result ≡ known_in self.now.interface }
     {
-        &self.interface
+        self.announced.known()
     }
 
     /// The version that was announced.
     pub fn version(&self) -> u32
         ensures { result ≡ self.now.version }
     {
-        self.version
+        self.announced.version()
     }
 
     /// Whether the endpoint is a client.
     pub fn client_side(&self) -> bool
         ensures { result ≡ self.now.client_side }
     {
-        self.client_side
+        self.announced.client_side()
     }
 
     /// A copy of an object of one of the thirteen interfaces, which can't fail.
@@ -113,12 +132,7 @@ impl Object {
         requires { self.now.interface ≡ Known interface }
         ensures { result ≡ self.now }
     {
-        Object {
-            id: self.id,
-            interface: InterfaceName::Known(interface),
-            version: self.version,
-            client_side: self.client_side,
-        }
+        Object::known(self.id, interface, self.version(), self.client_side())
     }
 
     /// A copy, if the interface is one of the thirteen. It takes no memory.
@@ -126,15 +140,8 @@ impl Object {
     pub(crate) fn known_copy(&self) -> Option<Object>
         ensures { IfSome result (λ o. o ≡ self.now) }
     {
-        match &self.interface {
-            InterfaceName::Known(known) => Some(Object {
-                id: self.id,
-                interface: InterfaceName::Known(*known),
-                version: self.version,
-                client_side: self.client_side,
-            }),
-            InterfaceName::Other(_) => None,
-        }
+        let interface = self.known_interface()?;
+        Some(self.copy_of(interface))
     }
 
     /// Whether id, name, version and side are the same.
@@ -142,9 +149,9 @@ impl Object {
         ensures { result ≡ same_object self.now other.now }
     {
         self.id == other.id
-            && self.interface == other.interface
-            && self.version == other.version
-            && self.client_side == other.client_side
+            && self.announced.is_same_interface(&other.announced)
+            && self.version() == other.version()
+            && self.client_side() == other.client_side()
     }
 
     /// The object as an argument: its id.
@@ -189,7 +196,7 @@ impl Object {
         ensures some { IsSome result ↔ ((self.interface ≡ Known T.KNOWN) × (self.client_side ≡ T.CLIENT_SIDE)) }
         ensures proxy { IfSome result (λ p. T.behind p ≡ self) }
     {
-        if self.client_side == T::CLIENT_SIDE && self.interface.stands_for(T::KNOWN) {
+        if self.client_side() == T::CLIENT_SIDE && self.known_interface() == Some(T::KNOWN) {
             Some(T::new_unchecked(self))
         } else {
             None
@@ -205,9 +212,7 @@ impl Clone for Object {
     fn clone(&self) -> Result<Object, AllocError> {
         Ok(Object {
             id: self.id,
-            interface: self.interface.clone()?,
-            version: self.version,
-            client_side: self.client_side,
+            announced: self.announced.share()?,
         })
     }
 }

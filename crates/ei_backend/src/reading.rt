@@ -4,6 +4,7 @@ ghost use Rattle.std.specs.Prelude.{◌≡◌, ◌≤◌, ◌<◌, ◌+◌, ℕ,
 ghost use Rattle.ei_wire.specs.declared.error.ParseError.TheVariants as error;
 ghost use Rattle.circular_buffer.specs.Buffer.{buffer};
 ghost use Rattle.ei_spec.specs.Message as message;
+ghost use Rattle.ei_spec.specs.declared.handle.Handle.{Handle as Descriptor};
 ghost use Rattle.ei_backend.specs.declared.front.TheConstants.{HEADER_BYTES};
 ghost use Rattle.ei_backend.specs.declared.message.PendingRequestResult.TheVariants as pending;
 ghost use Rattle.ei_backend.specs.Front.{front_view, front_len, IsSound};
@@ -42,8 +43,8 @@ impl Step {
 }
 
 impl Incoming {
-    /// The message at the front, taken out, if it is whole: mostly it lies in the ring's first bytes, is lawful and announces
-    /// nothing, and no handle is unread.
+    /// The message at the front, taken out, if it is whole: mostly it lies in the ring's first bytes, is lawful, announces
+    /// nothing and bears no handle.
     ///
     /// Where memory runs out, what is unread and the table stay.
     #[inline(always)]
@@ -52,17 +53,15 @@ impl Incoming {
         T: Drop,
         ensures { TakesNext T.target T.code T.values T.announced T.events self.old self.new table.old table.new result }
     {
-        if self.handles.is_empty() {
-            match front_in_place(&self.bytes) {
-                Some(FrontMessage::Whole(id, opcode, body, len)) => {
-                    if let Some(message) = read_lawful(alloc, id, opcode, body, table) {
-                        drop_front(&mut self.bytes, len);
-                        return Ok(Some(PendingRequestResult::Request(message)));
-                    }
+        match front_in_place(&self.bytes) {
+            Some(FrontMessage::Whole(id, opcode, body, len)) => {
+                if let Some(message) = read_lawful(alloc, id, opcode, body, table) {
+                    drop_front(&mut self.bytes, len);
+                    return Ok(Some(PendingRequestResult::Request(message)));
                 }
-                Some(FrontMessage::Short(_)) => return Ok(None),
-                _ => {}
             }
+            Some(FrontMessage::Short(_)) => return Ok(None),
+            _ => {}
         }
         self.next_rare(alloc, table)
     }
@@ -205,7 +204,7 @@ fn gather(bytes: &HeapCircularBuffer<u8>, scratch: &mut [u8]) -> usize
     }
 }
 
-/// Reads a lawful message that announces nothing, if its target stands where it mostly does.
+/// Reads a lawful message that announces nothing and bears no handle. The handles that are unread stay.
 #[inline(always)]
 fn read_lawful<T: MessageEnum>(
     alloc: Global,
@@ -216,12 +215,12 @@ fn read_lawful<T: MessageEnum>(
 ) -> Option<T>
 where
     T: Drop,
-    ensures read { IfSome result (λ m. (all rest : List ℕ) (b : BackendView) →
-        of_target T.events (reading all [] table.now b) (found table.now id) (record { id = id; opcode = opcode; body = body.now }) rest
-        ≡ (Message (T.target m) (T.code m) (T.values m), reading rest [] table.now b)) }
+    ensures read { IfSome result (λ m. (all rest : List ℕ) (handles : List Descriptor) (b : BackendView) →
+        of_target T.events (reading all handles table.now b) (found table.now id) (record { id = id; opcode = opcode; body = body.now }) rest
+        ≡ (Message (T.target m) (T.code m) (T.values m), reading rest handles table.now b)) }
     ensures announced { IfSome result (λ m. T.announced m ≡ None) }
 {
-    let target = table.likely(id)?;
+    let target = table.object_for_id(id)?;
     let mut stream = ByteStream::new(alloc, body, &[]);
     T::parse_lawful(target, opcode, &mut stream)
 }

@@ -4,13 +4,14 @@ ghost use Rattle.std.specs.Prelude.{◌≡◌, ◌≤◌, ◌-◌, ◌↔◌, �
 ghost use Rattle.std.specs.Option.{option_copied};
 ghost use Rattle.ei_wire.specs.Gives.{Gives};
 ghost use Rattle.ei_wire.specs.declared.error.SendError.TheVariants as send_error;
+ghost use Rattle.ei_keyed.specs.Keyed.{without_key};
 ghost use Rattle.ei_backend.specs.Object.{interface_view, HasFixedName};
 ghost use Rattle.ei_backend.specs.Table.{Announced, accept, found, peer_end, without, own, own_end, own_start};
 ghost use Rattle.ei_backend.specs.Table.{own_limit, with_own, with_places, new_table, first_object, first_server_id, is_own};
 
 use crate::interface::InterfaceName;
 use crate::object::Object;
-use crate::sorted_objects::{look_first, look_up, take_out};
+use ei_keyed::Keyed;
 use ei_spec::KnownInterface;
 use ei_spec::limits::FIRST_SERVER_ID;
 use ei_wire::{NoMemory, ParseError, SendError};
@@ -26,12 +27,12 @@ pub type Accepted = Result<Object, ParseError>;
 /// server's run from there and end before `u64::MAX`.
 ///
 /// The ids below 0xff00000000000000, 0 among them, are a client's, the others a server's. The objects of each
-/// range stand in a vector by rising ids: those of this end's range in `own`, the others in `peer`. Ids only
-/// rise, so a new object goes to the end of a vector. A look-up tries one place, and then is a binary search.
+/// range stand by rising ids: those of this end's range in `own`, the others in `peer`. Ids only rise, so a new object
+/// goes behind the others.
 #[derive(Drop)]
 pub struct Table {
-    own: Vec<Object>,
-    peer: Vec<Object>,
+    own: Keyed<Object>,
+    peer: Keyed<Object>,
     next_own: u64,
     next_peer: u64,
     client: bool,
@@ -39,18 +40,17 @@ pub struct Table {
 }
 
 impl Model for Table {
-    ghost use Rattle.std.specs.Prelude.{vec_len, vec_capacity};
-    ghost use Rattle.ei_backend.specs.Table.{TableView, table_of, StandsInVectors};
+    ghost use Rattle.ei_backend.specs.Table.{TableView, table_of, objects_in, IsKept};
     ghost use Rattle.ei_backend.specs.Codes.{table_code};
 
     ghost Value = { TableView };
 
     ghost coded = { table_code };
 
-    ghost view = { λ t. table_of t.own.items t.peer.items t.next_own t.next_peer t.client t.room };
+    ghost view = { λ t. table_of (objects_in t.own.items) (objects_in t.peer.items) t.next_own t.next_peer t.client t.room };
 
-    ghost invariant = { λ t. StandsInVectors (table_of t.own.items t.peer.items t.next_own t.next_peer t.client t.room) t.own.items t.peer.items (vec_len t.own)
-        (vec_capacity t.own) };
+    ghost invariant = { λ t. IsKept t.own.items t.peer.items
+        (table_of (objects_in t.own.items) (objects_in t.peer.items) t.next_own t.next_peer t.client t.room) t.own.room };
 }
 
 impl Table {
@@ -60,10 +60,9 @@ impl Table {
         requires to { next_own ≤ own_limit client }
         ensures { IfOk result (λ t. t ≡ new_table client next_own) }
     {
-        let interface = InterfaceName::Known(KnownInterface::Handshake);
-        let mut low = Vec::new(alloc);
-        low.push(Object::new(0, interface, 1, client))?;
-        let high = Vec::new(alloc);
+        let mut low = Keyed::new(alloc);
+        low.push(0, Object::known(0, KnownInterface::Handshake, 1, client))?;
+        let high = Keyed::new(alloc);
         let (own, peer, next_peer) = if client {
             (low, high, FIRST_SERVER_ID)
         } else {
@@ -158,22 +157,22 @@ impl Table {
         ensures first { id ≡ 0 → IfSome result (λ o. o.now ≡ first_object self.now.client) }
     {
         if own {
-            look_first(&self.own, id)
+            self.own.likely(id)
         } else {
-            look_first(&self.peer, id)
+            self.peer.likely(id)
         }
     }
 
-    /// The object of an id, in the vector of its range.
+    /// The object of an id, among those of its range.
     #[inline(never)]
     fn search(&self, id: u64) -> Option<&Object>
         ensures object { option_copied result ≡ found self.now id }
         ensures first { id ≡ 0 → IfSome result (λ o. o.now ≡ first_object self.now.client) }
     {
         if self.is_own(id) {
-            look_up(&self.own, id)
+            self.own.get(id)
         } else {
-            look_up(&self.peer, id)
+            self.peer.get(id)
         }
     }
 
@@ -189,7 +188,7 @@ impl Table {
             return Err(ParseError::InvalidId(id));
         }
         let object = Object::new(id, interface, version, self.client);
-        self.peer.push(object.clone()?)?;
+        self.peer.push(id, object.clone()?)?;
         self.next_peer = id + 1;
         Ok(object)
     }
@@ -214,7 +213,7 @@ impl Table {
             return Err(SendError::IdsExhausted);
         }
         let object = Object::new(id, interface, version, self.client);
-        self.own.push(object.clone()?)?;
+        self.own.push(id, object.clone()?)?;
         self.next_own = id + 1;
         Ok(object)
     }
@@ -256,4 +255,12 @@ impl Table {
             take_out(&mut self.peer, id);
         }
     }
+}
+
+/// Takes the object of an id out of these.
+fn take_out(objects: &mut Keyed<Object>, id: u64)
+    ensures others { objects.new.items ≡ without_key id objects.old.items }
+    ensures room { objects.old.room ≤ objects.new.room }
+{
+    drop(objects.take(id));
 }

@@ -1,8 +1,6 @@
 -- Objects that go, one after another.
-use Rattle.std.proofs.Common.{◌≡◌, ℕ, ◌≤◌, List, [], ◌∷◌, ◌++◌, refl, arith}
-use Rattle.ei_spec.specs.Piece.{Piece}
+use Rattle.std.proofs.Common.{◌≡◌, ℕ, List, [], ◌∷◌, ◌++◌, refl}
 use Rattle.ei_backend.specs.Endpoint.{Endpoint}
-use Rattle.ei_backend.specs.Outgoing.{HasSpare, Room}
 use Rattle.ei_request.specs.Connection.{next_serial}
 use Rattle.ei_request.specs.Sending.{destroys, destroys_all, serial_after}
 
@@ -13,6 +11,3 @@ destroys_last e s (x ∷ ids) id = destroys_last (destroys e x (next_serial s)) 
 pub serial_last : (s : ℕ) (ids : List ℕ) (id : ℕ) → serial_after s (ids ++ id ∷ []) ≡ next_serial (serial_after s ids)
 serial_last s [] id = refl
 serial_last s (x ∷ ids) id = serial_last (next_serial s) ids id
-
-pub less_spare : (a b h : ℕ) (waiting : Piece) (room : Room) → HasSpare a h waiting room → b ≤ a → HasSpare b h waiting room
-less_spare a b h waiting room s le = record { spare_bytes = omega (arith, s.spare_bytes); spare_handles = s.spare_handles }

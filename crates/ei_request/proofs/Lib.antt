@@ -1,6 +1,6 @@
 pub mod AddedDevice
 pub mod Closing
-pub mod DeviceRooms
+pub mod DeviceIds
 pub mod FirstOnes
 pub mod GoneInTurn
 pub mod IdsInTurn
@@ -8,7 +8,10 @@ pub mod ItemsInTurn
 pub mod MadeInTurn
 pub mod Obeying
 pub mod Offering
-pub mod RisingDevices
+pub mod NumberedDevices
 pub mod Rooms
-pub mod SeatRooms
+pub mod SameRead
+pub mod Spending
+pub mod TableKept
+pub mod TableRoom
 pub mod Unfailing

@@ -11,7 +11,6 @@ use Rattle.ei_types.specs.declared.capability.DeviceCapability.{DeviceCapability
 use Rattle.ei_types.specs.declared.capability.DeviceCapabilities.{DeviceCapabilities}
 use Rattle.ei_types.specs.Capability.{capability_list, bits_of, has_bit}
 use Rattle.ei_backend.specs.Endpoint.{Endpoint}
-use Rattle.ei_backend.specs.Table.{TableView, own_end}
 use Rattle.ei_session.specs.Events.{interface_event}
 use Rattle.ei_request.specs.Sending.{announces, next_object}
 use Rattle.ei_request.specs.Making.{announces_all, objects_of, granted, chosen}
@@ -67,7 +66,7 @@ all_chosen given wanted =
     (one_chosen (has_bit (bits_of given) 16 && has_bit (bits_of wanted) 16) _ _ _ (one_chosen (has_bit (bits_of given) 32 && has_bit (bits_of wanted) 32) _ _ _
     (one_chosen (has_bit (bits_of given) 64 && has_bit (bits_of wanted) 64) _ _ _ refl))))))
 
-pub so_far_all : (given wanted : DeviceCapabilities) (n : ℕ) → 7 ≤ n → so_far given wanted (take n capability_list) ≡ granted given wanted
+pub so_far_all : (given wanted : DeviceCapabilities) (n : ℕ) → length capability_list ≤ n → so_far given wanted (take n capability_list) ≡ granted given wanted
 so_far_all given wanted n le = ap (so_far given wanted) (take_all n capability_list le) ∙ all_chosen given wanted
 
 -- the first of them are no more than all
@@ -97,13 +96,14 @@ listed_more e e1 v d given wanted i one os os1 os2 lt p q r =
     ∙ append_assoc os (objects_of e v xs) (objects_of (announces_all e v d xs) v ys)
     ∙ ap (λ (x : List ObjectView). os ++ x) (sym (objects_append e v d xs ys) ∙ ap (objects_of e v) (sym (so_far_more given wanted capability_list i one lt)))
 
--- for the next of them there is an id, where there is one for each
-pub place_left : (e now : Endpoint) (v : KnownInterface → ℕ) (d : ℕ) (given wanted : DeviceCapabilities) (i : ℕ) (one : DeviceCapability) → i < length capability_list →
-    now ≡ announces_all e v d (so_far given wanted (take i capability_list)) → now.next_own + length (chosen given wanted (get_or capability_list i one)) ≤ e.next_own + length (granted given wanted)
-place_left e now v d given wanted i one lt made =
-    let next : now.next_own ≡ e.next_own + length (so_far given wanted (take i capability_list)) = ap (λ (x : Endpoint). x.next_own) made ∙ own_after e v d (so_far given wanted (take i capability_list)) in
+-- one capability more
+pub so_far_length : (given wanted : DeviceCapabilities) (i : ℕ) (one : DeviceCapability) → i < length capability_list →
+    length (so_far given wanted (take (i + 1) capability_list)) ≡ length (so_far given wanted (take i capability_list)) + length (chosen given wanted (get_or capability_list i one))
+so_far_length given wanted i one lt =
     let more = ap (λ (l : List KnownInterface). length l) (so_far_more given wanted capability_list i one lt) in
-    omega (arith, next, more, length-append (so_far given wanted (take i capability_list)) (chosen given wanted (get_or capability_list i one)), so_far_few given wanted (i + 1))
+    omega (arith, more, length-append (so_far given wanted (take i capability_list)) (chosen given wanted (get_or capability_list i one)))
 
-pub same_end : (t u : TableView) → u.client ≡ t.client → own_end u ≡ own_end t
-same_end t u e = rw e refl
+-- and it is no more than all
+pub few_left : (given wanted : DeviceCapabilities) (i : ℕ) (one : DeviceCapability) → i < length capability_list →
+    length (so_far given wanted (take i capability_list)) + length (chosen given wanted (get_or capability_list i one)) ≤ length (granted given wanted)
+few_left given wanted i one lt = omega (arith, so_far_length given wanted i one lt, so_far_few given wanted (i + 1))

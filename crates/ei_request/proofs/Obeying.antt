@@ -22,7 +22,7 @@ use Rattle.ei_server.specs.declared.touchscreen.Request.TheVariants as touchscre
 use Rattle.ei_server.specs.declared.text.Request.{Request as TextRequest}
 use Rattle.ei_server.specs.declared.text.Request.TheVariants as text
 use Rattle.ei_types.specs.Inputs.{Input as Plain}
-use Rattle.ei_request.specs.declared.input.Input.{Input}
+use Rattle.ei_input.specs.declared.input_event.InputEvent.{InputEvent as Input}
 use Rattle.ei_request.specs.Typed.{meaning_of, input_asked, pointer_meaning, pointer_absolute_meaning, scroll_meaning, button_meaning}
 use Rattle.ei_request.specs.Typed.{keyboard_meaning, touchscreen_meaning, text_meaning}
 use Rattle.ei_request.specs.Coded.{input_in_code}

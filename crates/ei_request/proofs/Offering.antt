@@ -41,5 +41,5 @@ unfolding capability_events
 offers_all seat mask settled = refl
 
 -- the events of all the capabilities of a list that is the seven
-pub offers_whole : (seat mask : ℕ) (settled : KnownInterface → Bool) (n : ℕ) → 7 ≤ n → offers seat mask settled (take n capability_list) ≡ capability_events seat mask settled
+pub offers_whole : (seat mask : ℕ) (settled : KnownInterface → Bool) (n : ℕ) → length capability_list ≤ n → offers seat mask settled (take n capability_list) ≡ capability_events seat mask settled
 offers_whole seat mask settled n le = ap (offers seat mask settled) (take_all n capability_list le) ∙ offers_all seat mask settled

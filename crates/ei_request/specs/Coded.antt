@@ -1,8 +1,8 @@
 -- The inputs of the definitions as the code keeps them.
 use Rattle.ei_types.specs.Inputs.{Input as Asked, PointerMotion, PointerMotionAbsolute, Button, ScrollDelta, ScrollStop, ScrollCancel, ScrollDiscrete}
 use Rattle.ei_types.specs.Inputs.{KeyboardKey, TouchDown, TouchMotion, TouchUp, TouchCancel, TextKeysym, TextUtf8}
-use Rattle.ei_request.specs.declared.input.Input.{Input}
-use Rattle.ei_request.specs.declared.input.Input.TheVariants as input
+use Rattle.ei_input.specs.declared.input_event.InputEvent.{InputEvent as Input}
+use Rattle.ei_input.specs.declared.input_event.InputEvent.TheVariants as input
 
 abbrev pub input_in_code : Asked → Input
 input_in_code (PointerMotion dx dy) = input.PointerMotion (record { 0 = dx }) (record { 0 = dy })

@@ -1,5 +1,5 @@
 -- The server's converter.
-use Rattle.std.specs.Prelude.{List, [], ◌∷◌, Option, Some, None, refl}
+use Rattle.std.specs.Prelude.{List, refl}
 use Rattle.std.specs.Coded.{Coded, code_by, coded×, coded_list}
 use Rattle.ei_request.specs.Connection.{ConnectionView, connection_code}
 use Rattle.ei_request.specs.declared.event.EisRequest.{EisRequest}
@@ -13,12 +13,3 @@ pub record ConverterView : Type 0 where
 abbrev pub converter_code : Coded ConverterView
 converter_code = code_by (ConnectionView × List EisRequest) (coded× connection_code (coded_list event.the_row.coded)) (λ c. (c.handle, c.queue)) (λ
     p. record { handle = p.0; queue = p.1 }) (λ _. refl)
-
--- the oldest request, and the others
-abbrev pub first_of : List EisRequest → Option EisRequest
-first_of [] = None
-first_of (r ∷ rs) = Some r
-
-abbrev pub rest_of : List EisRequest → List EisRequest
-rest_of [] = []
-rest_of (r ∷ rs) = rs

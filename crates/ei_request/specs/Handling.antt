@@ -7,7 +7,7 @@ use Rattle.ei_server.specs.declared.device.Request.{Request as Device}
 use Rattle.ei_server.specs.declared.device.Request.TheVariants as device
 use Rattle.ei_types.specs.declared.capability.DeviceCapabilities.{DeviceCapabilities}
 use Rattle.ei_types.specs.declared.error.Error.{Error}
-use Rattle.ei_request.specs.declared.input.Input.{Input}
+use Rattle.ei_input.specs.declared.input_event.InputEvent.{InputEvent as Input}
 use Rattle.ei_request.specs.Coded.{input_in_code}
 use Rattle.ei_session.specs.Meaning.{Meaning, Shakes, Syncs, Disconnects, Pongs, ReleasesSeat, Binds, RequestsDevice, Closes, Starts, Stops, Frames}
 use Rattle.ei_session.specs.Meaning.{Readies, Releases, Inputs}

@@ -7,9 +7,9 @@ use Rattle.ei_backend.specs.Codes.{object_code}
 use Rattle.ei_types.specs.declared.capability.DeviceCapabilities.{DeviceCapabilities}
 use Rattle.ei_types.specs.contracts.capability.DeviceCapabilities as capabilities
 use Rattle.ei_request.specs.Keys.{DeviceKey, device_key_code, same_device}
-use Rattle.ei_request.specs.declared.input.Input.{Input}
-use Rattle.ei_request.specs.declared.input.Input.TheVariants.{TouchDown, TouchMotion, TouchUp, TouchCancel}
-use Rattle.ei_request.specs.contracts.input.Input as input
+use Rattle.ei_input.specs.declared.input_event.InputEvent.{InputEvent as Input}
+use Rattle.ei_input.specs.declared.input_event.InputEvent.TheVariants.{TouchDown, TouchMotion, TouchUp, TouchCancel}
+use Rattle.ei_input.specs.contracts.input_event.InputEvent as input
 use Rattle.ei_request.specs.declared.event.EisRequest.{EisRequest}
 use Rattle.ei_request.specs.declared.event.EisRequest.TheVariants as asked
 use Rattle.ei_request.specs.Timed.{timed}

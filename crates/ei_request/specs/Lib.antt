@@ -4,14 +4,15 @@ pub mod Timed
 pub mod Typed
 pub mod Event
 pub mod Held
-pub mod Rising
+pub mod DeviceTable
+pub mod TableLends
 pub mod Connection
 pub mod Sending
 pub mod Removing
 pub mod Making
+pub mod Costs
 pub mod Reading
 pub mod Converter
-pub mod Queue
 pub mod Refusing
 pub mod Handling
 pub mod Lending
@@ -21,6 +22,7 @@ pub use Rattle.ei_spec.specs.Message
 pub use Rattle.ei_spec.specs.Value
 pub use Rattle.ei_types.specs.Capability
 pub use Rattle.ei_types.specs.Enums
+pub use Rattle.ei_input.specs.Queue
 pub use Rattle.ei_session.specs.Arguments
 pub use Rattle.ei_session.specs.Events
 pub use Rattle.ei_session.specs.Replies

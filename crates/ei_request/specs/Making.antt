@@ -1,5 +1,5 @@
 -- Seats and devices that are made.
-use Rattle.std.specs.Prelude.{◌≡◌, ℕ, ◌+◌, true, false, List, [], ◌∷◌, ◌++◌, length, Option, Some, None, find, ◌&&◌, ◌||◌, nat_lt, Bool, if◌then◌else◌, codes}
+use Rattle.std.specs.Prelude.{◌≡◌, ℕ, ◌+◌, ◌<◌, ◌≤◌, true, false, List, [], ◌∷◌, ◌++◌, length, Option, Some, None, find, ◌&&◌, ◌||◌, nat_lt, Bool, if◌then◌else◌, codes}
 use Rattle.std.specs.List.{filter_map, list_any, flat_map, sum_by}
 use Rattle.ei_spec.specs.declared.handle.Handle.{Handle}
 use Rattle.ei_spec.specs.declared.interface.KnownInterface.{KnownInterface}
@@ -15,6 +15,7 @@ use Rattle.ei_types.specs.declared.capability.DeviceCapabilities.{DeviceCapabili
 use Rattle.ei_types.specs.declared.capability.DeviceCapability.{DeviceCapability}
 use Rattle.ei_types.specs.declared.enums.DeviceType.{DeviceType}
 use Rattle.ei_backend.specs.Object.{same_name}
+use Rattle.ei_backend.specs.Table.{TableView, own_end}
 use Rattle.ei_backend.specs.Endpoint.{Endpoint, endpoint_of}
 use Rattle.ei_session.specs.Arguments.{event}
 use Rattle.ei_session.specs.Replies.{seat_event, name_event, capability_event, capability_events, done_event}
@@ -23,6 +24,8 @@ use Rattle.ei_handshake.specs.Versions.{VersionMap}
 use Rattle.ei_request.specs.Held.{SeatView, DeviceView, is_seat}
 use Rattle.ei_request.specs.Connection.{ConnectionView, version_in, is_settled}
 use Rattle.ei_request.specs.Sending.{announces, next_object, sends_on, device_event, device_name_event, device_type_event}
+use Rattle.ei_request.specs.declared.costs.TheConstants.{MOST_ITEM_BYTES}
+use Rattle.ei_request.specs.declared.making.Allowed.{Allowed}
 use Rattle.ei_request.specs.declared.making.DeviceSetup.{DeviceSetup}
 use Rattle.ei_request.specs.declared.making.DeviceSetup.TheVariants as setup
 
@@ -69,6 +72,10 @@ is_long m = nat_lt MOST_MESSAGE_BYTES (size m)
 abbrev pub is_long_name : (List ℕ → Raw) → Option (List ℕ) → Bool
 is_long_name event name = list_any is_long (named_by event name)
 
+-- there is an id for a seat, but its name is too long
+abbrev pub HasLongName : TableView → Option (List ℕ) → Type 0
+HasLongName t name = (t.next_own < own_end t) × (is_long_name (name_event t.next_own) name ≡ true)
+
 -- ---- devices
 
 -- the interfaces of a device, by rising bit: those of the capabilities that are wanted and were given to the seat
@@ -79,10 +86,22 @@ granted given wanted = filter_map (λ c. if has_bit (bits_of given) c.0 && has_b
 abbrev pub chosen : DeviceCapabilities → DeviceCapabilities → DeviceCapability → List KnownInterface
 chosen given wanted one = if has_bit (bits_of given) (bit_of one) && has_bit (bits_of wanted) (bit_of one) then interface_of one ∷ [] else []
 
+-- those of a device that is allowed these
+abbrev pub granted_to : Allowed → List KnownInterface
+granted_to allowed = granted allowed.given allowed.wanted
+
+-- the interface of a capability, where it is allowed
+abbrev pub chosen_of : Allowed → DeviceCapability → List KnownInterface
+chosen_of allowed one = chosen allowed.given allowed.wanted one
+
 -- of the seat, if it is held
 abbrev pub granted_by : Option SeatView → DeviceCapabilities → List KnownInterface
 granted_by None wanted = []
 granted_by (Some s) wanted = granted s.capabilities wanted
+
+-- of the seat of that id
+abbrev pub granted_at : ConnectionView → ℕ → DeviceCapabilities → List KnownInterface
+granted_at c seat wanted = granted_by (find (is_seat seat) c.seats) wanted
 
 -- whether the keyboard's is among them
 abbrev pub is_keyboard : KnownInterface → Bool
@@ -137,6 +156,11 @@ setup_handles items = flat_map setup_handle items
 abbrev pub tells_item : Endpoint → ℕ → Option ObjectView → DeviceSetup → Endpoint
 tells_item e device keyboard item = record (sends_on e (setup_event device keyboard item)) { unsent_handles = e.unsent_handles ++ setup_handle item }
 
+-- the items of a device's description are told
+abbrev pub tells_items : Endpoint → ℕ → Option ObjectView → List DeviceSetup → Endpoint
+tells_items e device keyboard items =
+    record (sends_on e (setup_events device keyboard items)) { unsent_handles = e.unsent_handles ++ setup_handles items }
+
 -- the text of an item, if it has one
 abbrev pub item_letters : DeviceSetup → Option (List ℕ)
 item_letters (setup.RegionMappingId id) = Some id.now
@@ -144,7 +168,7 @@ item_letters item = None
 
 -- how many bytes the event of an item has at most, and those of all
 abbrev pub item_room : DeviceSetup → ℕ
-item_room item = length (name_text (item_letters item)) + 36
+item_room item = length (name_text (item_letters item)) + MOST_ITEM_BYTES
 
 abbrev pub setup_room : List DeviceSetup → ℕ
 setup_room items = sum_by item_room items
@@ -156,7 +180,7 @@ NeedsKeyboard item = ⊥
 
 -- the seat of that id is held, and gives a device of these capabilities a keyboard
 abbrev pub IsGiven : ConnectionView → ℕ → DeviceCapabilities → Type 0
-IsGiven c seat wanted = has_keyboard (granted_by (find (is_seat seat) c.seats) wanted) ≡ true
+IsGiven c seat wanted = has_keyboard (granted_at c seat wanted) ≡ true
 
 -- whether the message of an item would be too long
 abbrev pub is_long_item : ℕ → DeviceSetup → Bool
@@ -165,6 +189,14 @@ is_long_item device item = list_any is_long (setup_event device None item)
 -- whether a text of a device's description is too long
 abbrev pub is_long_description : ℕ → Option (List ℕ) → List DeviceSetup → Bool
 is_long_description device name items = is_long_name (device_name_event device) name || list_any (is_long_item device) items
+
+-- fewer own ids are left than a device with these interfaces needs: one for itself, and one for each of them
+abbrev pub LacksIds : TableView → List KnownInterface → Type 0
+LacksIds t interfaces = own_end t < t.next_own + (length interfaces + 1)
+
+-- there are ids for it, but a text of its description is too long
+abbrev pub HasLongText : TableView → List KnownInterface → Option (List ℕ) → List DeviceSetup → Type 0
+HasLongText t interfaces name items = (t.next_own + (length interfaces + 1) ≤ own_end t) × (is_long_description t.next_own name items ≡ true)
 
 -- a new device is announced, and what it is is said
 abbrev pub begins_device : Endpoint → ℕ → ℕ → Option (List ℕ) → DeviceType → Endpoint

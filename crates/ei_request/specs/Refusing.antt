@@ -10,8 +10,8 @@ use Rattle.ei_types.specs.declared.error.Error.TheVariants as error
 use Rattle.ei_types.specs.declared.error.RequestError.{RequestError}
 use Rattle.ei_types.specs.declared.error.RequestError.TheVariants as request_error
 use Rattle.ei_session.specs.Meaning.{Meaning, Shakes, Syncs, Binds, RequestsDevice, Inputs}
-use Rattle.ei_request.specs.declared.input.Input.{Input}
-use Rattle.ei_request.specs.declared.input.Input.TheVariants.{TouchDown, TouchCancel, TextUtf8}
+use Rattle.ei_input.specs.declared.input_event.InputEvent.{InputEvent as Input}
+use Rattle.ei_input.specs.declared.input_event.InputEvent.TheVariants.{TouchDown, TouchCancel, TextUtf8}
 use Rattle.ei_request.specs.declared.input_error.InputError.{InputError}
 use Rattle.ei_request.specs.declared.input_error.InputError.TheVariants as input_error
 use Rattle.ei_request.specs.Coded.{input_in_code}

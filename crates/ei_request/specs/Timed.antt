@@ -3,8 +3,8 @@ use Rattle.std.specs.Prelude.{ℕ}
 use Rattle.ei_request.specs.Keys.{DeviceKey}
 use Rattle.ei_request.specs.declared.event.EisRequest.{EisRequest}
 use Rattle.ei_request.specs.declared.event.EisRequest.TheVariants as asked
-use Rattle.ei_request.specs.declared.input.Input.{Input}
-use Rattle.ei_request.specs.declared.input.Input.TheVariants as input
+use Rattle.ei_input.specs.declared.input_event.InputEvent.{InputEvent as Input}
+use Rattle.ei_input.specs.declared.input_event.InputEvent.TheVariants as input
 
 -- the request that an input of a device becomes
 abbrev pub timed : DeviceKey → ℕ → Input → EisRequest

@@ -32,7 +32,7 @@ use Rattle.ei_types.specs.Inputs.{KeyboardKey, TouchDown, TouchMotion, TouchUp, 
 use Rattle.ei_session.specs.Meaning.{Shake, Greets, Finishes, TellsContext, TellsName, TellsInterface}
 use Rattle.ei_session.specs.Meaning.{Meaning, Shakes, Syncs, Disconnects, Pongs, ReleasesSeat, Binds, RequestsDevice, Closes, Starts, Stops, Frames}
 use Rattle.ei_session.specs.Meaning.{Readies, Releases, Inputs}
-use Rattle.ei_request.specs.declared.input.Input.{Input}
+use Rattle.ei_input.specs.declared.input_event.InputEvent.{InputEvent as Input}
 use Rattle.ei_request.specs.Coded.{input_in_code}
 
 abbrev pub shake_of : Handshake → Shake

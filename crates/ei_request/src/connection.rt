@@ -1,7 +1,7 @@
 //! The connection of a server.
 
 ghost use Rattle.std.specs.Prelude.{◌≡◌, ◌≤◌, ◌<◌, ◌+◌, ◌↔◌, ◌++◌, ℕ, Some, None, IfSome, IfOk, IfErr, IsOk, IsErrOf, OnOk, OnErr, is_some};
-ghost use Rattle.std.specs.Prelude.{true, [], ◌∷◌, find, length};
+ghost use Rattle.std.specs.Prelude.{true, [], find, length};
 ghost use Rattle.std.specs.Option.{option_copied, option_map};
 ghost use Rattle.std.specs.FinMap as finite;
 ghost use Rattle.std.specs.Borrow.{sem};
@@ -17,26 +17,26 @@ ghost use Rattle.ei_backend.specs.Lent.{LentSinkWants};
 ghost use Rattle.ei_backend.specs.Outgoing.{StopsAfter, Flushes};
 ghost use Rattle.ei_backend.specs.Table.{own_end};
 ghost use Rattle.ei_backend.specs.Endpoint.{endpoint_of};
-ghost use Rattle.ei_session.specs.Replies.{name_event};
 ghost use Rattle.ei_request.specs.Held.{is_seat, is_device, is_of_key, has_interface, untouched, changed_first, group_of, waiting_of};
 ghost use Rattle.ei_request.specs.Connection.{new_connection, next_serial, holds_device, Unchanged};
 ghost use Rattle.ei_request.specs.Sending.{AllOrNothing, disconnected_event, no_object_event, says};
 ghost use Rattle.ei_request.specs.Removing.{RemovesDevice, RemovesSeat, Disconnects};
-ghost use Rattle.ei_request.specs.Making.{new_seat, AddsSeat, AddsDevice, is_long_name, is_long_description};
-ghost use Rattle.ei_request.specs.Making.{granted, has_keyboard, new_device, NeedsKeyboard};
+ghost use Rattle.ei_request.specs.Making.{new_seat, AddsSeat, AddsDevice, HasLongName, LacksIds, HasLongText};
+ghost use Rattle.ei_request.specs.Making.{granted_to, has_keyboard, new_device, NeedsKeyboard};
 ghost use Rattle.std.specs.List.{Any};
 ghost use Rattle.ei_request.specs.Reading.{name_in, interface_in};
 ghost use Rattle.ei_request.specs.Refusing.{asked_refusal, TellsOfInput};
 ghost use Rattle.ei_request.specs.Handling.{calls_back, releases_seat, obeys, emptied_at};
 ghost use Rattle.ei_request.specs.Lending.{LendsContext};
 
+use crate::costs::END_BYTES;
 use crate::device::Device;
-use crate::devices::Devices;
+use crate::device_table::{DeviceTable, Sought};
+use crate::event::Queue;
 use crate::held::{HeldDevice, HeldSeat};
 use crate::input::Input;
 use crate::input_error::InputError;
 use crate::making::{self, Allowed, DeviceSetup};
-use crate::queue::Queue;
 use crate::seat::Seat;
 use crate::{holding, seats, sending};
 use ei_backend::{HasBackend, Interface, Object, Sink};
@@ -60,7 +60,7 @@ pub struct Connection {
     negotiated: Versions,
     last_serial: u32,
     seats: Vec<HeldSeat>,
-    devices: Devices,
+    devices: DeviceTable,
     disconnected: bool,
     // The ids that go, while they do; it keeps its memory.
     going: Vec<u64>,
@@ -111,7 +111,7 @@ impl Connection {
             negotiated: negotiated_interfaces,
             last_serial: initial_serial,
             seats: Vec::new(alloc),
-            devices: Devices::new(alloc),
+            devices: DeviceTable::new(alloc),
             disconnected: false,
             going: Vec::new(alloc),
         }
@@ -300,10 +300,10 @@ impl Connection {
         ensures err { OnErr result (Unchanged self.old self.new) }
         ensures ring { self.new.ctx.capacity ≡ self.old.ctx.capacity }
         // when it is refused
-        ensures exhausted { IsErrOf result send_error.IdsExhausted ↔ (own_end self.old.ctx.table ≤ self.old.ctx.table.next_own) }
+        ensures exhausted { IsErrOf result send_error.IdsExhausted ↔
+            (own_end self.old.ctx.table ≤ self.old.ctx.table.next_own) }
         ensures long { IsErrOf result send_error.MessageTooLong ↔
-            ((self.old.ctx.table.next_own < own_end self.old.ctx.table) × (is_long_name (name_event self.old.ctx.table.next_own) (option_copied
-            name.entry) ≡ true)) }
+            HasLongName self.old.ctx.table (option_copied name.entry) }
     {
         seats::make_room(&mut self.context, name)?;
         self.seats.reserve(1)?;
@@ -327,7 +327,7 @@ impl Connection {
         ensures ring { self.new.ctx.capacity ≡ self.old.ctx.capacity }
     {
         self.going.clear();
-        holding::push_seat_ids(self.devices.all(), &self.seats, id, &mut self.going)?;
+        holding::push_seat_ids(&self.devices, &self.seats, id, &mut self.going)?;
         sending::make_room(&mut self.context, self.going.len(), 0)?;
         self.last_serial = sending::destroy_each(&mut self.context, &self.going, self.last_serial);
         if holding::find_seat(&self.seats, id).is_some() {
@@ -372,7 +372,7 @@ impl Connection {
             return Err(SendError::MessageTooLong);
         }
         self.going.clear();
-        holding::push_all_ids(self.devices.all(), &self.seats, &mut self.going)?;
+        holding::push_all_ids(&self.devices, &self.seats, &mut self.going)?;
         sending::make_room(&mut self.context, self.going.len(), bytes)?;
         let last = sending::destroy_each(&mut self.context, &self.going, self.last_serial);
         // There is room for it, and it isn't too long.
@@ -388,30 +388,27 @@ impl Connection {
     }
 }
 
-/// How many bytes a `disconnected` has beside its text.
-const END_BYTES: usize = 24;
-
 // Devices.
 impl Connection {
     /// Whether the device is held.
     pub fn has_device(&self, device: &Device) -> bool
         ensures { result ≡ holds_device self.now device.now }
     {
-        self.devices.find_key(device).is_some()
+        self.devices.get(Sought::Key(device)).is_some()
     }
 
     /// What is held of the device of that id.
     pub(crate) fn find_device(&self, id: u64) -> Option<&HeldDevice>
         ensures { option_copied result ≡ find (is_device id) self.now.devices }
     {
-        self.devices.find(id)
+        self.devices.get(Sought::Device(id))
     }
 
     /// The name of the device, if it is held and has one.
     pub(crate) fn name_of(&self, device: &Device) -> Option<&str>
         ensures { option_copied result ≡ name_in (find (is_of_key device.now) self.now.devices) }
     {
-        match self.devices.find_key(device) {
+        match self.devices.get(Sought::Key(device)) {
             Some(held) => held.name(),
             None => None,
         }
@@ -422,7 +419,7 @@ impl Connection {
         ensures object { option_copied result ≡ interface_in interface (find (is_of_key device.now) self.now.devices) }
         ensures interface { IfSome result (λ o. o.now.interface ≡ Known interface) }
     {
-        match self.devices.find_key(device) {
+        match self.devices.get(Sought::Key(device)) {
             Some(held) => held.interface(interface),
             None => None,
         }
@@ -437,24 +434,23 @@ impl Connection {
         allowed: Allowed,
         setup: &[DeviceSetup<'_>],
     ) -> Result<Device, SendError>
-        requires keyboard { Any NeedsKeyboard setup.now → has_keyboard (granted allowed.given allowed.wanted) ≡ true }
-        ensures device { IfOk result (λ d. d ≡ (new_device (endpoint_of self.old.ctx) self.old.negotiated seat.now (option_copied name.entry)
-            (granted allowed.given allowed.wanted)).device) }
-        ensures ok { OnOk result (AddsDevice self.old seat.now (option_copied name.entry) device_type (granted allowed.given allowed.wanted)
-            setup.now self.new) }
+        requires keyboard { Any NeedsKeyboard setup.now → has_keyboard (granted_to allowed) ≡ true }
+        ensures device { IfOk result (λ d. d ≡ (new_device (endpoint_of self.old.ctx) self.old.negotiated seat.now
+            (option_copied name.entry) (granted_to allowed)).device) }
+        ensures ok { OnOk result (AddsDevice self.old seat.now (option_copied name.entry) device_type
+            (granted_to allowed) setup.now self.new) }
         ensures err { OnErr result (Unchanged self.old self.new) }
         ensures ring { self.new.ctx.capacity ≡ self.old.ctx.capacity }
-        ensures exhausted { IsErrOf result send_error.IdsExhausted ↔ (own_end self.old.ctx.table < self.old.ctx.table.next_own + (length (granted
-            allowed.given allowed.wanted) + 1)) }
+        // when it is refused
+        ensures exhausted { IsErrOf result send_error.IdsExhausted ↔ LacksIds self.old.ctx.table (granted_to allowed) }
         ensures long { IsErrOf result send_error.MessageTooLong ↔
-            ((self.old.ctx.table.next_own + (length (granted allowed.given allowed.wanted) + 1) ≤ own_end self.old.ctx.table)
-            × (is_long_description self.old.ctx.table.next_own (option_copied name.entry) setup.now ≡ true)) }
+            HasLongText self.old.ctx.table (granted_to allowed) (option_copied name.entry) setup.now }
     {
         making::make_room(&mut self.context, name, allowed, setup)?;
         let kept = kept_name(self.alloc, name)?;
-        self.devices.reserve(1)?;
+        self.devices.reserve()?;
         let mut objects = Vec::with_capacity(self.alloc, DeviceCapability::ALL.len())?;
-        let version = self.negotiated.get("ei_device").unwrap_or(1);
+        let version = self.negotiated.version(KnownInterface::Device).unwrap_or(1);
         let proxy = making::begin(
             &mut self.context,
             seat.eis_seat(),
@@ -535,7 +531,7 @@ impl Connection {
     fn give_up(&mut self, id: u64) -> Result<(), SendError>
         ensures { AllOrNothing result self.old (obeys self.old id None) self.new }
     {
-        if self.devices.find_owner(id).is_none() {
+        if self.devices.get(Sought::Interface(id)).is_none() {
             return Ok(());
         }
         let serial = self.last_serial.wrapping_add(1);

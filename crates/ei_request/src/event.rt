@@ -2,37 +2,38 @@
 //!
 //! An input has the time of its frame, in microseconds, and comes right before it.
 
-ghost use Rattle.std.specs.Prelude.{◌≡◌};
+ghost use Rattle.std.specs.Prelude.{◌≡◌, IfOk};
 ghost use Rattle.std.specs.Option.{option_copied};
 ghost use Rattle.ei_request.specs.Event.{device_in};
 
 use crate::device::Device;
 use crate::seat::Seat;
-use ei_types::{ButtonState, DeviceCapabilities, KeyState};
-use ei_wire::{EiText, RawFloat};
+use ei_types::DeviceCapabilities;
+use ei_wire::NoMemory;
+use std::alloc::Global;
 
 /// The client binds capabilities of a seat: it wants devices of them.
-#[derive(Debug, Drop, PartialEq)]
+#[derive(Clone, Debug, Drop, PartialEq)]
 pub struct Bind {
     pub seat: Seat,
     pub capabilities: DeviceCapabilities,
 }
 
 /// The client wants a device no more.
-#[derive(Debug, Drop, PartialEq)]
+#[derive(Clone, Debug, Drop, PartialEq)]
 pub struct DeviceClosed {
     pub device: Device,
 }
 
 /// The client asks for one more device of a seat, with these capabilities.
-#[derive(Debug, Drop, PartialEq)]
+#[derive(Clone, Debug, Drop, PartialEq)]
 pub struct RequestDevice {
     pub seat: Seat,
     pub capabilities: DeviceCapabilities,
 }
 
 /// The input of a device since its last frame belongs together. The time is in microseconds.
-#[derive(Debug, Drop, PartialEq)]
+#[derive(Clone, Debug, Drop, PartialEq)]
 pub struct Frame {
     pub device: Device,
     pub last_serial: u32,
@@ -40,13 +41,13 @@ pub struct Frame {
 }
 
 /// The client has taken note of a device.
-#[derive(Debug, Drop, PartialEq)]
+#[derive(Clone, Debug, Drop, PartialEq)]
 pub struct Ready {
     pub device: Device,
 }
 
 /// The client begins to send input of a device. The sequence counts such beginnings.
-#[derive(Debug, Drop, PartialEq)]
+#[derive(Clone, Debug, Drop, PartialEq)]
 pub struct DeviceStartEmulating {
     pub device: Device,
     pub last_serial: u32,
@@ -54,136 +55,53 @@ pub struct DeviceStartEmulating {
 }
 
 /// The client sends no more input of a device.
-#[derive(Debug, Drop, PartialEq)]
+#[derive(Clone, Debug, Drop, PartialEq)]
 pub struct DeviceStopEmulating {
     pub device: Device,
     pub last_serial: u32,
 }
 
 /// The pointer moved by a distance, in logical pixels.
-#[derive(Debug, Drop, PartialEq)]
-pub struct PointerMotion {
-    pub device: Device,
-    pub time: u64,
-    pub dx: RawFloat,
-    pub dy: RawFloat,
-}
+pub type PointerMotion = ei_input::PointerMotion<Device>;
 
 /// The pointer moved to a point of a region.
-#[derive(Debug, Drop, PartialEq)]
-pub struct PointerMotionAbsolute {
-    pub device: Device,
-    pub time: u64,
-    pub dx_absolute: RawFloat,
-    pub dy_absolute: RawFloat,
-}
+pub type PointerMotionAbsolute = ei_input::PointerMotionAbsolute<Device>;
 
 /// A button went down or up. The number is a code of `linux/input-event-codes.h`.
-#[derive(Debug, Drop, PartialEq)]
-pub struct Button {
-    pub device: Device,
-    pub time: u64,
-    pub button: u32,
-    pub state: ButtonState,
-}
+pub type Button = ei_input::Button<Device>;
 
 /// It scrolled by a distance, in logical pixels.
-#[derive(Debug, Drop, PartialEq)]
-pub struct ScrollDelta {
-    pub device: Device,
-    pub time: u64,
-    pub dx: RawFloat,
-    pub dy: RawFloat,
-}
+pub type ScrollDelta = ei_input::ScrollDelta<Device>;
 
 /// Scrolling stopped on these axes.
-#[derive(Debug, Drop, PartialEq)]
-pub struct ScrollStop {
-    pub device: Device,
-    pub time: u64,
-    pub x: bool,
-    pub y: bool,
-}
+pub type ScrollStop = ei_input::ScrollStop<Device>;
 
 /// Scrolling stopped on these axes, and nothing may scroll on by itself.
-#[derive(Debug, Drop, PartialEq)]
-pub struct ScrollCancel {
-    pub device: Device,
-    pub time: u64,
-    pub x: bool,
-    pub y: bool,
-}
+pub type ScrollCancel = ei_input::ScrollCancel<Device>;
 
 /// A wheel turned. A click of the wheel is 120.
-#[derive(Debug, Drop, PartialEq)]
-pub struct ScrollDiscrete {
-    pub device: Device,
-    pub time: u64,
-    pub discrete_dx: i32,
-    pub discrete_dy: i32,
-}
+pub type ScrollDiscrete = ei_input::ScrollDiscrete<Device>;
 
 /// A key went down or up.
-#[derive(Debug, Drop, PartialEq)]
-pub struct KeyboardKey {
-    pub device: Device,
-    pub time: u64,
-    pub key: u32,
-    pub state: KeyState,
-}
+pub type KeyboardKey = ei_input::KeyboardKey<Device>;
 
 /// A touch began at a point. The id is its name until it ends.
-#[derive(Debug, Drop, PartialEq)]
-pub struct TouchDown {
-    pub device: Device,
-    pub time: u64,
-    pub touch_id: u32,
-    pub x: RawFloat,
-    pub y: RawFloat,
-}
+pub type TouchDown = ei_input::TouchDown<Device>;
 
 /// A touch moved to a point.
-#[derive(Debug, Drop, PartialEq)]
-pub struct TouchMotion {
-    pub device: Device,
-    pub time: u64,
-    pub touch_id: u32,
-    pub x: RawFloat,
-    pub y: RawFloat,
-}
+pub type TouchMotion = ei_input::TouchMotion<Device>;
 
 /// A touch ended.
-#[derive(Debug, Drop, PartialEq)]
-pub struct TouchUp {
-    pub device: Device,
-    pub time: u64,
-    pub touch_id: u32,
-}
+pub type TouchUp = ei_input::TouchUp<Device>;
 
 /// A touch ended and is not to count.
-#[derive(Debug, Drop, PartialEq)]
-pub struct TouchCancel {
-    pub device: Device,
-    pub time: u64,
-    pub touch_id: u32,
-}
+pub type TouchCancel = ei_input::TouchCancel<Device>;
 
 /// A keysym, by its number in XKB, went down or up.
-#[derive(Debug, Drop, PartialEq)]
-pub struct TextKeysym {
-    pub device: Device,
-    pub time: u64,
-    pub keysym: u32,
-    pub state: KeyState,
-}
+pub type TextKeysym = ei_input::TextKeysym<Device>;
 
 /// A text was put in. It has 1 to 254 bytes.
-#[derive(Debug, Drop, PartialEq)]
-pub struct TextUtf8 {
-    pub device: Device,
-    pub time: u64,
-    pub text: EiText,
-}
+pub type TextUtf8 = ei_input::TextUtf8<Device>;
 
 /// What a client asks of a server.
 #[derive(Debug, Drop, PartialEq)]
@@ -234,6 +152,9 @@ pub enum EisRequest {
     TextUtf8(TextUtf8),
 }
 
+/// The requests that wait to be handed out.
+pub(crate) type Queue = ei_input::Queue<EisRequest>;
+
 impl EisRequest {
     /// The device that the request is about; `None` where it is about a seat or the connection.
     pub fn device(&self) -> Option<&Device>
@@ -261,5 +182,53 @@ impl EisRequest {
             EisRequest::TextKeysym(request) => Some(&request.device),
             EisRequest::TextUtf8(request) => Some(&request.device),
         }
+    }
+
+    /// The same request again.
+    ///
+    /// `NoMemory`, and only for a text.
+    pub fn copy(&self, alloc: Global) -> Result<EisRequest, NoMemory>
+        ensures { IfOk result (λ r. r ≡ self.now) }
+    {
+        Ok(match self {
+            EisRequest::Disconnect => EisRequest::Disconnect,
+            EisRequest::Bind(request) => EisRequest::Bind(request.clone().unwrap()),
+            EisRequest::DeviceClosed(request) => EisRequest::DeviceClosed(request.clone().unwrap()),
+            EisRequest::RequestDevice(request) => EisRequest::RequestDevice(
+                request.clone().unwrap(),
+            ),
+            EisRequest::Frame(request) => EisRequest::Frame(request.clone().unwrap()),
+            EisRequest::Ready(request) => EisRequest::Ready(request.clone().unwrap()),
+            EisRequest::DeviceStartEmulating(request) => EisRequest::DeviceStartEmulating(
+                request.clone().unwrap(),
+            ),
+            EisRequest::DeviceStopEmulating(request) => EisRequest::DeviceStopEmulating(
+                request.clone().unwrap(),
+            ),
+            EisRequest::PointerMotion(request) => EisRequest::PointerMotion(
+                request.clone().unwrap(),
+            ),
+            EisRequest::PointerMotionAbsolute(request) => EisRequest::PointerMotionAbsolute(
+                request.clone().unwrap(),
+            ),
+            EisRequest::Button(request) => EisRequest::Button(request.clone().unwrap()),
+            EisRequest::ScrollDelta(request) => EisRequest::ScrollDelta(request.clone().unwrap()),
+            EisRequest::ScrollStop(request) => EisRequest::ScrollStop(request.clone().unwrap()),
+            EisRequest::ScrollCancel(request) => EisRequest::ScrollCancel(request.clone().unwrap()),
+            EisRequest::ScrollDiscrete(request) => EisRequest::ScrollDiscrete(
+                request.clone().unwrap(),
+            ),
+            EisRequest::KeyboardKey(request) => EisRequest::KeyboardKey(request.clone().unwrap()),
+            EisRequest::TouchDown(request) => EisRequest::TouchDown(request.clone().unwrap()),
+            EisRequest::TouchMotion(request) => EisRequest::TouchMotion(request.clone().unwrap()),
+            EisRequest::TouchUp(request) => EisRequest::TouchUp(request.clone().unwrap()),
+            EisRequest::TouchCancel(request) => EisRequest::TouchCancel(request.clone().unwrap()),
+            EisRequest::TextKeysym(request) => EisRequest::TextKeysym(request.clone().unwrap()),
+            EisRequest::TextUtf8(request) => EisRequest::TextUtf8(TextUtf8 {
+                device: request.device.copy(),
+                time: request.time,
+                text: request.text.copy(alloc)?,
+            }),
+        })
     }
 }

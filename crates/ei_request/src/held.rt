@@ -1,26 +1,27 @@
 //! What a connection keeps of a seat and of a device.
 
-ghost use Rattle.std.specs.Prelude.{◌≡◌, ◌<◌, ◌≤◌, ◌+◌, ◌∷◌, [], ◌++◌, OnOk, OnErr, IfErr, Some, None, length, false};
+ghost use Rattle.std.specs.Prelude.{◌≡◌, ◌<◌, ◌≤◌, ◌+◌, ◌∷◌, [], ◌++◌, OnOk, OnErr, IfErr, Some, None, length, false, true};
 ghost use Rattle.std.specs.Prelude.{ℕ, IfSome, nat_eq, position, if◌then◌else◌};
 ghost use Rattle.std.specs.Option.{option_copied};
 ghost use Rattle.std.specs.Vec.{vec_len};
-ghost use Rattle.std.specs.List.{list_any};
+ghost use Rattle.std.specs.List.{list_any, filter};
 ghost use Rattle.ei_spec.specs.Interface.{Known};
 ghost use Rattle.ei_wire.specs.declared.error.SendError.TheVariants as send_error;
-ghost use Rattle.ei_request.specs.declared.input.Input.TheVariants as input;
+ghost use Rattle.ei_input.specs.declared.input_event.InputEvent.TheVariants as input;
 ghost use Rattle.ei_request.specs.Held.{released, is_of_key, is_of_seat, has_interface, without_interface, untouched, without_first};
-ghost use Rattle.ei_request.specs.Held.{takes_input, emptied, group_requests, device_ids, with_input};
-ghost use Rattle.ei_request.specs.Rising.{ObjectsRise};
+ghost use Rattle.ei_request.specs.Held.{takes_input, emptied, group_requests, device_ids, all_device_ids, with_input};
+ghost use Rattle.ei_request.specs.DeviceTable.{own_ids, numbered, Forgets};
+ghost use Rattle.ei_keyed.specs.Keyed.{keyed, without_key};
 ghost use Rattle.ei_request.specs.Making.{is_one_of, object_of};
 ghost use Rattle.ei_request.specs.Refusing.{input_refusal, press_refusal, TellsOfInput};
 ghost use Rattle.ei_request.specs.declared.input_error.InputError.TheVariants as input_error;
 
 use crate::device::Device;
-use crate::event::{self, EisRequest};
-use crate::input::Input;
+use crate::event::{self, EisRequest, Queue};
+use crate::input::{Input, queue_timed};
 use crate::input_error::InputError;
-use crate::queue::Queue;
-use ei_backend::{Interface, InterfaceName, Object};
+use ei_backend::{Interface, Object};
+use ei_keyed::Keyed;
 use ei_server::Seat as SeatProxy;
 use ei_spec::KnownInterface;
 use ei_spec::limits::{MOST_TEXT_BYTES, MOST_TOUCHES};
@@ -190,11 +191,13 @@ impl HeldDevice {
         find_interface(&self.interfaces, interface)
     }
 
-    /// The interface of that id leaves it.
-    pub(crate) fn give_up(&mut self, id: u64)
-        ensures { self.new ≡ without_interface id self.old }
+    /// The interface of that id leaves it. Says whether the table of the ids had it with that number, and no more has it.
+    pub(crate) fn give_up(&mut self, ids: &mut Keyed<u64>, number: u64, id: u64) -> bool
+        ensures gone { self.new ≡ without_interface id self.old }
+        ensures forgotten { result ≡ true → (nat_eq id self.old.device.proxy.id ≡ false) × Forgets number (id ∷ []) ids.old.items ids.new.items }
     {
         take_out_interface(&mut self.interfaces, id);
+        id != self.id() && forget_id(ids, number, id)
     }
 
     /// How many inputs wait.
@@ -285,22 +288,51 @@ impl HeldDevice {
         Ok(())
     }
 
-    /// The last of the ids that go with it, where they rise from above that one on, its own before those of its
-    /// interfaces; else `None`.
-    pub(crate) fn last_id_above(&self, from: u64) -> Option<u64>
-        ensures { IfSome result (λ last. (from < self.now.device.proxy.id) × ObjectsRise self.now.device.proxy.id last self.now.interfaces) }
+    /// The same, where it is a device of the seat of that id.
+    pub(crate) fn push_ids_if_of_seat(&self, seat: u64, ids: &mut Vec<u64>) -> Result<(), SendError>
+        ensures ok { OnOk result (ids.new.items ≡ ids.old.items ++ all_device_ids (filter (is_of_seat seat) (self.now ∷ []))) }
+        ensures only { IfErr result (λ e. e ≡ send_error.NoMemory) }
     {
-        let mut last = self.id();
-        if last <= from {
-            return None;
+        if self.is_of_seat(seat) {
+            self.push_ids(ids)?;
+        }
+        Ok(())
+    }
+
+    /// Puts its ids into the table of the ids, with its number. There is room for them.
+    pub(crate) fn remember_ids(&self, ids: &mut Keyed<u64>, number: u64)
+        requires { length (own_ids self.now) ≤ ids.old.room }
+        ensures { ids.new.items ≡ ids.old.items ++ numbered number (own_ids self.now) }
+    {
+        ids.push_reserved(self.id(), number);
+        for object in &self.interfaces {
+            ids.push_reserved(object.id(), number);
+        }
+    }
+
+    /// Takes its ids out of the table of the ids, and says whether each was found there with its number.
+    pub(crate) fn forget_ids(&self, ids: &mut Keyed<u64>, number: u64) -> bool
+        ensures { result ≡ true → Forgets number (own_ids self.now) ids.old.items ids.new.items }
+    {
+        if !forget_id(ids, number, self.id()) {
+            return false;
         }
         for object in &self.interfaces {
-            if object.id() <= last {
-                return None;
+            if !forget_id(ids, number, object.id()) {
+                return false;
             }
-            last = object.id();
         }
-        Some(last)
+        true
+    }
+}
+
+/// Takes the number of an id out of the table of the ids, and says whether it was that one.
+fn forget_id(ids: &mut Keyed<u64>, number: u64, id: u64) -> bool
+    ensures { result ≡ true → (keyed id ids.old.items ≡ Some number) × (ids.new.items ≡ without_key id ids.old.items) }
+{
+    match ids.take(id) {
+        Some(first) => first == number,
+        None => false,
     }
 }
 
@@ -308,7 +340,7 @@ impl HeldDevice {
 fn is_object_of(object: &Object, interface: KnownInterface) -> bool
     ensures { result ≡ is_one_of interface object.now }
 {
-    *object.interface_name() == InterfaceName::Known(interface)
+    object.known_interface() == Some(interface)
 }
 
 /// The object of the interface among these.
@@ -432,7 +464,7 @@ fn push_group(queue: &mut Queue, device: &Device, waiting: &mut Vec<Input>, seri
     let alloc = *waiting.allocator();
     let mut inputs = VecDeque::from_vec(mem::replace(waiting, Vec::new(alloc)));
     while let Some(input) = inputs.pop_front() {
-        input.queue_timed(queue, device, time);
+        queue_timed(input, queue, device, time);
     }
     *waiting = inputs.into_vec();
     queue.push_reserved(EisRequest::Frame(event::Frame {

@@ -1,4 +1,4 @@
-//! Inputs that wait for their time.
+//! The inputs that requests are, and the requests that they become.
 
 ghost use Rattle.std.specs.Prelude.{◌≡◌, ◌<◌, ◌+◌, ◌++◌, ◌∷◌, [], Some};
 ghost use Rattle.ei_server.specs.declared.scroll.Request.TheVariants as scroll;
@@ -7,198 +7,18 @@ ghost use Rattle.ei_request.specs.Typed.{input_asked, pointer_meaning, pointer_a
 ghost use Rattle.ei_request.specs.Typed.{keyboard_meaning, touchscreen_meaning, text_meaning};
 
 use crate::device::Device;
-use crate::event::{self, EisRequest};
-use crate::queue::Queue;
+use crate::event::{EisRequest, Queue};
+pub(crate) use ei_input::InputEvent as Input;
+use ei_input::push_timed;
 use ei_server::{button, keyboard, pointer, pointer_absolute, scroll, text, touchscreen};
-use ei_types::{ButtonState, KeyState};
-use ei_wire::{EiText, RawFloat};
 
-/// An input that waits on its device.
-#[derive(Debug, Drop)]
-pub(crate) enum Input {
-    PointerMotion {
-        dx: RawFloat,
-        dy: RawFloat,
-    },
-    PointerMotionAbsolute {
-        dx_absolute: RawFloat,
-        dy_absolute: RawFloat,
-    },
-    Button {
-        button: u32,
-        state: ButtonState,
-    },
-    ScrollDelta {
-        dx: RawFloat,
-        dy: RawFloat,
-    },
-    ScrollStop {
-        x: bool,
-        y: bool,
-    },
-    ScrollCancel {
-        x: bool,
-        y: bool,
-    },
-    ScrollDiscrete {
-        discrete_dx: i32,
-        discrete_dy: i32,
-    },
-    KeyboardKey {
-        key: u32,
-        state: KeyState,
-    },
-    TouchDown {
-        touch_id: u32,
-        x: RawFloat,
-        y: RawFloat,
-    },
-    TouchMotion {
-        touch_id: u32,
-        x: RawFloat,
-        y: RawFloat,
-    },
-    TouchUp {
-        touch_id: u32,
-    },
-    TouchCancel {
-        touch_id: u32,
-    },
-    TextKeysym {
-        keysym: u32,
-        state: KeyState,
-    },
-    TextUtf8 {
-        text: EiText,
-    },
-}
-
-impl Input {
-    /// Queues the request that it becomes. There is room for it.
-    // Each request is made in the queue, and not moved there.
-    pub(crate) fn queue_timed(self, queue: &mut Queue, device: &Device, time: u64)
-        requires { 0 < queue.old.room }
-        ensures items { queue.new.items ≡ queue.old.items ++ timed device.now time self ∷ [] }
-        ensures room { queue.new.room + 1 ≡ queue.old.room }
-    {
-        match self {
-            Input::PointerMotion { dx, dy } => queue.push_reserved(EisRequest::PointerMotion(
-                event::PointerMotion {
-                    device: device.copy(),
-                    time,
-                    dx,
-                    dy,
-                },
-            )),
-            Input::PointerMotionAbsolute {
-                dx_absolute,
-                dy_absolute,
-            } => queue.push_reserved(EisRequest::PointerMotionAbsolute(
-                event::PointerMotionAbsolute {
-                    device: device.copy(),
-                    time,
-                    dx_absolute,
-                    dy_absolute,
-                },
-            )),
-            Input::Button { button, state } => queue.push_reserved(EisRequest::Button(
-                event::Button {
-                    device: device.copy(),
-                    time,
-                    button,
-                    state,
-                },
-            )),
-            Input::ScrollDelta { dx, dy } => queue.push_reserved(EisRequest::ScrollDelta(
-                event::ScrollDelta {
-                    device: device.copy(),
-                    time,
-                    dx,
-                    dy,
-                },
-            )),
-            Input::ScrollStop { x, y } => queue.push_reserved(EisRequest::ScrollStop(
-                event::ScrollStop {
-                    device: device.copy(),
-                    time,
-                    x,
-                    y,
-                },
-            )),
-            Input::ScrollCancel { x, y } => queue.push_reserved(EisRequest::ScrollCancel(
-                event::ScrollCancel {
-                    device: device.copy(),
-                    time,
-                    x,
-                    y,
-                },
-            )),
-            Input::ScrollDiscrete {
-                discrete_dx,
-                discrete_dy,
-            } => queue.push_reserved(EisRequest::ScrollDiscrete(event::ScrollDiscrete {
-                device: device.copy(),
-                time,
-                discrete_dx,
-                discrete_dy,
-            })),
-            Input::KeyboardKey { key, state } => queue.push_reserved(EisRequest::KeyboardKey(
-                event::KeyboardKey {
-                    device: device.copy(),
-                    time,
-                    key,
-                    state,
-                },
-            )),
-            Input::TouchDown { touch_id, x, y } => queue.push_reserved(EisRequest::TouchDown(
-                event::TouchDown {
-                    device: device.copy(),
-                    time,
-                    touch_id,
-                    x,
-                    y,
-                },
-            )),
-            Input::TouchMotion { touch_id, x, y } => queue.push_reserved(EisRequest::TouchMotion(
-                event::TouchMotion {
-                    device: device.copy(),
-                    time,
-                    touch_id,
-                    x,
-                    y,
-                },
-            )),
-            Input::TouchUp { touch_id } => queue.push_reserved(EisRequest::TouchUp(
-                event::TouchUp {
-                    device: device.copy(),
-                    time,
-                    touch_id,
-                },
-            )),
-            Input::TouchCancel { touch_id } => queue.push_reserved(EisRequest::TouchCancel(
-                event::TouchCancel {
-                    device: device.copy(),
-                    time,
-                    touch_id,
-                },
-            )),
-            Input::TextKeysym { keysym, state } => queue.push_reserved(EisRequest::TextKeysym(
-                event::TextKeysym {
-                    device: device.copy(),
-                    time,
-                    keysym,
-                    state,
-                },
-            )),
-            Input::TextUtf8 { text } => queue.push_reserved(EisRequest::TextUtf8(
-                event::TextUtf8 {
-                    device: device.copy(),
-                    time,
-                    text,
-                },
-            )),
-        }
-    }
+/// Queues the request that an input of the device becomes. There is room for it.
+pub(crate) fn queue_timed(input: Input, queue: &mut Queue, device: &Device, time: u64)
+    requires { 0 < queue.old.room }
+    ensures items { queue.new.items ≡ queue.old.items ++ timed device.now time input ∷ [] }
+    ensures room { queue.new.room + 1 ≡ queue.old.room }
+{
+    push_timed!(queue, EisRequest, input, device.copy(), time)
 }
 
 /// The input that a request to a pointer is; none where it is the release.

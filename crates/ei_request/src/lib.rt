@@ -6,16 +6,15 @@
 
 mod connection;
 mod converter;
-mod copies;
+mod costs;
 mod device;
-mod devices;
+mod device_table;
 mod event;
 mod held;
 mod holding;
 mod input;
 mod input_error;
 mod making;
-mod queue;
 mod seat;
 mod seats;
 mod sending;
@@ -24,6 +23,7 @@ mod traits;
 pub use connection::Connection;
 pub use converter::EisRequestConverter;
 pub use device::{Device, DeviceInterface};
+pub use ei_input::{DeviceEvent, EventTime};
 pub use event::{
     Bind, Button, DeviceClosed, DeviceStartEmulating, DeviceStopEmulating, EisRequest, Frame,
     KeyboardKey, PointerMotion, PointerMotionAbsolute, Ready, RequestDevice, ScrollCancel,
@@ -32,4 +32,4 @@ pub use event::{
 };
 pub use making::DeviceSetup;
 pub use seat::Seat;
-pub use traits::{DeviceEvent, EventTime, SeatEvent};
+pub use traits::SeatEvent;

@@ -1,6 +1,6 @@
 //! Seats.
 
-ghost use Rattle.std.specs.Prelude.{◌≡◌, ⊤, ◌≤◌, ◌+◌, ◌<◌, ◌↔◌, IfOk, IfErr, IsSome, IsErrOf, OnOk, OnErr, Some, find, length, true};
+ghost use Rattle.std.specs.Prelude.{◌≡◌, ⊤, ◌↔◌, IfOk, IfErr, IsSome, IsErrOf, OnOk, OnErr, Some, find};
 ghost use Rattle.std.specs.List.{Any};
 ghost use Rattle.std.specs.Option.{option_copied};
 ghost use Rattle.std.specs.Hash as fed;
@@ -8,12 +8,11 @@ ghost use Rattle.std.specs.Cmp.{partial_equiv_from_equiv};
 ghost use Rattle.std.specs.Cmp.Rules.{hashing};
 ghost use Rattle.std.proofs.Common.{rules};
 ghost use Rattle.ei_wire.specs.declared.error.SendError.TheVariants as send_error;
-ghost use Rattle.ei_backend.specs.Table.{own_end};
 ghost use Rattle.ei_backend.specs.Endpoint.{endpoint_of};
 ghost use Rattle.ei_request.specs.Held.{is_seat};
 ghost use Rattle.ei_request.specs.Connection.{Unchanged};
 ghost use Rattle.ei_request.specs.Removing.{RemovesSeat};
-ghost use Rattle.ei_request.specs.Making.{AddsDevice, granted_by, is_long_description, new_device, NeedsKeyboard, IsGiven};
+ghost use Rattle.ei_request.specs.Making.{AddsDevice, granted_at, new_device, NeedsKeyboard, IsGiven, LacksIds, HasLongText};
 ghost use Rattle.ei_request.specs.Keys.{same_seat, same_seat_equiv, seat_text};
 
 use crate::connection::Connection;
@@ -97,18 +96,18 @@ impl Seat {
     ) -> Result<Device, SendError>
         requires held { IsSome (find (is_seat self.now.id) conn.old.seats) }
         requires keyboard { Any NeedsKeyboard setup.now → IsGiven conn.old self.now.id capabilities }
-        ensures device { IfOk result (λ d. d ≡ (new_device (endpoint_of conn.old.ctx) conn.old.negotiated self.now (option_copied name.entry)
-            (granted_by (find (is_seat self.now.id) conn.old.seats) capabilities)).device) }
-        ensures ok { OnOk result (AddsDevice conn.old self.now (option_copied name.entry) device_type (granted_by (find (is_seat self.now.id)
-            conn.old.seats) capabilities) setup.now conn.new) }
+        ensures device { IfOk result (λ d. d ≡ (new_device (endpoint_of conn.old.ctx) conn.old.negotiated self.now
+            (option_copied name.entry) (granted_at conn.old self.now.id capabilities)).device) }
+        ensures ok { OnOk result (AddsDevice conn.old self.now (option_copied name.entry) device_type
+            (granted_at conn.old self.now.id capabilities) setup.now conn.new) }
         ensures err { OnErr result (Unchanged conn.old conn.new) }
         ensures ring { conn.new.ctx.capacity ≡ conn.old.ctx.capacity }
         // when it is refused
         ensures exhausted { IsErrOf result send_error.IdsExhausted ↔
-            (own_end conn.old.ctx.table < conn.old.ctx.table.next_own + (length (granted_by (find (is_seat self.now.id) conn.old.seats) capabilities) + 1)) }
+            LacksIds conn.old.ctx.table (granted_at conn.old self.now.id capabilities) }
         ensures long { IsErrOf result send_error.MessageTooLong ↔
-            ((conn.old.ctx.table.next_own + (length (granted_by (find (is_seat self.now.id) conn.old.seats) capabilities) + 1) ≤ own_end conn.old.ctx.table)
-            × (is_long_description conn.old.ctx.table.next_own (option_copied name.entry) setup.now ≡ true)) }
+            HasLongText conn.old.ctx.table (granted_at conn.old self.now.id capabilities) (option_copied name.entry)
+            setup.now }
     {
         let given = conn.capabilities_of(self.id()).unwrap();
         let allowed = Allowed {

@@ -28,7 +28,7 @@ use Rattle.ei_serve.proofs.Serves as serves
 
 -- ---- what was given
 
-same_behind : {A : Type 0} (front a b : List A) → front ++ a ≡ front ++ b → a ≡ b
+pub same_behind : {A : Type 0} (front a b : List A) → front ++ a ≡ front ++ b → a ≡ b
 same_behind {A = A} front a b e = sym (drop-append_seam front a) ∙ ap (λ (l : List A). drop (length front) l) e ∙ drop-append_seam front b
 
 -- these pieces were given
@@ -82,7 +82,7 @@ abbrev telling : Option (List Piece) → Around → Around
 telling left a = record a { source = told_as left a.source }
 
 -- the pieces that a turn was given: one or none
-front_is : (told : List Piece) (piece : Piece) → slice_get told 0 ≡ Some piece → told ≡ piece ∷ drop 1 told
+pub front_is : (told : List Piece) (piece : Piece) → slice_get told 0 ≡ Some piece → told ≡ piece ∷ drop 1 told
 front_is [] piece e = absurd cc
 front_is (p ∷ told) piece e = let same : p ≡ piece = cc in ap (λ (q : Piece). q ∷ told) same
 
@@ -111,7 +111,7 @@ refused_gave : (setup : Setup) (pieces : List Piece) (times : List ℕ) (refusal
 refused_gave setup pieces times None y z h = absurd h
 refused_gave setup pieces times (Some r) y z h = gave_one y.source z.source h.piece h.hands
 
-turn_gave : (setup : Setup) (pieces : List Piece) (times : List ℕ) (r : Result Turn Error) (t : SessionState) (y z : Around) → Turns setup pieces times r t y z → GavePieces y.source z.source
+pub turn_gave : (setup : Setup) (pieces : List Piece) (times : List ℕ) (r : Result Turn Error) (t : SessionState) (y z : Around) → Turns setup pieces times r t y z → GavePieces y.source z.source
 turn_gave setup pieces times (Ok turn.GoOn) t y z h = gave_one y.source z.source h.piece h.hands
 turn_gave setup pieces times (Ok turn.Disconnect) t y z h = gave_one y.source z.source h.piece h.hands
 turn_gave setup pieces times (Ok turn.End) t y z h = gave_none y.source z.source h.none
@@ -202,7 +202,7 @@ module _ (setup : Setup) (pieces : List Piece) (times : List ℕ) (t : SessionSt
 
 -- ---- the turns before, and one more
 
-took_so : (n : ℕ) (pieces more : List Piece) → length pieces ≡ n → Took (pieces ++ more) (Some more) n pieces
+pub took_so : (n : ℕ) (pieces more : List Piece) → length pieces ≡ n → Took (pieces ++ more) (Some more) n pieces
 took_so n pieces more count = rw (← count) (record {
   within = omega (arith, length-append pieces more);
   left_is = ap (λ (l : List Piece). Some l) (sym (drop-append_seam pieces more));

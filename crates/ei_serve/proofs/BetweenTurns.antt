@@ -15,7 +15,7 @@ use Rattle.ei_serve.specs.declared.session.Turn.TheVariants as turn
 use Rattle.ei_serve.specs.declared.state.SessionState.{SessionState}
 use Rattle.ei_serve.specs.Around.{Around}
 use Rattle.ei_serve.specs.Standing.{Stands, StandsAt, IsOpenIn, StandsForSome, IsOver, IsSession, HoldsFewBytesIn, HoldsLittle, most_capacity}
-use Rattle.ei_serve.specs.Standing.{unsent_in, unsent_of, capacity_in, capacity_of}
+use Rattle.ei_serve.specs.Standing.{connection_in, IsClientAfter, unsent_in, unsent_of, capacity_in, capacity_of}
 use Rattle.ei_serve.specs.Turning.{Turns, goes_on}
 use Rattle.ei_serve.proofs.FewUnread.{unread_few}
 
@@ -42,6 +42,12 @@ few_at setup past times rest handles (phase.Connected c) s few = record {
   ring = s.ring;
 }
 few_at setup past times rest handles phase.Over s few = absurd s
+
+-- what a phase that stands knows of the client
+pub client_at : (setup : Setup) (past : List Raw) (times rest : List ℕ) (handles : List Handle) (p : Phase) → StandsAt setup past times rest handles p → IsClientAfter past (connection_in p)
+client_at setup past times rest handles (phase.Handshake b h) s = s.1.unfinished
+client_at setup past times rest handles (phase.Connected c) s = (s.held.connected, s.held.name)
+client_at setup past times rest handles phase.Over s = absurd s
 
 few_over : (p : Phase) → p ≡ phase.Over → HoldsFewBytesIn p
 few_over p e = rw e tt

@@ -16,7 +16,7 @@ use Rattle.ei_session.specs.Handshake.{connected, version}
 use Rattle.ei_session.specs.Devices.{exhausts}
 use Rattle.ei_session.specs.Events.{reply, replies}
 use Rattle.ei_session.specs.Refusals.{Refusal, refusal, verdict, judge}
-use Rattle.ei_session.specs.Requests.{Request, Plain, Bind, RequestDevice, Ready, DeviceClosed, DeviceStartEmulating, DeviceStopEmulating, Disconnect}
+use Rattle.ei_session.specs.Requests.{Request, Plain, Bind, RequestDevice, Ready, DeviceClosed, DeviceStartEmulating, DeviceStopEmulating, Disconnect, framed}
 use Rattle.ei_session.proofs.AllParts.{replies_more}
 use Rattle.ei_session.proofs.KeptByRequests.{fixed_versions, stays_connected}
 use Rattle.ei_session.proofs.RunsOut.{exhausting_last}
@@ -41,7 +41,7 @@ use Rattle.ei_serve.specs.Around.{around, no_source}
 use Rattle.ei_serve.specs.Standing.{IsConnected, most_capacity}
 use Rattle.ei_serve.specs.Steps.{GivesOut, Replies, RepliesInPart, Goes, Breaks, RefusesStep, HandlesOne, EndsWith}
 use Rattle.ei_serve.proofs.Asked.{held_with}
-use Rattle.ei_serve.proofs.Going.{none_more, gives_none, replies_none, extends}
+use Rattle.ei_serve.proofs.Going.{none_more, replies_none, extends}
 use Rattle.ei_serve.proofs.TookBehind.{Gave, Draws}
 
 -- ---- what is handed out, by any versions that agree
@@ -89,15 +89,20 @@ none_sent : (setup : Setup) (past : List Raw) (m : Raw) (took : Option Piece) �
 none_sent setup past m took held told = (reply setup past m, 0, replies_more setup past m, told ∙ ap (λ (x : Piece). Some x) (none_more held))
 
 -- nothing was given yet, and perhaps a reading taken
-pub breaks_early : (setup : Setup) (past : List Raw) (times rest : List ℕ) (out new : List EisRequest) (took : Option Piece) (before after : Option (List ℕ)) → new ≡ out → Breaks setup past times rest (around no_source out took before) (around no_source new took after)
-breaks_early setup past times rest out new took before after same = record {
+pub breaks_early : (setup : Setup) (past : List Raw) (times rest used : List ℕ) (out new : List EisRequest) (took : Option Piece) (before after : Option (List ℕ)) → new ≡ out → Draws used before after → Breaks setup past times rest (around no_source out took before) (around no_source new took after)
+breaks_early setup past times rest used out new took before after same draws = record {
   reached = past;
-  used = [];
+  used = used;
   behind = ([], refl);
   ahead = extends (judge setup) past rest;
-  gives = subst (λ (x : List EisRequest). GivesOut setup past past times [] out x) (sym same) (gives_none setup past past times out (λ readings. refl));
+  gives = record {
+    more = [];
+    grown = λ versions are. same ∙ sym (append-nil out);
+    framed_is = λ later. sym (append-nil (framed setup ((times ++ used) ++ later) past));
+  };
   replies = λ held told. ([], 0, sym (append-nil (replies setup past)), told ∙ ap (λ (x : Piece). Some x) (none_more held));
-  drawn = λ told is. refl;
+  drawn = draws.drawn;
+  leaves = draws.leaves;
 }
 
 -- ---- what the sink takes
@@ -154,6 +159,7 @@ module _ (setup : Setup) (past : List Raw) (times rest : List ℕ) (handles : Li
     gives = given_one;
     replies = r;
     drawn = draws.drawn;
+    leaves = draws.leaves;
   }
 
   pub breaks_unsent : (took : Option Piece) → Breaks setup past times rest (around no_source out took before) (around no_source given took later)

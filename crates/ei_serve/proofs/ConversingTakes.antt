@@ -28,8 +28,8 @@ use Rattle.ei_wire.specs.declared.error.FlushError.{FlushError}
 use Rattle.ei_wire.specs.declared.error.SendError.{SendError}
 use Rattle.ei_wire.specs.declared.error.SendError.TheVariants as send_error
 use Rattle.ei_request.specs.declared.event.EisRequest.{EisRequest}
-use Rattle.ei_request.specs.declared.input.Input.{Input}
-use Rattle.ei_request.specs.declared.input.Input.TheVariants.{TouchDown, TouchCancel, TextUtf8}
+use Rattle.ei_input.specs.declared.input_event.InputEvent.{InputEvent as Input}
+use Rattle.ei_input.specs.declared.input_event.InputEvent.TheVariants.{TouchDown, TouchCancel, TextUtf8}
 use Rattle.ei_request.specs.Coded.{input_in_code}
 use Rattle.ei_request.specs.Held.{SeatView, DeviceView, is_seat, has_interface}
 use Rattle.ei_request.specs.Connection.{ConnectionView}
@@ -175,7 +175,7 @@ module _ (setup : Setup) (past : List Raw) (times rest : List ℕ) (handles : Li
 
     -- it couldn't be handed out
     pub unqueued : (p : Phase) (d : Error) (out given : List EisRequest) (took : Option Piece) (result : Result Step Error) → result ≡ Err d → d ≡ error.NoMemory → given ≡ out → Steps setup past times rest handles result p (around no_source out took before) (around no_source given took after)
-    unqueued p d out given took result is d_is same = rw (is, d_is) (breaks_early setup past times rest out given took before after same)
+    unqueued p d out given took result is d_is same = rw (is, d_is) (breaks_early setup past times rest b.used out given took before after same b.draws)
 
     module _ (out given : List EisRequest) (grown : given ≡ out ++ n.queue) (p : Policy) (p_is : p ≡ policy_behind n.queue) (q : ConverterView) (q_is : q ≡ record n { queue = [] }) (lent : ConnectionView) (lent_is : lent ≡ q.handle) where
       lent_now : lent ≡ n.handle

@@ -164,7 +164,7 @@ pub goes_beside : (setup : Setup) (a b : List Raw) (times used : List ℕ) (x y 
 goes_beside setup a b times used x y source_old source_new g = record { behind = g.behind; gives = g.gives; replies = g.replies; drawn = g.drawn; leaves = g.leaves; frames = g.frames }
 
 pub breaks_beside : (setup : Setup) (a b : List Raw) (times : List ℕ) (x y : Around) (source_old source_new : SourceView) → GoesInPart setup a b times x y → GoesInPart setup a b times (record x { source = source_old }) (record y { source = source_new })
-breaks_beside setup a b times x y source_old source_new g = record { reached = g.reached; used = g.used; behind = g.behind; ahead = g.ahead; gives = g.gives; replies = g.replies; drawn = g.drawn }
+breaks_beside setup a b times x y source_old source_new g = record { reached = g.reached; used = g.used; behind = g.behind; ahead = g.ahead; gives = g.gives; replies = g.replies; drawn = g.drawn; leaves = g.leaves }
 
 -- ---- broken off
 
@@ -204,6 +204,7 @@ breaks_here setup past times rest x = record {
   gives = gives_none setup past past times x.out (λ readings. refl);
   replies = in_part_none setup past x.took;
   drawn = λ told is. refl;
+  leaves = λ told is. is;
 }
 
 -- later on the way
@@ -216,4 +217,5 @@ breaks_then setup a b times u s t x y z same g h = record {
   gives = gives_then setup a b h.reached times u h.used x.out y.out z.out h.behind g.gives h.gives;
   replies = replies_then_part setup a b h.reached x.took y.took z.took g.replies h.replies;
   drawn = drawn_then u h.used x.readings y.readings g.drawn g.leaves h.drawn;
+  leaves = leaves_then u h.used x.readings y.readings z.readings g.leaves h.leaves;
 }

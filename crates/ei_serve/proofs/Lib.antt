@@ -15,6 +15,7 @@ pub mod Lent
 pub mod NoHandles
 pub mod Standing
 pub mod Taking
+pub mod EarlyRequests
 pub mod Going
 pub mod Stepping
 pub mod Handling

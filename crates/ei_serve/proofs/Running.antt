@@ -19,7 +19,7 @@ use Rattle.ei_backend.specs.Incoming.{Hands}
 use Rattle.ei_request.specs.declared.event.EisRequest.{EisRequest}
 use Rattle.ei_serve.specs.declared.state.SessionState.{SessionState}
 use Rattle.ei_serve.specs.Around.{Around, around, AreDrawn, LeavesReadings}
-use Rattle.ei_serve.specs.Standing.{Stands, StandsAt, setup_of}
+use Rattle.ei_serve.specs.Standing.{Stands, StandsAt, terms_of}
 use Rattle.ei_serve.specs.Steps.{GivesOut, Replies}
 use Rattle.ei_serve.specs.Taking.{with_next}
 use Rattle.ei_serve.specs.Turning.{GoesOn}
@@ -101,7 +101,7 @@ pub nothing_read : (setup : Setup) → reading_of setup (stream []) ≡ reading 
 unfolding reading_of stream read read_within front
 nothing_read setup = refl
 
-none_accepted : (setup : Setup) → accepted setup (stream []) ≡ []
+pub none_accepted : (setup : Setup) → accepted setup (stream []) ≡ []
 none_accepted setup = ap (λ (r : Reading Cause). r.past) (nothing_read setup)
 
 -- of a sink that told nothing before, anything is behind that
@@ -109,7 +109,7 @@ pub untold_replied : (setup : Setup) (messages : List Raw) (new : Option Piece) 
 untold_replied setup messages new held told = absurd cc
 
 -- a session that just started stands for no pieces
-pub stands_for_none : (setup : Setup) (s : SessionState) → setup_of s.start.setup ≡ setup → StandsAt setup [] [] [] [] s.phase → s.taken ≡ 0 → Stands setup [] [] s
+pub stands_for_none : (setup : Setup) (s : SessionState) → terms_of s.start.terms ≡ setup → StandsAt setup [] [] [] [] s.phase → s.taken ≡ 0 → Stands setup [] [] s
 unfolding handle_count
 stands_for_none setup s started phase taken = record {
   started = started;

@@ -88,14 +88,14 @@ told_apart (suc n) (t ∷ told) (suc k) = told_apart n told k
 
 -- ---- requests
 
-framed_none : (setup : Setup) (readings : List ℕ) → framed setup readings [] ≡ []
+pub framed_none : (setup : Setup) (readings : List ℕ) → framed setup readings [] ≡ []
 unfolding framed each grouped joined
 framed_none setup readings = refl
 
 all_framed : (setup : Setup) (messages : List Raw) (used later : List ℕ) (old new : List EisRequest) (g : GivesOut setup [] messages [] used old new) → framed setup (used ++ later) messages ≡ g.more
 all_framed setup messages used later old new g = g.framed_is later ∙ ap (λ (x : List Request). x ++ g.more) (framed_none setup (used ++ later))
 
-grown_so : (setup : Setup) (messages : List Raw) (used readings : List ℕ) (old new : List EisRequest) (g : GivesOut setup [] messages [] used old new) → framed setup readings messages ≡ g.more → new ≡ old ++ map (request_in_code messages) (framed setup readings messages)
+pub grown_so : (setup : Setup) (messages : List Raw) (used readings : List ℕ) (old new : List EisRequest) (g : GivesOut setup [] messages [] used old new) → framed setup readings messages ≡ g.more → new ≡ old ++ map (request_in_code messages) (framed setup readings messages)
 grown_so setup messages used readings old new g e =
     g.grown (version messages) (λ on interface. refl) ∙ ap (λ (x : List Request). old ++ map (request_in_code messages) x) (sym e)
 
@@ -114,7 +114,7 @@ hands_out setup messages used (Some told) old new g d = record {
       ∙ all_framed setup messages used (drop (length used) told) old new g);
 }
 
-no_frames : (setup : Setup) → frames_made (each (slot setup) []) ≡ 0
+pub no_frames : (setup : Setup) → frames_made (each (slot setup) []) ≡ 0
 unfolding frames_made each total
 no_frames setup = refl
 
@@ -549,7 +549,7 @@ pub no_start_end : {P : Type 0} (e : Error) → RefusesToStart e → IsAtEnd (Er
 no_start_end error.UnexpectedEof h at_end = absurd h
 no_start_end e h at_end = absurd at_end
 
-over_limit : (setup : Setup) (pieces : List Piece) (k : ℕ) → setup.pieces < k → is_over setup pieces k ≡ true
+pub over_limit : (setup : Setup) (pieces : List Piece) (k : ℕ) → setup.pieces < k → is_over setup pieces k ≡ true
 unfolding is_over
 over_limit setup pieces k lt = rw (lt-ltb setup.pieces k lt) refl
 

@@ -66,6 +66,7 @@ module _ (setup : Setup) (past : List Raw) (m : Raw) (events : List Raw) (times 
         gives = gave_none setup past (m ∷ past) times out (λ given. framed_quiet setup given past m i);
         replies = λ held h. let t = told held h in (events, t.0, replied setup past m events r, t.1);
         drawn = λ told is. refl;
+        leaves = λ told is. is;
       }
 
   -- the sink was cut off while it was told

@@ -29,7 +29,7 @@ use Rattle.ei_session.proofs.JudgedMeans.{judge_asked, exhausts_asked}
 use Rattle.ei_session.proofs.RefusedMeans.{refusal_asked}
 use Rattle.ei_request.specs.declared.event.EisRequest.{EisRequest}
 use Rattle.ei_request.specs.declared.event.EisRequest.TheVariants as asked
-use Rattle.ei_request.specs.declared.input.Input.{Input}
+use Rattle.ei_input.specs.declared.input_event.InputEvent.{InputEvent as Input}
 use Rattle.ei_request.specs.Timed.{timed}
 use Rattle.ei_request.specs.Keys.{DeviceKey}
 use Rattle.ei_request.specs.Held.{SeatView, DeviceView, is_seat, has_interface, is_of_key, gone_ids, without_first, group_requests}

@@ -20,11 +20,11 @@ use Rattle.ei_types.specs.declared.error.Error.TheVariants as error
 use Rattle.ei_wire.specs.declared.error.ReadError.{ReadError}
 use Rattle.ei_wire.specs.declared.error.ReadError.TheVariants as read_error
 use Rattle.ei_serve.specs.declared.phase.Phase.{Phase}
-use Rattle.ei_serve.specs.declared.session.Setup.{Setup as Started}
+use Rattle.ei_serve.specs.declared.state.Terms.{Terms}
 use Rattle.ei_serve.specs.declared.state.SessionState.{SessionState}
 use Rattle.ei_serve.specs.declared.session.Turn.{Turn}
 use Rattle.ei_serve.specs.declared.session.Turn.TheVariants as turn
-use Rattle.ei_serve.specs.Standing.{Stands, StandsAt, setup_of}
+use Rattle.ei_serve.specs.Standing.{Stands, StandsAt, terms_of}
 use Rattle.ei_serve.specs.Around.{Around, around, no_source}
 use Rattle.ei_serve.specs.Steps.{Goes, GoesInPart, Breaks}
 use Rattle.ei_backend.specs.Outside.{SourceView}
@@ -43,7 +43,7 @@ module _ (setup : Setup) (pieces : List Piece) (times : List ℕ) (s : SessionSt
   unread_more : (piece : Piece) → length (stands.unread ++ piece.handles) ≡ handle_count (with_next pieces piece)
   unread_more piece = length-append stands.unread piece.handles ∙ ap (λ (n : ℕ). n + length piece.handles) stands.handles ∙ sym (count_more pieces piece)
 
-  pub holds : (n taken : ℕ) (t : SessionState) → ReadsPhase setup (accepted setup (stream pieces)) times (reading_of setup (stream pieces)).rest stands.unread (Ok n) p source_old source_new → s.taken < s.start.setup.pieces → t.start.setup ≡ s.start.setup → t.phase ≡ p → t.taken ≡ s.taken + 1 →
+  pub holds : (n taken : ℕ) (t : SessionState) → ReadsPhase setup (accepted setup (stream pieces)) times (reading_of setup (stream pieces)).rest stands.unread (Ok n) p source_old source_new → s.taken < s.start.terms.pieces → t.start.terms ≡ s.start.terms → t.phase ≡ p → t.taken ≡ s.taken + 1 →
       (piece : Piece) × Hands source_old piece source_new × Holds setup pieces times piece t
   holds n taken t r less same_setup same_phase same_taken =
       let piece = r.0 in
@@ -51,7 +51,7 @@ module _ (setup : Setup) (pieces : List Piece) (times : List ℕ) (s : SessionSt
         piece,
         r.1,
         record {
-          started = ap setup_of same_setup ∙ stands.started;
+          started = ap terms_of same_setup ∙ stands.started;
           room = omega (arith, less, stands.taken, ap (λ (x : Setup). x.pieces) stands.started);
           unread = stands.unread ++ piece.handles;
           phase = rw same_phase r.3;
@@ -61,27 +61,27 @@ module _ (setup : Setup) (pieces : List Piece) (times : List ℕ) (s : SessionSt
         },
       )
 
-  full : s.start.setup.pieces ≤ s.taken → setup.pieces ≤ length pieces
+  full : s.start.terms.pieces ≤ s.taken → setup.pieces ≤ length pieces
   full h = omega (arith, h, stands.taken, ap (λ (x : Setup). x.pieces) stands.started)
 
-  pub at_limit : (n : ℕ) → ReadsPhase setup (accepted setup (stream pieces)) times (reading_of setup (stream pieces)).rest stands.unread (Ok n) p source_old source_new → s.start.setup.pieces ≤ s.taken →
+  pub at_limit : (n : ℕ) → ReadsPhase setup (accepted setup (stream pieces)) times (reading_of setup (stream pieces)).rest stands.unread (Ok n) p source_old source_new → s.start.terms.pieces ≤ s.taken →
       (piece : Piece) × Hands source_old piece source_new × (setup.pieces ≤ length pieces)
   at_limit n r h = (r.0, r.1, full h)
 
-  pub at_limit_too : ReadsPhase setup (accepted setup (stream pieces)) times (reading_of setup (stream pieces)).rest stands.unread (Err read_error.HandleLimit) p source_old source_new → s.start.setup.pieces ≤ s.taken →
+  pub at_limit_too : ReadsPhase setup (accepted setup (stream pieces)) times (reading_of setup (stream pieces)).rest stands.unread (Err read_error.HandleLimit) p source_old source_new → s.start.terms.pieces ≤ s.taken →
       (piece : Piece) × Hands source_old piece source_new × (setup.pieces ≤ length pieces)
   at_limit_too r h = (r.0, r.1, full h)
 
-  pub overflows : ReadsPhase setup (accepted setup (stream pieces)) times (reading_of setup (stream pieces)).rest stands.unread (Err read_error.HandleLimit) p source_old source_new → s.taken < s.start.setup.pieces →
+  pub overflows : ReadsPhase setup (accepted setup (stream pieces)) times (reading_of setup (stream pieces)).rest stands.unread (Err read_error.HandleLimit) p source_old source_new → s.taken < s.start.terms.pieces →
       (piece : Piece) × Hands source_old piece source_new × (length pieces < setup.pieces) × (4096 < handle_count (with_next pieces piece))
   overflows r less = (r.0, r.1, omega (arith, less, stands.taken, ap (λ (x : Setup). x.pieces) stands.started), omega (arith, unread_more r.0, r.2.limit, length-append stands.unread r.0.handles))
 
-  pub ends : (t : SessionState) → ReadsPhase setup (accepted setup (stream pieces)) times (reading_of setup (stream pieces)).rest stands.unread (Err read_error.UnexpectedEof) p source_old source_new → t.start.setup ≡ s.start.setup → t.phase ≡ p → t.taken ≡ s.taken →
+  pub ends : (t : SessionState) → ReadsPhase setup (accepted setup (stream pieces)) times (reading_of setup (stream pieces)).rest stands.unread (Err read_error.UnexpectedEof) p source_old source_new → t.start.terms ≡ s.start.terms → t.phase ≡ p → t.taken ≡ s.taken →
       HasNone source_old source_new × Stands setup pieces times t
   ends t r same_setup same_phase same_taken = (
     r.0,
     record {
-      started = ap setup_of same_setup ∙ stands.started;
+      started = ap terms_of same_setup ∙ stands.started;
       goes_on = stands.goes_on;
       waits = stands.waits;
       unread = stands.unread;
@@ -96,7 +96,7 @@ module _ (setup : Setup) (pieces : List Piece) (times : List ℕ) (s : SessionSt
   abbrev Reads : Result ℕ ReadError → Type 0
   Reads read = ReadsPhase setup (accepted setup (stream pieces)) times (reading_of setup (stream pieces)).rest stands.unread read p source_old source_new
 
-  err_takes_by : (full : Bool) (read : Result ℕ ReadError) (e : Error) (t : SessionState) → nat_le s.start.setup.pieces s.taken ≡ full → Reads read → piece_came full read ≡ Err e → TakesPiece setup pieces times s (Err e) t source_old source_new
+  err_takes_by : (full : Bool) (read : Result ℕ ReadError) (e : Error) (t : SessionState) → nat_le s.start.terms.pieces s.taken ≡ full → Reads read → piece_came full read ≡ Err e → TakesPiece setup pieces times s (Err e) t source_old source_new
   err_takes_by true (Ok n) e t f r c = let same : error.PieceLimit ≡ e = cc in rw (← same) (at_limit n r (leb-true _ _ f))
   err_takes_by false (Ok n) e t f r c = absurd cc
   err_takes_by true (Err read_error.HandleLimit) e t f r c = let same : error.PieceLimit ≡ e = cc in rw (← same) (at_limit_too r (leb-true _ _ f))
@@ -108,10 +108,10 @@ module _ (setup : Setup) (pieces : List Piece) (times : List ℕ) (s : SessionSt
   err_takes_by true (Err read_error.NoMemory) e t f r c = let same : error.NoMemory ≡ e = cc in rw (← same) r
   err_takes_by false (Err read_error.NoMemory) e t f r c = let same : error.NoMemory ≡ e = cc in rw (← same) r
 
-  pub err_takes : (full : Bool) (read : Result ℕ ReadError) (e : Error) (r : Result Bool Error) (t : SessionState) → full ≡ nat_le s.start.setup.pieces s.taken → Reads read → Err e ≡ piece_came full read → r ≡ Err e → TakesPiece setup pieces times s r t source_old source_new
+  pub err_takes : (full : Bool) (read : Result ℕ ReadError) (e : Error) (r : Result Bool Error) (t : SessionState) → full ≡ nat_le s.start.terms.pieces s.taken → Reads read → Err e ≡ piece_came full read → r ≡ Err e → TakesPiece setup pieces times s r t source_old source_new
   err_takes full read e r t f h c same = rw same (err_takes_by full read e t (sym f) h (sym c))
 
-  none_takes_by : (full : Bool) (read : Result ℕ ReadError) (t : SessionState) → Reads read → piece_came full read ≡ Ok false → t.start.setup ≡ s.start.setup → t.phase ≡ p → t.taken ≡ s.taken → HasNone source_old source_new × Stands setup pieces times t
+  none_takes_by : (full : Bool) (read : Result ℕ ReadError) (t : SessionState) → Reads read → piece_came full read ≡ Ok false → t.start.terms ≡ s.start.terms → t.phase ≡ p → t.taken ≡ s.taken → HasNone source_old source_new × Stands setup pieces times t
   none_takes_by true (Ok n) t r c a b d = absurd cc
   none_takes_by false (Ok n) t r c a b d = let g : true ≡ false = cc in absurd cc
   none_takes_by true (Err read_error.HandleLimit) t r c a b d = absurd cc
@@ -123,10 +123,10 @@ module _ (setup : Setup) (pieces : List Piece) (times : List ℕ) (s : SessionSt
   none_takes_by true (Err read_error.NoMemory) t r c a b d = absurd cc
   none_takes_by false (Err read_error.NoMemory) t r c a b d = absurd cc
 
-  pub none_takes : (full : Bool) (read : Result ℕ ReadError) (came : Bool) (t : SessionState) → Reads read → Ok came ≡ piece_came full read → came ≡ false → t.start.setup ≡ s.start.setup → t.phase ≡ p → t.taken ≡ s.taken → HasNone source_old source_new × Stands setup pieces times t
+  pub none_takes : (full : Bool) (read : Result ℕ ReadError) (came : Bool) (t : SessionState) → Reads read → Ok came ≡ piece_came full read → came ≡ false → t.start.terms ≡ s.start.terms → t.phase ≡ p → t.taken ≡ s.taken → HasNone source_old source_new × Stands setup pieces times t
   none_takes full read came t r c no_piece a b d = none_takes_by full read t r (sym c ∙ ap (λ (x : Bool). Ok x) no_piece) a b d
 
-  some_takes_by : (full : Bool) (read : Result ℕ ReadError) (t : SessionState) → nat_le s.start.setup.pieces s.taken ≡ full → Reads read → piece_came full read ≡ Ok true → t.start.setup ≡ s.start.setup → t.phase ≡ p → t.taken ≡ s.taken + 1 → (piece : Piece) × Hands source_old piece source_new × Holds setup pieces times piece t
+  some_takes_by : (full : Bool) (read : Result ℕ ReadError) (t : SessionState) → nat_le s.start.terms.pieces s.taken ≡ full → Reads read → piece_came full read ≡ Ok true → t.start.terms ≡ s.start.terms → t.phase ≡ p → t.taken ≡ s.taken + 1 → (piece : Piece) × Hands source_old piece source_new × Holds setup pieces times piece t
   some_takes_by true (Ok n) t f r c a b d = absurd cc
   some_takes_by false (Ok n) t f r c a b d = holds n n t r (leb-false _ _ f) a b d
   some_takes_by true (Err read_error.HandleLimit) t f r c a b d = absurd cc
@@ -139,7 +139,7 @@ module _ (setup : Setup) (pieces : List Piece) (times : List ℕ) (s : SessionSt
   some_takes_by false (Err read_error.NoMemory) t f r c a b d = absurd cc
 
   -- a count that has not come to its last value
-  room_left : (full : Bool) (read : Result ℕ ReadError) → nat_le s.start.setup.pieces s.taken ≡ full → piece_came full read ≡ Ok true → s.taken < s.start.setup.pieces
+  room_left : (full : Bool) (read : Result ℕ ReadError) → nat_le s.start.terms.pieces s.taken ≡ full → piece_came full read ≡ Ok true → s.taken < s.start.terms.pieces
   room_left true (Ok n) f c = absurd cc
   room_left false read f c = leb-false _ _ f
   room_left true (Err read_error.HandleLimit) f c = absurd cc
@@ -147,7 +147,7 @@ module _ (setup : Setup) (pieces : List Piece) (times : List ℕ) (s : SessionSt
   room_left true (Err read_error.ReadFault) f c = absurd cc
   room_left true (Err read_error.NoMemory) f c = absurd cc
 
-  pub some_takes : (full : Bool) (read : Result ℕ ReadError) (came : Bool) (t : SessionState) → full ≡ nat_le s.start.setup.pieces s.taken → s.start.setup.pieces < 2 ^ 32 → Reads read → Ok came ≡ piece_came full read → came ≡ true → t.start.setup ≡ s.start.setup → t.phase ≡ p → t.taken ≡ min (s.taken + 1) (2 ^ 32 - 1) → (piece : Piece) × Hands source_old piece source_new × Holds setup pieces times piece t
+  pub some_takes : (full : Bool) (read : Result ℕ ReadError) (came : Bool) (t : SessionState) → full ≡ nat_le s.start.terms.pieces s.taken → s.start.terms.pieces < 2 ^ 64 → Reads read → Ok came ≡ piece_came full read → came ≡ true → t.start.terms ≡ s.start.terms → t.phase ≡ p → t.taken ≡ min (s.taken + 1) (2 ^ 64 - 1) → (piece : Piece) × Hands source_old piece source_new × Holds setup pieces times piece t
   some_takes full read came t f small r c some a b d =
       let g : piece_came full read ≡ Ok true = sym c ∙ ap (λ (x : Bool). Ok x) some in
       let less = room_left full read (sym f) g in
@@ -220,11 +220,11 @@ module _ (setup : Setup) (pieces : List Piece) (times : List ℕ) (s t u : Sessi
   closes_refused None h = absurd h
   closes_refused (Some refusal) h = closes (Refused refusal) tt h
 
-  goes_on_with : u.start.setup ≡ t.start.setup → u.taken ≡ t.taken → HandlesOn setup before times unread holds_it.unread u.phase x y → GoesOn setup pieces times u start finish
+  goes_on_with : u.start.terms ≡ t.start.terms → u.taken ≡ t.taken → HandlesOn setup before times unread holds_it.unread u.phase x y → GoesOn setup pieces times u start finish
   goes_on_with same_setup same_taken h =
       let waits : (reading_of setup (stream (with_next pieces piece))).stop ≡ Waiting = ap (λ (r : Reading Cause). r.stop) same ∙ h.stands.waits in
       let made : Stands setup (with_next pieces piece) (times ++ h.used) u = record {
-        started = ap setup_of same_setup ∙ holds_it.started;
+        started = ap terms_of same_setup ∙ holds_it.started;
         goes_on = goes_on_more setup pieces piece stands.goes_on holds_it.room holds_it.few waits;
         waits = waits;
         unread = holds_it.unread;
@@ -240,7 +240,7 @@ module _ (setup : Setup) (pieces : List Piece) (times : List ℕ) (s t u : Sessi
       let goes = breaks_beside setup before (read (judge setup) before unread).past times x y source_old source_new g in
       record { piece = piece; hands = hands; room = holds_it.room; few = holds_it.few; goes = subst (λ (r : Reading Cause). GoesInPart setup before r.past times start finish) (sym same) goes }
 
-  pub handled : (r : Result Turn Error) → u.start.setup ≡ t.start.setup → u.taken ≡ t.taken → HandlesAll setup before times unread holds_it.unread r u.phase x y → Turns setup pieces times r u start finish
+  pub handled : (r : Result Turn Error) → u.start.terms ≡ t.start.terms → u.taken ≡ t.taken → HandlesAll setup before times unread holds_it.unread r u.phase x y → Turns setup pieces times r u start finish
   handled (Ok turn.GoOn) same_setup same_taken h = goes_on_with same_setup same_taken h
   handled (Ok turn.Disconnect) same_setup same_taken h = closes Disconnect tt h
   handled (Ok turn.End) same_setup same_taken h = absurd h
@@ -263,7 +263,7 @@ no_end_handled setup past times rest handles (Ok turn.End) p x y P h at = absurd
 no_end_handled setup past times rest handles (Err error.UnexpectedEof) p x y P h at = absurd h
 no_end_handled setup past times rest handles (Err e) p x y P h at = absurd at
 
-pub with_setup : (setup : Setup) (started : Started) (past : List Raw) (times rest : List ℕ) (handles : List Handle) (r : Result Turn Error) (p : Phase) (x y : Around) → setup_of started ≡ setup → HandlesAll (setup_of started) past times rest handles r p x y → HandlesAll setup past times rest handles r p x y
+pub with_setup : (setup : Setup) (started : Terms) (past : List Raw) (times rest : List ℕ) (handles : List Handle) (r : Result Turn Error) (p : Phase) (x y : Around) → terms_of started ≡ setup → HandlesAll (terms_of started) past times rest handles r p x y → HandlesAll setup past times rest handles r p x y
 with_setup setup started past times rest handles r p x y e h = subst (λ (s : Setup). HandlesAll s past times rest handles r p x y) e h
 
 none_by : (full : Bool) (read : Result ℕ ReadError) → piece_came full read ≡ Ok false → IsErrOf read read_error.UnexpectedEof

@@ -7,6 +7,7 @@ pub mod Standing
 pub mod Steps
 pub mod Taking
 pub mod Turning
+pub mod EndedBy
 pub mod Serving
 pub mod Whole
 pub mod Policy

@@ -1,5 +1,5 @@
 -- What a session stands for: the pieces that it took.
-use Rattle.std.specs.Prelude.{◌≡◌, ℕ, ◌≤◌, ◌<◌, ◌^◌, ◌⊎◌, false, List, [], length, Option, Some, None, is_some, unwrap_or, codes}
+use Rattle.std.specs.Prelude.{◌≡◌, ℕ, ◌≤◌, ◌<◌, ◌^◌, ◌⊎◌, true, false, List, [], length, Option, Some, None, is_some, unwrap_or, codes}
 use Rattle.std.specs.Option.{option_map}
 use Rattle.ei_spec.specs.declared.handle.Handle.{Handle}
 use Rattle.ei_spec.specs.declared.interface.KnownInterface.TheVariants as known
@@ -8,6 +8,7 @@ use Rattle.ei_spec.specs.Message.{Raw}
 use Rattle.ei_spec.specs.Piece.{Piece, stream, handle_count}
 use Rattle.ei_spec.specs.Stream.{Waiting}
 use Rattle.ei_types.specs.Capability.{bits_of, all_bits}
+use Rattle.ei_types.specs.declared.capability.DeviceCapabilities.{DeviceCapabilities}
 use Rattle.ei_session.specs.Setup.{Setup}
 use Rattle.ei_session.specs.Handshake.{connected}
 use Rattle.ei_session.specs.SettledMap.{settled_map}
@@ -17,17 +18,27 @@ use Rattle.ei_backend.specs.Table.{TableView, new_table, first_server_id, own, w
 use Rattle.ei_backend.specs.Endpoint.{Endpoint, endpoint_of}
 use Rattle.ei_backend.specs.Backend.{BackendView, new_backend}
 use Rattle.ei_handshake.specs.Handshaker.{HandshakerView}
+use Rattle.ei_request.specs.Connection.{ConnectionView}
 use Rattle.ei_request.specs.Converter.{ConverterView}
-use Rattle.ei_standing.specs.Standing.{IsHeld}
+use Rattle.ei_standing.specs.Standing.{IsHeld, was_named}
 use Rattle.ei_spec.specs.declared.limits.TheConstants.{MOST_MESSAGE_BYTES}
 use Rattle.ei_serve.specs.declared.phase.Phase.{Phase}
 use Rattle.ei_serve.specs.declared.phase.Phase.TheVariants as phase
 use Rattle.ei_serve.specs.declared.session.Setup.{Setup as Started}
 use Rattle.ei_serve.specs.declared.state.SessionState.{SessionState}
+use Rattle.ei_serve.specs.declared.state.Terms.{Terms}
 
 -- the setup as the definitions see it
 abbrev pub setup_of : Started → Setup
 setup_of s = record { serial = s.initial_serial; capabilities = bits_of s.capabilities; pieces = s.pieces }
+
+-- a setup with no limit that a client could come to: 18446744073709551615 pieces
+abbrev pub unlimited : ℕ → DeviceCapabilities → Setup
+unlimited serial capabilities = record { serial = serial; capabilities = bits_of capabilities; pieces = 18446744073709551615 }
+
+-- what a session keeps of its setup, as the definitions see it
+abbrev pub terms_of : Terms → Setup
+terms_of s = record { serial = s.initial_serial; capabilities = bits_of s.capabilities; pieces = s.pieces }
 
 -- ---- the objects
 
@@ -83,6 +94,11 @@ StandsAt setup past times rest handles (phase.Handshake b h) = (times ≡ []) ×
 StandsAt setup past times rest handles (phase.Connected c) = IsConnected setup past times rest handles c
 StandsAt setup past times rest handles phase.Over = ⊥
 
+-- the connection of a phase, where it stands
+abbrev pub connection_in : Phase → Option ConnectionView
+connection_in (phase.Connected c) = Some c.handle
+connection_in p = None
+
 -- the endpoint of a phase; over, it has none
 abbrev pub context_in : Phase → Option BackendView
 context_in (phase.Handshake b h) = Some b
@@ -132,7 +148,7 @@ HoldsFewBytesIn phase.Over = Unit {0}
 -- The session was started with the setup, took these pieces and used these readings, and goes on: it handled the
 -- messages of their stream, and what follows them is unread.
 pub record Stands (setup : Setup) (pieces : List Piece) (times : List ℕ) (s : SessionState) : Type 0 where
-  pub started : setup_of s.start.setup ≡ setup
+  pub started : terms_of s.start.terms ≡ setup
   pub goes_on : (k : ℕ) → 1 ≤ k → k ≤ length pieces → is_over setup pieces k ≡ false
   pub waits : (reading_of setup (stream pieces)).stop ≡ Waiting
   pub unread : List Handle
@@ -154,6 +170,15 @@ pub record StandsForSome (s : SessionState) : Type 0 where
 -- what every session is between its turns: over, or one that stands for the pieces that it took
 abbrev pub IsSession : SessionState → Type 0
 IsSession s = IsOver s ⊎ StandsForSome s
+
+-- the connection, where it stands
+abbrev pub connection_of : SessionState → Option ConnectionView
+connection_of s = connection_in s.phase
+
+-- the connection stands exactly where a finish came, and then has a name exactly where the client told one before that
+abbrev pub IsClientAfter : List Raw → Option ConnectionView → Type 0
+IsClientAfter past None = connected past ≡ false
+IsClientAfter past (Some c) = (connected past ≡ true) × (is_some c.name ≡ was_named past)
 
 -- how many bytes of it wait for the sink, and how many it can hold that aren't read
 abbrev pub unsent_of : SessionState → ℕ

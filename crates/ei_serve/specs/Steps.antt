@@ -89,6 +89,7 @@ pub record GoesInPart (setup : Setup) (before last : List Raw) (times : List ℕ
   pub gives : GivesOut setup before reached times used old.out new.out
   pub replies : RepliesInPart setup before reached old.took new.took
   pub drawn : AreDrawn used old.readings
+  pub leaves : LeavesReadings used old.readings new.readings
 
 -- broken off on the way to the last message of these bytes that can be handled
 abbrev pub Breaks : Setup → List Raw → List ℕ → List ℕ → Around → Around → Type 0

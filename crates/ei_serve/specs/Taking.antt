@@ -14,7 +14,7 @@ use Rattle.ei_wire.specs.declared.error.ReadError.{ReadError}
 use Rattle.ei_wire.specs.declared.error.ReadError.TheVariants as read_error
 use Rattle.ei_serve.specs.declared.phase.Phase.{Phase}
 use Rattle.ei_serve.specs.declared.state.SessionState.{SessionState}
-use Rattle.ei_serve.specs.Standing.{Stands, StandsAt, setup_of}
+use Rattle.ei_serve.specs.Standing.{Stands, StandsAt, terms_of}
 use Rattle.ei_spec.specs.declared.limits.TheConstants.{MOST_UNREAD_HANDLES}
 
 -- what reading a piece does to a phase
@@ -31,7 +31,7 @@ with_next pieces piece = pieces ++ piece ∷ []
 
 -- the session took one more piece and has not looked at it
 pub record Holds (setup : Setup) (pieces : List Piece) (times : List ℕ) (piece : Piece) (s : SessionState) : Type 0 where
-  pub started : setup_of s.start.setup ≡ setup
+  pub started : terms_of s.start.terms ≡ setup
   pub room : length pieces < setup.pieces
   pub unread : List Handle
   pub phase : StandsAt setup (accepted setup (stream pieces)) times ((reading_of setup (stream pieces)).rest ++ piece.bytes) unread s.phase

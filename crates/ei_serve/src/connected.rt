@@ -8,7 +8,7 @@ ghost use Rattle.ei_backend.specs.Lent.{LentSink, LentClock};
 ghost use Rattle.ei_session.specs.Setup.{Setup as Started};
 ghost use Rattle.ei_session.specs.Handshake.{connected, is_finish};
 ghost use Rattle.ei_serve.specs.Around.{beside};
-ghost use Rattle.ei_serve.specs.Standing.{IsConnected, setup_of};
+ghost use Rattle.ei_serve.specs.Standing.{IsConnected, terms_of};
 ghost use Rattle.ei_serve.specs.Steps.{HandsOver, Connects, Steps, told};
 ghost use Rattle.ei_serve.specs.AtFront.{IsAsked};
 ghost use Rattle.ei_serve.specs.Policy.{policy_behind};
@@ -35,8 +35,8 @@ pub(crate) fn connect<K: Sink>(
 ) -> Result<EisRequestConverter, Error>
     ensures connects { (before : List Raw) (finish : Raw) (after : List ℕ) (handles : List Handle) →
         connected before ≡ false → is_finish finish ≡ true →
-        HandsOver (setup_of start.setup) before after handles resp context →
-        Connects (setup_of start.setup) before finish after handles result (K.taken sink.old) (K.taken sink.new) }
+        HandsOver (terms_of start.terms) before after handles resp context →
+        Connects (terms_of start.terms) before finish after handles result (K.taken sink.old) (K.taken sink.new) }
     ensures sink { LentSink K.faults K.later (IsErrOf result error.WriteFault) sink.old sink.new }
     ensures no_read_fault { IsErrOf result error.ReadFault → ⊥ }
 {
@@ -44,10 +44,10 @@ pub(crate) fn connect<K: Sink>(
         start.alloc,
         context,
         resp,
-        start.setup.initial_serial,
+        start.terms.initial_serial,
     );
     let handle = converter.handle_mut();
-    handle.add_seat(None, start.setup.capabilities)?;
+    handle.add_seat(None, start.terms.capabilities)?;
     handle.context_mut().flush(sink)?;
     Ok(converter)
 }

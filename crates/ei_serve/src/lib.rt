@@ -6,6 +6,7 @@
 #![tactic(auto)]
 
 mod connected;
+mod ended;
 mod handshaking;
 mod phase;
 mod policy;
@@ -13,5 +14,6 @@ mod serve_loop;
 mod session;
 mod state;
 
+pub use ended::ended_by;
 pub use serve_loop::serve;
 pub use session::{Ended, Session, Setup, Turn};

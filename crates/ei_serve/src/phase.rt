@@ -16,7 +16,7 @@ ghost use Rattle.ei_session.specs.Handshake.{connected, is_finish};
 ghost use Rattle.ei_serve.specs.declared.phase.Phase.TheVariants as phases;
 ghost use Rattle.ei_serve.specs.Around.{beside};
 ghost use Rattle.ei_serve.specs.Causes.{Greeted, GreetedInPart, RefusesToStart};
-ghost use Rattle.ei_serve.specs.Standing.{context_in, unread_in, unsent_in, capacity_in, IsOpenIn, IsShaking, StandsAt, setup_of};
+ghost use Rattle.ei_serve.specs.Standing.{context_in, unread_in, unsent_in, capacity_in, IsOpenIn, IsShaking, StandsAt, terms_of, connection_in};
 ghost use Rattle.ei_serve.specs.Steps.{Steps, StepsInHandshake, AsksToFinishIn, HandsOverIn, ConnectsPhase, told};
 ghost use Rattle.ei_serve.specs.Taking.{ReadsPhase};
 ghost use Rattle.ei_serve.specs.Turning.{HandlesAll};
@@ -27,7 +27,7 @@ use crate::session::Turn;
 use crate::state::Start;
 use ei_backend::{Clock, Sink, Source};
 use ei_handshake::{EisHandshakeResp, EisHandshaker};
-use ei_request::{EisRequest, EisRequestConverter};
+use ei_request::{Connection, EisRequest, EisRequestConverter};
 use ei_server::{Context, Handshake};
 use ei_types::{Error, HandshakeError};
 use ei_wire::{FlushError, ParseError, ReadError, SendError};
@@ -145,6 +145,16 @@ impl Phase {
         matches!(self, Phase::Connected(_))
     }
 
+    /// The connection, where it stands.
+    pub(crate) fn connection(&self) -> Option<&Connection>
+        ensures { option_map (λ c. c.now) result ≡ connection_in self.now }
+    {
+        match self {
+            Phase::Connected(converter) => Some(converter.handle()),
+            _ => None,
+        }
+    }
+
     /// The endpoint; none where it is over.
     fn context(&self) -> Option<&Context>
         ensures { option_map (λ c. c.now) result ≡ context_in self.now }
@@ -203,8 +213,8 @@ impl Phase {
         why: &mut Error,
     ) -> Result<Step, Rejected>
         ensures steps { (past : List Raw) (times rest : List ℕ) (handles : List Handle) →
-            StandsAt (setup_of start.setup) past times rest handles self.old →
-            Steps (setup_of start.setup) past times rest handles (told result why.new) self.new
+            StandsAt (terms_of start.terms) past times rest handles self.old →
+            Steps (terms_of start.terms) past times rest handles (told result why.new) self.new
             (beside out.old.items (K.taken sink.old) (C.readings clock.old)) (beside out.new.items (K.taken sink.new) (C.readings clock.new)) }
         ensures sink { LentSink K.faults K.later (IsErrOf (told result why.new) error.WriteFault) sink.old sink.new }
         ensures no_read_fault { IsErrOf (told result why.new) error.ReadFault → ⊥ }
@@ -226,8 +236,8 @@ impl Phase {
         why: &mut Error,
     ) -> Result<Step, Rejected>
         requires { IsShaking self.old }
-        ensures steps { (past : List Raw) (times rest : List ℕ) (handles : List Handle) → StandsAt (setup_of start.setup) past times rest handles self.old →
-            StepsInHandshake (setup_of start.setup) past times rest handles (told result why.new) self.new (K.taken sink.old) (K.taken sink.new) }
+        ensures steps { (past : List Raw) (times rest : List ℕ) (handles : List Handle) → StandsAt (terms_of start.terms) past times rest handles self.old →
+            StepsInHandshake (terms_of start.terms) past times rest handles (told result why.new) self.new (K.taken sink.old) (K.taken sink.new) }
         ensures sink { LentSink K.faults K.later (IsErrOf (told result why.new) error.WriteFault) sink.old sink.new }
         ensures no_read_fault { IsErrOf (told result why.new) error.ReadFault → ⊥ }
     {
@@ -254,8 +264,8 @@ impl Phase {
     ) -> Result<Step, Rejected>
         requires { IsShaking self.old }
         ensures steps { (past : List Raw) (times rest : List ℕ) (handles : List Handle) →
-            AsksToFinishIn (setup_of start.setup) past times rest handles handshake.now self.old →
-            StepsInHandshake (setup_of start.setup) past times rest handles (told result why.new) self.new (K.taken sink.old) (K.taken sink.new) }
+            AsksToFinishIn (terms_of start.terms) past times rest handles handshake.now self.old →
+            StepsInHandshake (terms_of start.terms) past times rest handles (told result why.new) self.new (K.taken sink.old) (K.taken sink.new) }
         ensures sink { LentSink K.faults K.later (IsErrOf (told result why.new) error.WriteFault) sink.old sink.new }
         ensures no_read_fault { IsErrOf (told result why.new) error.ReadFault → ⊥ }
     {
@@ -280,8 +290,8 @@ impl Phase {
     ) -> Result<(), Error>
         ensures connects { (before : List Raw) (finish : Raw) (after : List ℕ) (handles : List Handle) →
             connected before ≡ false → is_finish finish ≡ true →
-            HandsOverIn (setup_of start.setup) before after handles resp self.old →
-            ConnectsPhase (setup_of start.setup) before finish after handles result self.new (K.taken sink.old) (K.taken sink.new) }
+            HandsOverIn (terms_of start.terms) before after handles resp self.old →
+            ConnectsPhase (terms_of start.terms) before finish after handles result self.new (K.taken sink.old) (K.taken sink.new) }
         ensures sink { LentSink K.faults K.later (IsErrOf result error.WriteFault) sink.old sink.new }
         ensures no_read_fault { IsErrOf result error.ReadFault → ⊥ }
     {
@@ -301,8 +311,8 @@ impl Phase {
         out: &mut Vec<EisRequest>,
     ) -> Result<Turn, Error>
         ensures handles { (past : List Raw) (times rest : List ℕ) (handles : List Handle) →
-            StandsAt (setup_of start.setup) past times rest handles self.old →
-            HandlesAll (setup_of start.setup) past times rest handles result self.new
+            StandsAt (terms_of start.terms) past times rest handles self.old →
+            HandlesAll (terms_of start.terms) past times rest handles result self.new
             (beside out.old.items (K.taken sink.old) (C.readings clock.old)) (beside out.new.items (K.taken sink.new) (C.readings clock.new)) }
         ensures sink { LentSink K.faults K.later (IsErrOf result error.WriteFault) sink.old sink.new }
         ensures no_read_fault { IsErrOf result error.ReadFault → ⊥ }

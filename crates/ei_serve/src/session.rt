@@ -1,20 +1,24 @@
 //! A session, piece by piece.
 
 ghost use Rattle.std.specs.Prelude.{◌≡◌, ◌≤◌, ◌↔◌, List, [], ℕ, Some, false, IsTrue, IsErrOf, OnOk, OnErr, IfOk, IfErr};
+ghost use Rattle.std.specs.Option.{option_map};
+ghost use Rattle.ei_spec.specs.Piece.{stream};
 ghost use Rattle.ei_session.specs.Setup.{Setup as Started};
+ghost use Rattle.ei_session.specs.Served.{accepted};
 ghost use Rattle.ei_types.specs.Capability.{bits_of, all_bits};
 ghost use Rattle.ei_types.specs.declared.error.Error.TheVariants as error;
 ghost use Rattle.ei_backend.specs.Outside.{Piece, source_view};
 ghost use Rattle.ei_backend.specs.Lent.{LentSource, LentSink, LentClock};
 ghost use Rattle.ei_serve.specs.Around.{around};
 ghost use Rattle.ei_serve.specs.Causes.{Greeted, GreetedInPart, RefusesToStart};
-ghost use Rattle.ei_serve.specs.Standing.{Stands, IsOver, HoldsLittle, setup_of, unsent_of, capacity_of, most_capacity};
+ghost use Rattle.ei_serve.specs.Standing.{Stands, StandsForSome, IsOver, HoldsLittle, setup_of, terms_of, unlimited};
+ghost use Rattle.ei_serve.specs.Standing.{connection_of, IsClientAfter, unsent_of, capacity_of, most_capacity};
 ghost use Rattle.ei_serve.specs.Turning.{Turns, IsAtEnd, goes_on};
 
 use crate::phase::Phase;
-use crate::state::{SessionState, Start, goes_on};
+use crate::state::{SessionState, Start, Terms, goes_on};
 use ei_backend::{Clock, Sink, Source};
-use ei_request::EisRequest;
+use ei_request::{Connection, EisRequest};
 use ei_types::{DeviceCapabilities, Error};
 use std::alloc::Global;
 use std::marker::Model;
@@ -90,10 +94,49 @@ impl Session {
         // what the sink says
         ensures sink { LentSink K.faults K.later (IsErrOf result error.WriteFault) sink.old sink.new }
     {
-        let phase = Phase::start(alloc, setup.initial_serial, sink)?;
+        Session::start_on(alloc, Terms::of(setup), sink)
+    }
+
+    /// Starts a session that isn't ended by the number of its pieces, and greets the client. It takes 18446744073709551615 of
+    /// them: at a thousand a second, those of 584 million years.
+    ///
+    /// It is refused as `start` is.
+    pub fn start_unlimited<K: Sink>(
+        alloc: Global,
+        initial_serial: u32,
+        capabilities: DeviceCapabilities,
+        sink: &mut K,
+    ) -> Result<Session, Error>
+        requires lawful { bits_of capabilities ≤ all_bits }
+        // it stands for no pieces, and isn't over
+        ensures stands { IfOk result (λ session. Stands (unlimited initial_serial capabilities) [] [] session) }
+        ensures going { IfOk result (λ session. ¬ IsOver session) }
+        ensures little { IfOk result HoldsLittle }
+        ensures only { IfErr result RefusesToStart }
+        // the greeting goes out first
+        ensures greeted { OnOk result ((held : Piece) → K.taken sink.old ≡ Some held → Greeted held (K.taken sink.new)) }
+        ensures greeted_in_part { OnErr result ((held : Piece) → K.taken sink.old ≡ Some held → GreetedInPart held (K.taken sink.new)) }
+        // what the sink says
+        ensures sink { LentSink K.faults K.later (IsErrOf result error.WriteFault) sink.old sink.new }
+    {
+        Session::start_on(alloc, Terms::unlimited(initial_serial, capabilities), sink)
+    }
+
+    /// Starts a session on these terms.
+    fn start_on<K: Sink>(alloc: Global, terms: Terms, sink: &mut K) -> Result<Session, Error>
+        requires lawful { bits_of terms.capabilities ≤ all_bits }
+        ensures stands { IfOk result (λ session. Stands (terms_of terms) [] [] session) }
+        ensures going { IfOk result (λ session. ¬ IsOver session) }
+        ensures little { IfOk result HoldsLittle }
+        ensures only { IfErr result RefusesToStart }
+        ensures greeted { OnOk result ((held : Piece) → K.taken sink.old ≡ Some held → Greeted held (K.taken sink.new)) }
+        ensures greeted_in_part { OnErr result ((held : Piece) → K.taken sink.old ≡ Some held → GreetedInPart held (K.taken sink.new)) }
+        ensures sink { LentSink K.faults K.later (IsErrOf result error.WriteFault) sink.old sink.new }
+    {
+        let phase = Phase::start(alloc, terms.initial_serial, sink)?;
         Ok(Session {
             state: SessionState {
-                start: Start { alloc, setup },
+                start: Start { alloc, terms },
                 phase,
                 taken: 0,
             },
@@ -105,6 +148,17 @@ impl Session {
         ensures { IsTrue result ↔ IsOver self.now }
     {
         self.state.phase.is_over()
+    }
+
+    /// The connection, which knows the client's name and context type. `None` exactly where none stands: before the
+    /// handshake's end, and where the session is over.
+    pub fn connection(&self) -> Option<&Connection>
+        ensures value { option_map (λ c. c.now) result ≡ connection_of self.now }
+        // over the messages that were handled
+        ensures client { (setup : Started) (pieces : List Piece) (times : List ℕ) → Stands setup pieces times self.now →
+            IsClientAfter (accepted setup (stream pieces)) (option_map (λ c. c.now) result) }
+    {
+        self.state.phase.connection()
     }
 
     /// How many bytes wait for the sink: none, at any time. A turn hands over what answers a message before
@@ -155,7 +209,8 @@ impl Session {
         out: &mut Vec<EisRequest>,
     ) -> Result<Turn, Error>
         requires going { ¬ IsOver self.old }
-        // over a session that stands for the pieces taken, and the readings used, so far
+        // it stood for the pieces taken, and the readings used, so far
+        ensures stood { StandsForSome self.old }
         ensures turns { (setup : Started) (pieces : List Piece) (times : List ℕ) → Stands setup pieces times self.old →
             Turns setup pieces times result self.new
             (around (source_view S.left S.given source.old) out.old.items (K.taken sink.old) (C.readings clock.old))

@@ -6,7 +6,7 @@ ghost use Rattle.ei_types.specs.declared.error.Error.TheVariants as error;
 ghost use Rattle.ei_backend.specs.Outside.{Piece, SourceView, source_view};
 ghost use Rattle.ei_backend.specs.Lent.{LentSource, LentSink, LentClock};
 ghost use Rattle.ei_serve.specs.Around.{around};
-ghost use Rattle.ei_serve.specs.Standing.{Stands, StandsForSome};
+ghost use Rattle.ei_serve.specs.Standing.{Stands, StandsForSome, setup_of, terms_of, unlimited};
 ghost use Rattle.ei_serve.specs.Taking.{TakesPiece, piece_came};
 ghost use Rattle.ei_serve.specs.Turning.{Turns, IsAtEnd, goes_on, at_end};
 ghost use Rattle.ei_serve.specs.declared.state.SessionState.{SessionState};
@@ -15,15 +15,47 @@ use crate::phase::Phase;
 use crate::session::{Setup, Turn};
 use ei_backend::{Clock, Sink, Source};
 use ei_request::EisRequest;
-use ei_types::Error;
+use ei_types::{DeviceCapabilities, Error};
 use ei_wire::ReadError;
 use std::alloc::Global;
 
-/// What a session starts with: where memory comes from, and the setup.
+/// What a session keeps of its setup. It counts more pieces than a setup can name.
+#[derive(Clone, Copy)]
+pub(crate) struct Terms {
+    pub(crate) initial_serial: u32,
+    pub(crate) capabilities: DeviceCapabilities,
+    pub(crate) pieces: u64,
+}
+
+impl Terms {
+    /// With the limit of a setup.
+    pub(crate) fn of(setup: Setup) -> Terms
+        ensures { terms_of result ≡ setup_of setup }
+    {
+        Terms {
+            initial_serial: setup.initial_serial,
+            capabilities: setup.capabilities,
+            pieces: u64::from(setup.pieces),
+        }
+    }
+
+    /// With no limit that a client could come to.
+    pub(crate) fn unlimited(initial_serial: u32, capabilities: DeviceCapabilities) -> Terms
+        ensures { terms_of result ≡ unlimited initial_serial capabilities }
+    {
+        Terms {
+            initial_serial,
+            capabilities,
+            pieces: u64::MAX,
+        }
+    }
+}
+
+/// What a session starts with: where memory comes from, and the terms.
 #[derive(Clone, Copy)]
 pub(crate) struct Start {
     pub(crate) alloc: Global,
-    pub(crate) setup: Setup,
+    pub(crate) terms: Terms,
 }
 
 /// What a session holds: between two turns, and while one is under way.
@@ -31,7 +63,7 @@ pub(crate) struct Start {
 pub(crate) struct SessionState {
     pub(crate) start: Start,
     pub(crate) phase: Phase,
-    pub(crate) taken: u32,
+    pub(crate) taken: u64,
 }
 
 impl SessionState {
@@ -43,7 +75,7 @@ impl SessionState {
             (StandsForSome self.old × (result ≡ Ok false)) source.old source.new }
         ensures no_write_fault { IsErrOf result error.WriteFault → ⊥ }
     {
-        let is_full = is_full(self.taken, self.start.setup.pieces);
+        let is_full = is_full(self.taken, self.start.terms.pieces);
         let read = self.phase.read(source);
         if !piece_came(is_full, read)? {
             return Ok(false);
@@ -82,9 +114,9 @@ impl SessionState {
 }
 
 /// Whether as many pieces were taken as may be.
-fn is_full(taken: u32, limit: u32) -> bool
+fn is_full(taken: u64, limit: u64) -> bool
     ensures is { result ≡ nat_le limit taken }
-    ensures in_range { limit < 2 ^ 32 }
+    ensures in_range { limit < 2 ^ 64 }
 {
     taken >= limit
 }

@@ -1,1 +1,1 @@
-mod NamedKnown
+pub mod NamedKnown

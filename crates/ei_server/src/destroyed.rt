@@ -1,6 +1,7 @@
 //! The event by which the server takes an object away.
 
 ghost use Rattle.std.specs.Prelude.{◌≡◌, Some, true, refl, codes, [], ◌∷◌};
+ghost use Rattle.ei_spec.specs.Interface.{ObjectView};
 ghost use Rattle.ei_spec.specs.Rows.{row_named};
 ghost use Rattle.ei_spec.specs.Table.{table, destroyed};
 ghost use Rattle.ei_server.specs.Words.{Word, Sends};
@@ -57,6 +58,18 @@ impl<K: Destroyed> Proxy<K> {
     pub fn destroyed(&self, ctx: &mut Context, serial: u32) -> Sent
         ensures sends { Sends (row_named (codes "destroyed") (table true K.KNOWN)) self.now (Word serial ∷ []) ctx.old ctx.new result }
     {
-        self.send_last(ctx, 0, &[Arg::Uint32(serial)])
+        destroyed_by_id(ctx, self.object.id(), serial)
     }
+}
+
+/// Tells the client that the object of that id is gone, and takes it out of the table, where only the id is known: it
+/// is one of the kinds above, which have the same row.
+///
+/// `NoMemory`: nothing is sent, and the object stays.
+pub fn destroyed_by_id(ctx: &mut Context, id: u64, serial: u32) -> Sent
+    ensures sends { (o : ObjectView) → o.id ≡ id → Sends (Some (0, destroyed)) o (Word serial ∷ []) ctx.old ctx.new result }
+{
+    ctx.backend_mut().request(id, 0, &[Arg::Uint32(serial)])?;
+    ctx.backend_mut().remove_id(id);
+    Ok(())
 }

@@ -7,6 +7,8 @@ ghost use Rattle.ei_server.specs.Device.{opcode_of, values_of, event};
 
 use crate::interface as eis;
 use crate::prelude::*;
+use ei_backend::Object;
+use ei_spec::KnownInterface;
 use ei_types::DeviceType;
 
 /// A device.
@@ -80,12 +82,28 @@ impl Device {
         ensures sends { SendsNew T.behind (event (codes "interface")) self.now
             (Long ctx.old.table.next_own ∷ Letters (name_of T.KNOWN) ∷ Word version ∷ []) ctx.old ctx.new result }
     {
+        let object = self.known_interface(ctx, T::KNOWN, version)?;
+        Ok(T::new_unchecked(object))
+    }
+
+    /// Announces an interface of the device, as `interface` does, where only a value says which: its object.
+    ///
+    /// `IdsExhausted` exactly where no own id is left, `NoMemory`: nothing is sent, and there is no object.
+    pub fn known_interface(
+        &self,
+        ctx: &mut Context,
+        interface: KnownInterface,
+        version: u32,
+    ) -> Result<Object, SendError>
+        ensures sends { SendsNew (λ o. o) (event (codes "interface")) self.now
+            (Long ctx.old.table.next_own ∷ Letters (name_of interface) ∷ Word version ∷ []) ctx.old ctx.new result }
+    {
         let args = [
             Arg::NewId(ctx.backend().next_id()),
-            Arg::String(Some(T::KNOWN.name())),
+            Arg::String(Some(interface.name())),
             Arg::Uint32(version),
         ];
-        self.announce(ctx, 5, &args, version)
+        self.announce_known(ctx, 5, &args, interface, version)
     }
 
     /// Ends the description of the device.

@@ -172,9 +172,33 @@ impl<K: Kind> Proxy<K> {
         ensures room { HasRoomFor self.now.id opcode (map value_of_arg args.now) (unsent_of ctx.old) ctx.old.room
             → ctx.old.table.next_own < ctx.old.table.room → IsErrOf result send_error.NoMemory → ⊥ }
     {
-        let interface = InterfaceName::Known(T::KNOWN);
-        let backend = ctx.backend_mut();
-        let object = backend.request_new(self.object.id(), opcode, args, interface, version)?;
+        let object = self.announce_known(ctx, opcode, args, T::KNOWN, version)?;
         Ok(T::new_unchecked(object))
+    }
+
+    /// Sends a message that announces an object of that interface, and makes the object.
+    pub(crate) fn announce_known(
+        &self,
+        ctx: &mut Context,
+        opcode: u32,
+        args: &[Arg<'_>],
+        interface: KnownInterface,
+        version: u32,
+    ) -> Result<Object, SendError>
+        ensures ok { OnOk result
+            (ctx.new ≡ sent_new ctx.old self.now.id opcode (map value_of_arg args.now) (Known interface) version) }
+        ensures object { IfOk result (λ o. o ≡ own ctx.old.table (Known interface) version) }
+        ensures exhausted { IsErrOf result send_error.IdsExhausted ↔ (own_end ctx.old.table ≤ ctx.old.table.next_own) }
+        ensures long { IsErrOf result send_error.MessageTooLong
+            → MOST_MESSAGE_BYTES < size (message self.now.id opcode (map value_of_arg args.now)) }
+        ensures err { OnErr result (ctx.new ≡ ctx.old) }
+        ensures room { HasRoomFor self.now.id opcode (map value_of_arg args.now) (unsent_of ctx.old) ctx.old.room
+            → ctx.old.table.next_own < ctx.old.table.room → IsErrOf result send_error.NoMemory → ⊥ }
+    {
+        let id = self.object.id();
+        let named = InterfaceName::Known(interface);
+        let backend = ctx.backend_mut();
+        let object = backend.request_new(id, opcode, args, named, version)?;
+        Ok(object)
     }
 }

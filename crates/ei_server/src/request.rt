@@ -19,7 +19,7 @@ use crate::scroll::{self, Scroll};
 use crate::seat::{self, Seat};
 use crate::text::{self, Text};
 use crate::touchscreen::{self, Touchscreen};
-use ei_backend::{Interface, InterfaceName, MessageEnum, Object, Table};
+use ei_backend::{Interface, MessageEnum, Object, Table};
 use ei_spec::KnownInterface;
 use ei_wire::{Arg, ByteStream, EiText, NoMemory, ParseError};
 use std::alloc::Global;
@@ -137,10 +137,10 @@ impl MessageEnum for Request {
         bytes: &mut ByteStream<'_>,
         table: &mut Table,
     ) -> Result<Request, ParseError> {
-        match object.interface_name() {
-            InterfaceName::Known(known) => parse_known(*known, &object, opcode, bytes, table),
-            InterfaceName::Other(name) => {
-                let name = EiText::new(alloc, name.as_str())?;
+        match object.known_interface() {
+            Some(known) => parse_known(known, &object, opcode, bytes, table),
+            None => {
+                let name = EiText::new(alloc, object.interface())?;
                 Err(ParseError::InvalidInterface(name))
             }
         }
@@ -148,10 +148,7 @@ impl MessageEnum for Request {
 
     #[inline(always)]
     fn parse_lawful(object: &Object, opcode: u32, bytes: &mut ByteStream<'_>) -> Option<Request> {
-        let known = match object.interface_name() {
-            InterfaceName::Known(known) => *known,
-            InterfaceName::Other(_) => return None,
-        };
+        let known = object.known_interface()?;
         inputs!(lawful_request(
             known,
             object,

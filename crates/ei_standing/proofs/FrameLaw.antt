@@ -19,7 +19,7 @@ use Rattle.ei_session.proofs.WaitingLaws.{group_by, touch_none}
 use Rattle.ei_session.proofs.GivenByItem.{gives_frame, frames_frame}
 use Rattle.ei_request.specs.declared.event.EisRequest.{EisRequest}
 use Rattle.ei_request.specs.declared.event.EisRequest.TheVariants as handed
-use Rattle.ei_request.specs.declared.input.Input.{Input}
+use Rattle.ei_input.specs.declared.input_event.InputEvent.{InputEvent as Input}
 use Rattle.ei_request.specs.Keys.{DeviceKey}
 use Rattle.ei_request.specs.Coded.{input_in_code}
 use Rattle.ei_request.specs.Timed.{timed}

@@ -21,7 +21,7 @@ use Rattle.ei_session.proofs.SerialLaws.{down_more}
 use Rattle.ei_session.proofs.WaitingLaws.{group_by}
 use Rattle.ei_session.proofs.GivenByItem.{gives_input, gives_none, frames_input, frames_none}
 use Rattle.ei_session.proofs.RefusedMeans.{refusal_asked}
-use Rattle.ei_request.specs.declared.input.Input.{Input}
+use Rattle.ei_input.specs.declared.input_event.InputEvent.{InputEvent as Input}
 use Rattle.ei_request.specs.Keys.{DeviceKey}
 use Rattle.ei_request.specs.Coded.{input_in_code}
 use Rattle.ei_request.specs.Held.{DeviceView, is_device, has_interface, changed_first, takes_input}

@@ -32,7 +32,7 @@ use Rattle.ei_session.specs.Replies.{seat_event, capability_events, done_event}
 use Rattle.ei_session.specs.Events.{reply}
 use Rattle.ei_request.specs.declared.event.EisRequest.{EisRequest}
 use Rattle.ei_request.specs.declared.event.EisRequest.TheVariants as asked
-use Rattle.ei_request.specs.declared.input.Input.{Input}
+use Rattle.ei_input.specs.declared.input_event.InputEvent.{InputEvent as Input}
 use Rattle.ei_request.specs.Keys.{DeviceKey}
 use Rattle.ei_request.specs.Coded.{input_in_code}
 use Rattle.ei_request.specs.Timed.{timed}

@@ -2,8 +2,10 @@
 
 pub use ei_client::{
     Button, Callback, Connection, Context, Device, Event, Handshake, Interface, Keyboard, Pingpong,
-    Pointer, PointerAbsolute, Proxy, Scroll, Seat, Text, Touchscreen, button, callback, connection,
-    device, handshake, keyboard, pingpong, pointer, pointer_absolute, scroll, seat, text,
-    touchscreen,
+    Pointer, PointerAbsolute, Proxy, Release, Scroll, Seat, Sent, Text, Touchscreen, button,
+    callback, connection, device, handshake, keyboard, pingpong, pointer, pointer_absolute, scroll,
+    seat, text, touchscreen,
 };
-pub use ei_types::{ButtonState, ContextType, DeviceType, DisconnectReason, KeyState, KeymapType};
+pub use ei_types::{
+    ButtonState, ContextType, DeviceType, DisconnectReason, KeyState, KeymapType, OtherReason,
+};

@@ -1,13 +1,15 @@
 //! Both ends of the emulated input protocol, under the names and in the modules of the Rust crate `reis`.
 //!
 //! There is no code here: each module passes on what stands in a crate of its own. Begin with `serve`, a whole session of a
-//! server; with `request`, a server's connection that a program drives itself; or with `ei`, the messages of a client.
+//! server; with `hub`, several clients in one loop; with `request`, a server's connection that a program drives itself; or
+//! with `ei`, the messages of a client.
 #![tactic(auto)]
 
 pub mod ei;
 pub mod eis;
 pub mod event;
 pub mod handshake;
+pub mod hub;
 pub mod outside;
 pub mod request;
 pub mod serve;

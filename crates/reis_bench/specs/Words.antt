@@ -9,3 +9,4 @@ IsWithin (rows.Parse piece groups) = (0 < piece) × (piece ≤ 65536)
 IsWithin (rows.Send messages) = Unit {0}
 IsWithin (rows.Client messages) = Unit {0}
 IsWithin (rows.Handshake messages) = Unit {0}
+IsWithin (rows.Session doing) = Unit {0}

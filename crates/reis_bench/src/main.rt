@@ -15,6 +15,8 @@ mod outside;
 mod parse;
 mod row;
 mod send;
+mod serving;
+mod session;
 mod stream;
 mod tally;
 mod words;

@@ -6,11 +6,13 @@ ghost use Rattle.ei_spec.specs.declared.limits.TheConstants.{MOST_PIECE_BYTES};
 use ei_backend::{Fault, GivenPieces, LastAnswer, PutError, Sink, Source, Taken};
 use ei_spec::Handle;
 
-/// Bytes in pieces of one size, the last of which may be shorter, without handles. It tells nothing, and never fails.
+/// Bytes in pieces of one size, the last of which may be shorter, without handles but for one that it is asked to send. It
+/// tells nothing, and never fails.
 #[derive(Drop)]
 pub(crate) struct Cut<'a> {
     left: &'a [u8],
     size: usize,
+    descriptor: bool,
     given: GivenPieces,
     last: LastAnswer,
     ghost some: { 0 < size },
@@ -26,9 +28,15 @@ impl<'a> Cut<'a> {
         Cut {
             left: bytes,
             size,
+            descriptor: false,
             given: GivenPieces::new(),
             last: LastAnswer::Nothing,
         }
+    }
+
+    /// The next piece bears a descriptor.
+    pub(crate) fn send_descriptor(&mut self) {
+        self.descriptor = true;
     }
 
     /// How many bytes weren't handed out.
@@ -52,18 +60,24 @@ impl Source for Cut<'_> {
 
     ghost later_trans = { λ _ _ _ _ _. tt };
 
-    fn take(&mut self, bytes: &mut [u8], _handles: &mut [Handle]) -> Result<Taken, Fault> {
+    fn take(&mut self, bytes: &mut [u8], handles: &mut [Handle]) -> Result<Taken, Fault> {
         let count = self.left.len().min(self.size);
         let (piece, rest) = self.left.split_at(count);
         bytes[..count].copy_from_slice(piece);
         self.left = rest;
         self.last = LastAnswer::at(count);
+        let mut borne = 0;
         if count > 0 {
-            self.given.note(piece, &[]);
+            if self.descriptor {
+                handles[0] = Handle(0);
+                borne = 1;
+                self.descriptor = false;
+            }
+            self.given.note(piece, &handles[..borne]);
         }
         Ok(Taken {
             bytes: count,
-            handles: 0,
+            handles: borne,
         })
     }
 }

@@ -4,7 +4,7 @@ ghost use Rattle.reis_bench.specs.Words.{IsWithin};
 
 use crate::tally::Tally;
 use crate::words::Row;
-use crate::{client, handshake, parse, send};
+use crate::{client, handshake, parse, send, session};
 use ei_types::Error;
 use std::alloc::Global;
 
@@ -15,7 +15,7 @@ pub(crate) enum Outcome {
     Read(Tally),
     /// So many messages were sent, in so many bytes.
     Sent(u32, u64),
-    /// A session took a handshake of so many messages to its end, and answered so many bytes.
+    /// A session took so many messages, and answered so many bytes.
     Served(u64, u64),
 }
 
@@ -28,5 +28,6 @@ pub(crate) fn run(alloc: Global, row: Row) -> Result<Outcome, Error>
         Row::Send(messages) => send::row(alloc, messages),
         Row::Client(messages) => client::row(alloc, messages),
         Row::Handshake(messages) => handshake::row(alloc, messages),
+        Row::Session(doing) => session::row(alloc, doing),
     }
 }

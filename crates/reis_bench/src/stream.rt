@@ -109,7 +109,11 @@ fn say_versions(alloc: Global, count: u32, said: &mut Tray) -> Result<(), Error>
 }
 
 /// Sends so many versions, and ends the handshake.
-fn push_versions(context: &mut client::Context, count: u32, said: &mut Tray) -> Result<(), Error> {
+pub(crate) fn push_versions(
+    context: &mut client::Context,
+    count: u32,
+    said: &mut Tray,
+) -> Result<(), Error> {
     let Some(handshake) = context.handshake() else {
         return Ok(());
     };

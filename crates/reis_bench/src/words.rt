@@ -3,9 +3,11 @@
 ghost use Rattle.std.specs.Prelude.{◌<◌, ◌≤◌, IfSome};
 ghost use Rattle.reis_bench.specs.Words.{IsWithin};
 
+use crate::session::Doing;
+
 /// What is written where the words are refused.
 pub(crate) const USAGE: &str =
-    "usage: reis_bench parse <piece> <groups> | send <messages> | client <messages> | handshake <messages>";
+    "usage: reis_bench parse <piece> <groups> | send <messages> | client <messages> | handshake <messages> | session <devices> <released> <descriptors> <groups>";
 
 /// The most bytes of a piece.
 const PIECE: u32 = 65536;
@@ -15,6 +17,9 @@ const GROUPS: u32 = 100_000;
 
 /// The most messages of a row.
 const MESSAGES: u32 = 1_000_000;
+
+/// The most devices of a session.
+const DEVICES: u32 = 100_000;
 
 /// What is measured.
 #[derive(Clone, Copy)]
@@ -27,6 +32,18 @@ pub(crate) enum Row {
     Client(u32),
     /// A session over a handshake of so many versions of interfaces.
     Handshake(u32),
+    /// A session over a client that asks for devices, releases the first of them, and sends input to the last.
+    Session(Doing),
+}
+
+/// The number of a decimal up to the limit.
+fn count(text: &str, limit: u32) -> Option<u32>
+    ensures within { IfSome result (λ n. n ≤ limit) }
+{
+    match text.parse::<u32>() {
+        Ok(n) if n <= limit => Some(n),
+        _ => None,
+    }
 }
 
 /// The number of a decimal from 1 to the limit.
@@ -34,10 +51,23 @@ fn number(text: &str, limit: u32) -> Option<u32>
     ensures some { IfSome result (λ n. 0 < n) }
     ensures within { IfSome result (λ n. n ≤ limit) }
 {
-    match text.parse::<u32>() {
-        Ok(n) if n > 0 && n <= limit => Some(n),
+    match count(text, limit) {
+        Some(n) if n > 0 => Some(n),
         _ => None,
     }
+}
+
+/// What the client of a session does, by the words for it.
+fn doing_from_words(words: &[String]) -> Option<Doing> {
+    let [devices, released, descriptors, groups] = words else {
+        return None;
+    };
+    Some(Doing {
+        devices: number(devices.as_str(), DEVICES)?,
+        released: count(released.as_str(), DEVICES)?,
+        descriptor: count(descriptors.as_str(), 1)? == 1,
+        groups: count(groups.as_str(), GROUPS)?,
+    })
 }
 
 impl Row {
@@ -58,6 +88,9 @@ impl Row {
             }
             [row, messages] if row.as_str() == "handshake" => {
                 Some(Row::Handshake(number(messages.as_str(), MESSAGES)?))
+            }
+            [row, doing @ ..] if row.as_str() == "session" => {
+                Some(Row::Session(doing_from_words(doing)?))
             }
             _ => None,
         }

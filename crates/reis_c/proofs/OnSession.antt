@@ -1,7 +1,7 @@
 -- A call on the session that is there, or on none.
 use Rattle.std.proofs.Common.{◌≡◌, ℕ, Option, Some, None, sym, subst}
 use Rattle.reis_c.specs.declared.held.Held.{Held}
-use Rattle.reis_c.specs.declared.numbers.TheConstants.{NO_SESSION}
+use Rattle.reis_c.specs.Numbers.{NO_SESSION}
 use Rattle.reis_c.specs.Calls.{OnSession}
 
 pub worked : (old new : Option Held) (a b : Held) (answer : ℕ) (Works : Held → Held → Type 0) → old ≡ Some a → new ≡ Some b → Works a b

@@ -19,11 +19,11 @@ use Rattle.reis_server.specs.Serving.{IsServing, IsInputEnd, IsNoInputEnd, feed_
 use Rattle.reis_server.specs.View.{ServerView}
 use Rattle.reis_c.specs.declared.flat.ReisRequest.{ReisRequest}
 use Rattle.reis_c.specs.declared.held.Held.{Held}
-use Rattle.reis_c.specs.declared.numbers.TheConstants.{OK, NOTHING}
+use Rattle.reis_c.specs.Numbers.{OK, NOTHING}
 use Rattle.reis_c.specs.Answers.{answer_number}
-use Rattle.reis_c.specs.Calls.{Feeds, TakesEnd, HandsReplies, HandsRequest, WritesFirst}
+use Rattle.reis_c.specs.Calls.{Feeds, TakesEnd, Sends, HandsRequest, WritesFirst}
 use Rattle.reis_c.specs.Flat.{flat}
-use Rattle.reis_c.specs.Handles.{handle_of, number_of}
+use Rattle.reis_c.specs.Handles.{handle_of}
 
 abbrev behind : ServerView → Option EisRequest → Held
 behind s last = record { server = s; last = last }
@@ -139,32 +139,33 @@ module _ (s t : ServerView) (last : Option EisRequest) where
 
 -- ---- replies
 
-waiting : (bytes handles : ℕ) (unsent : Piece) → bytes ≤ length unsent.bytes → handles ≤ length unsent.handles → sent_answer bytes handles unsent ≡ Ok tt
-waiting bytes handles unsent b h = grind (arith, common_steps)
-
 module _ (s t : ServerView) (last : Option EisRequest) (count handle_count : ℕ) where
-  abbrev Sends : Result Unit CallError → Type 0
-  Sends r = OnOk r (t ≡ record s { unsent = unsent_after count handle_count s.unsent })
-      × ((setup : Setup) (fed : List Fed) (sent : Piece) (given : List EisRequest) → IsServing setup fed sent given s →
-      OnOk r (IsServing setup fed (with_more (take count s.unsent.bytes) (take handle_count s.unsent.handles) sent) given t))
+  abbrev Dropped : Result Unit CallError → Type 0
+  Dropped r = OnOk r (t ≡ record s { unsent = unsent_after count handle_count s.unsent })
 
-  pub replied : (r : Result Unit CallError) (room handle_room bytes handles : List ℕ) → count ≡ min (length s.unsent.bytes) (length room)
-      → handle_count ≡ min (length s.unsent.handles) (length handle_room)
-      → bytes ≡ take count s.unsent.bytes ++ drop count room → handles ≡ map number_of (take handle_count s.unsent.handles) ++ drop handle_count handle_room
-      → r ≡ sent_answer count handle_count s.unsent → OnOk r (t ≡ record s { unsent = unsent_after count handle_count s.unsent })
-      → ((setup : Setup) (fed : List Fed) (sent : Piece) (given : List EisRequest) → IsServing setup fed sent given s →
-      OnOk r (IsServing setup fed (with_more (take count s.unsent.bytes) (take handle_count s.unsent.handles) sent) given t))
-      → HandsReplies room handle_room count handle_count bytes handles (behind s last) (behind t last)
-  replied r room handle_room bytes handles n m b h e dropped serves =
-      let all : r ≡ Ok tt = e ∙ waiting count handle_count s.unsent (omega (arith, n)) (omega (arith, m)) in
-      let both : Sends (Ok tt) = subst Sends all (dropped, serves) in record {
-        counted = n;
-        handles_counted = m;
-        bytes_written = b;
-        handles_written = h;
-        wait = ap (λ v. behind v last) both.0;
-        serves = both.1;
-      }
+  abbrev Took : Result Unit CallError → Type 0
+  Took r = (setup : Setup) (fed : List Fed) (sent : Piece) (given : List EisRequest) → IsServing setup fed sent given s →
+      OnOk r (IsServing setup fed (with_more (take count s.unsent.bytes) (take handle_count s.unsent.handles) sent) given t)
+
+  sends_so : (r : Result Unit CallError) → r ≡ sent_answer count handle_count s.unsent → OnErr r (t ≡ s) → Dropped r → Took r
+      → Sends count handle_count (answer_number r) (behind s last) (behind t last)
+  sends_so (Ok u) e kept dropped serves = record {
+    answers = ap answer_number e;
+    kept = λ h. absurd (h refl);
+    dropped = λ _. ap (λ v. behind v last) dropped;
+    serves = λ _. serves;
+  }
+  sends_so (Err e₁) e kept dropped serves = record {
+    answers = ap answer_number e;
+    kept = λ _. ap (λ v. behind v last) kept;
+    dropped = λ h. absurd (refused e₁ h);
+    serves = λ h. absurd (refused e₁ h);
+  }
+
+  pub sends : (r : Result Unit CallError) (answer : ℕ) → answer ≡ answer_number r → r ≡ sent_answer count handle_count s.unsent → OnErr r (t ≡ s)
+      → Dropped r → Took r → Sends count handle_count answer (behind s last) (behind t last)
+  sends r answer a e kept dropped serves =
+      subst (λ (n : ℕ). Sends count handle_count n (behind s last) (behind t last)) (sym a) (sends_so r e kept dropped serves)
 
 -- ---- requests
 

@@ -2,7 +2,7 @@
 use Rattle.std.specs.Prelude.{◌≡◌, ◌≢◌, ℕ, nat_lt, List, ◌++◌, length, drop, Option, Some, None, IsSome, Result, Ok, Err, if◌then◌else◌}
 use Rattle.reis_server.specs.declared.server.CallError.{CallError}
 use Rattle.reis_server.specs.declared.server.CallError.TheVariants as call_error
-use Rattle.reis_c.specs.declared.numbers.TheConstants.{OK, NO_MEMORY, OVER, EMPTY, TOO_LONG, TOO_MANY_HANDLES, NOTHING, NO_ROOM, NOT_UNSENT}
+use Rattle.reis_c.specs.Numbers.{OK, NO_MEMORY, OVER, EMPTY, TOO_LONG, TOO_MANY_HANDLES, NOTHING, NO_ROOM, NOT_UNSENT}
 
 -- the number of what a call of the server answers
 abbrev pub answer_number : Result Unit CallError → ℕ

@@ -1,19 +1,21 @@
 -- What each call does to the session behind the word.
-use Rattle.std.specs.Prelude.{◌≡◌, ◌≢◌, ℕ, ◌++◌, List, [], ◌∷◌, length, take, drop, map, min, Option, Some, None, is_some}
+use Rattle.std.specs.Prelude.{◌≡◌, ◌≢◌, ℕ, ◌++◌, List, [], ◌∷◌, length, take, map, Option, Some, None, is_some, unwrap_or}
 use Rattle.std.specs.Option.{option_and_then}
 use Rattle.ei_spec.specs.Piece.{Piece}
 use Rattle.ei_session.specs.Setup.{Setup}
 use Rattle.ei_backend.specs.Outside.{with_more}
 use Rattle.ei_request.specs.declared.event.EisRequest.{EisRequest}
 use Rattle.reis_server.specs.Fed.{Fed, fed_of}
-use Rattle.reis_server.specs.Serving.{IsServing, nothing, IsInputEnd, IsNoInputEnd, feed_answer, end_answer, unsent_after}
-use Rattle.reis_c.specs.Answers.{answer_number}
+use Rattle.reis_server.specs.Serving.{IsServing, nothing, IsInputEnd, IsNoInputEnd, feed_answer, end_answer, sent_answer, unsent_after}
+use Rattle.ei_request.specs.Connection.{ConnectionView}
+use Rattle.ei_types.specs.Enums.{context_type_number}
+use Rattle.reis_c.specs.Answers.{answer_number, WritesText, WritesNone}
 use Rattle.reis_c.specs.Ending.{end_text}
 use Rattle.reis_c.specs.Flat.{flat, text_in}
-use Rattle.reis_c.specs.Handles.{handle_of, number_of}
+use Rattle.reis_c.specs.Handles.{handle_of}
 use Rattle.reis_c.specs.declared.flat.ReisRequest.{ReisRequest}
 use Rattle.reis_c.specs.declared.held.Held.{Held}
-use Rattle.reis_c.specs.declared.numbers.TheConstants.{OK, NO_SESSION, NOTHING}
+use Rattle.reis_c.specs.Numbers.{OK, NO_SESSION, NOTHING}
 
 -- A call works on the session that is there, and leaves one; where there is none it answers so, and leaves none.
 abbrev pub OnSession : Option Held → ℕ → Option Held → (Held → Held → Type 0) → Type 0
@@ -57,16 +59,13 @@ pub record TakesEnd (answer : ℕ) (old new : Held) : Type 0 where
   pub ends : answer ≡ OK → IsInputEnd new.server.answer
   pub last : new.last ≡ old.last
 
--- It writes into the room the first bytes and handles that wait, as many as there is room for. They wait no more, and all else
--- stays: they were taken.
-pub record HandsReplies (room handle_room : List ℕ) (count handle_count : ℕ) (bytes handles : List ℕ) (old new : Held) : Type 0 where
-  pub counted : count ≡ min (length old.server.unsent.bytes) (length room)
-  pub handles_counted : handle_count ≡ min (length old.server.unsent.handles) (length handle_room)
-  pub bytes_written : bytes ≡ take count old.server.unsent.bytes ++ drop count room
-  pub handles_written : handles ≡ map number_of (take handle_count old.server.unsent.handles) ++ drop handle_count handle_room
-  pub wait : new ≡ record old { server = record old.server { unsent = unsent_after count handle_count old.server.unsent } }
-  pub serves : (setup : Setup) (fed : List Fed) (sent : Piece) (given : List EisRequest) → IsServing setup fed sent given old.server →
-      IsServing setup fed (with_more (take count old.server.unsent.bytes) (take handle_count old.server.unsent.handles) sent) given new.server
+-- So many of the bytes and handles that wait were sent, and all else stays; or so many don't wait, and all is as it was.
+pub record Sends (bytes handles answer : ℕ) (old new : Held) : Type 0 where
+  pub answers : answer ≡ answer_number (sent_answer bytes handles old.server.unsent)
+  pub kept : answer ≢ OK → new ≡ old
+  pub dropped : answer ≡ OK → new ≡ record old { server = record old.server { unsent = unsent_after bytes handles old.server.unsent } }
+  pub serves : answer ≡ OK → (setup : Setup) (fed : List Fed) (sent : Piece) (given : List EisRequest) → IsServing setup fed sent given old.server →
+      IsServing setup fed (with_more (take bytes old.server.unsent.bytes) (take handles old.server.unsent.handles) sent) given new.server
 
 -- the first of these requests is written, waits no more and is the last one; or there is none, and all is as it was
 abbrev pub WritesFirst : List EisRequest → ReisRequest → ℕ → ReisRequest → Held → Held → Type 0
@@ -79,3 +78,9 @@ pub record HandsRequest (room : ReisRequest) (answer : ℕ) (request : ReisReque
   pub next : WritesFirst old.server.requests room answer request old new
   pub serves : (setup : Setup) (fed : List Fed) (sent : Piece) (given : List EisRequest) → IsServing setup fed sent given old.server →
       IsServing setup fed sent (given ++ take 1 old.server.requests) new.server
+
+-- The context type is told by its number, and the name is written, with none of its bytes where the client told none; or no
+-- connection stands.
+abbrev pub TellsClient : Option ConnectionView → List ℕ → ℕ → ℕ → ℕ → List ℕ → Type 0
+TellsClient None old answer context size new = (context ≡ 0) × WritesNone old answer size new
+TellsClient (Some c) old answer context size new = (context ≡ context_type_number c.context_type) × WritesText (unwrap_or c.name []) old answer size new

@@ -13,64 +13,63 @@ use Rattle.ei_types.specs.declared.error.HandshakeError.TheVariants as handshake
 use Rattle.ei_types.specs.Texts.{error_text}
 use Rattle.ei_serve.specs.declared.session.Ended.{Ended}
 use Rattle.ei_serve.specs.declared.session.Ended.TheVariants as ended
-use Rattle.reis_c.specs.declared.numbers.TheConstants as number
 
 -- the number of each error
 abbrev pub parse_number : ParseError → ℕ
-parse_number parse.EndOfMessage = number.PARSE_END_OF_MESSAGE
-parse_number (parse.Utf8 place) = number.PARSE_UTF8
-parse_number (parse.InvalidId id) = number.PARSE_INVALID_ID
-parse_number parse.NoFd = number.PARSE_NO_FD
-parse_number (parse.InvalidOpcode interface opcode) = number.PARSE_INVALID_OPCODE
-parse_number (parse.InvalidVariant name value) = number.PARSE_INVALID_VARIANT
-parse_number (parse.InvalidInterface name) = number.PARSE_INVALID_INTERFACE
-parse_number (parse.HeaderLength size) = number.PARSE_HEADER_LENGTH
-parse_number (parse.MessageLength size told) = number.PARSE_MESSAGE_LENGTH
-parse_number parse.InvalidNull = number.PARSE_INVALID_NULL
-parse_number parse.NoMemory = number.PARSE_NO_MEMORY
+parse_number parse.EndOfMessage = 40
+parse_number (parse.Utf8 place) = 41
+parse_number (parse.InvalidId id) = 42
+parse_number parse.NoFd = 43
+parse_number (parse.InvalidOpcode interface opcode) = 44
+parse_number (parse.InvalidVariant name value) = 45
+parse_number (parse.InvalidInterface name) = 46
+parse_number (parse.HeaderLength size) = 47
+parse_number (parse.MessageLength size told) = 48
+parse_number parse.InvalidNull = 49
+parse_number parse.NoMemory = 50
 
 abbrev pub event_number : EventError → ℕ
-event_number event.DeviceEventBeforeDone = number.EVENT_DEVICE_EVENT_BEFORE_DONE
-event_number event.DeviceSetupEventAfterDone = number.EVENT_DEVICE_SETUP_EVENT_AFTER_DONE
-event_number event.SeatSetupEventAfterDone = number.EVENT_SEAT_SETUP_EVENT_AFTER_DONE
-event_number event.SeatEventBeforeDone = number.EVENT_SEAT_EVENT_BEFORE_DONE
-event_number event.NoDeviceType = number.EVENT_NO_DEVICE_TYPE
-event_number event.UnexpectedHandshakeEvent = number.EVENT_UNEXPECTED_HANDSHAKE_EVENT
-event_number event.UnknownCapabilityInterface = number.EVENT_UNKNOWN_CAPABILITY_INTERFACE
+event_number event.DeviceEventBeforeDone = 60
+event_number event.DeviceSetupEventAfterDone = 61
+event_number event.SeatSetupEventAfterDone = 62
+event_number event.SeatEventBeforeDone = 63
+event_number event.NoDeviceType = 64
+event_number event.UnexpectedHandshakeEvent = 65
+event_number event.UnknownCapabilityInterface = 66
 
 abbrev pub request_number : RequestError → ℕ
-request_number request.InvalidCapabilities = number.REQUEST_INVALID_CAPABILITIES
-request_number request.DuplicatedTouchDown = number.REQUEST_DUPLICATED_TOUCH_DOWN
-request_number request.TooManyTouches = number.REQUEST_TOO_MANY_TOUCHES
-request_number request.InvalidTextLength = number.REQUEST_INVALID_TEXT_LENGTH
+request_number request.InvalidCapabilities = 30
+request_number request.DuplicatedTouchDown = 31
+request_number request.TooManyTouches = 32
+request_number request.InvalidTextLength = 33
 
 abbrev pub handshake_number : HandshakeError → ℕ
-handshake_number (handshake.InvalidObject id) = number.HANDSHAKE_INVALID_OBJECT
-handshake_number handshake.NonHandshakeEvent = number.HANDSHAKE_NON_HANDSHAKE_EVENT
-handshake_number handshake.MissingInterface = number.HANDSHAKE_MISSING_INTERFACE
-handshake_number handshake.DuplicateEvent = number.HANDSHAKE_DUPLICATE_EVENT
+handshake_number (handshake.InvalidObject id) = 20
+handshake_number handshake.NonHandshakeEvent = 21
+handshake_number handshake.MissingInterface = 22
+handshake_number handshake.DuplicateEvent = 23
 
 abbrev pub error_number : Error → ℕ
-error_number error.UnexpectedHandshakeEvent = number.ERROR_UNEXPECTED_HANDSHAKE_EVENT
-error_number (error.InvalidInterfaceVersion name version) = number.ERROR_INVALID_INTERFACE_VERSION
+error_number error.UnexpectedHandshakeEvent = 16
+error_number (error.InvalidInterfaceVersion name version) = 15
 error_number (error.Event e) = event_number e
 error_number (error.Request e) = request_number e
 error_number (error.Parse e) = parse_number e
 error_number (error.Handshake e) = handshake_number e
-error_number error.UnexpectedEof = number.ERROR_UNEXPECTED_EOF
-error_number error.ReadFault = number.ERROR_READ_FAULT
-error_number error.WriteFault = number.ERROR_WRITE_FAULT
-error_number error.HandleLimit = number.ERROR_HANDLE_LIMIT
-error_number error.IdsExhausted = number.ERROR_IDS_EXHAUSTED
-error_number error.MessageTooLong = number.ERROR_MESSAGE_TOO_LONG
-error_number error.PieceLimit = number.ERROR_PIECE_LIMIT
-error_number error.NoMemory = number.ERROR_NO_MEMORY
+error_number error.UnexpectedEof = 10
+error_number error.ReadFault = 17
+error_number error.WriteFault = 18
+error_number error.HandleLimit = 12
+error_number error.IdsExhausted = 14
+error_number error.MessageTooLong = 19
+error_number error.PieceLimit = 11
+error_number error.NoMemory = 13
 
 -- the number of how a session ended, or of going on
 abbrev pub end_number : Option (Result Ended Error) → ℕ
-end_number None = number.GOES_ON
-end_number (Some (Ok ended.Disconnect)) = number.DISCONNECTED
-end_number (Some (Ok ended.End)) = number.END_OF_INPUT
+end_number None = 0
+end_number (Some (Ok ended.Disconnect)) = 1
+end_number (Some (Ok ended.End)) = 2
 end_number (Some (Err e)) = error_number e
 
 -- the text of the error that ended a session, if one did

@@ -5,7 +5,3 @@ use Rattle.ei_spec.specs.declared.handle.Handle.{Handle}
 -- the handle of a number
 abbrev pub handle_of : ℕ → Handle
 handle_of n = record { 0 = n }
-
--- the number of a handle
-abbrev pub number_of : Handle → ℕ
-number_of handle = handle.0

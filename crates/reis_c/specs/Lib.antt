@@ -1,9 +1,11 @@
+pub mod Numbers
 pub mod Answers
 pub mod Calls
 pub mod Ending
 pub mod Flat
 pub mod Handles
 pub mod Slot
+pub mod Starting
 -- what the clauses cite of the crates below
 pub use Rattle.ei_types.specs.Capability
 pub use Rattle.ei_types.specs.Enums

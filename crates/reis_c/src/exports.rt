@@ -1,11 +1,14 @@
 //! What C calls. No call requires anything: what is wrong is answered.
 
-ghost use Rattle.std.specs.Prelude.{◌≡◌, ◌≢◌, ◌<◌, ◌≤◌, ◌⊎◌, ◌↔◌, IsSome, is_some, if◌then◌else◌, None, Some};
+ghost use Rattle.std.specs.Prelude.{◌≡◌, ◌≢◌, ◌<◌, ◌≤◌, ◌⊎◌, ◌↔◌, length, IsSome, is_some, if◌then◌else◌, None, Some};
 ghost use Rattle.ei_types.specs.Capability.{all_bits};
 ghost use Rattle.reis_c.specs.Answers.{Writes, WritesMade};
-ghost use Rattle.reis_c.specs.Calls.{OnSession, ReadsSession, IsStarted, Feeds, TakesEnd, HandsReplies, HandsRequest};
+ghost use Rattle.reis_c.specs.Calls.{OnSession, ReadsSession, IsStarted, Feeds, TakesEnd, Sends, HandsRequest, TellsClient};
 ghost use Rattle.reis_c.specs.Calls.{last_text, ending_text};
+ghost use Rattle.reis_c.specs.Starting.{setup_for};
+ghost use Rattle.reis_server.specs.Serving.{connection_of_server};
 ghost use Rattle.reis_c.specs.Ending.{end_number};
+ghost use Rattle.reis_c.specs.Numbers as number;
 ghost use Rattle.reis_c.specs.declared.held.Held.{Held};
 
 use crate::ending::end_number;
@@ -13,8 +16,8 @@ use crate::flat::ReisRequest;
 use crate::held::Held;
 use crate::numbers::{CAPABILITIES, HAS_SESSION, NO_MEMORY, NO_SESSION, NOTHING, OK};
 use crate::slot::ReisSession;
-use crate::writing::write_text;
-use ei_serve::Setup;
+use crate::writing::lend;
+use ei_spec::Handle;
 use ei_types::{DeviceCapabilities, Error};
 use std::alloc::Global;
 
@@ -30,7 +33,7 @@ macro_rules! on_session {
     }};
 }
 
-/// Starts a session where there is none.
+/// Starts a session where there is none. `NO_LIMIT` pieces are no limit.
 ///
 /// `HAS_SESSION` where there is one; `CAPABILITIES` where a bit stands for none; `NO_MEMORY`.
 #[unsafe(no_mangle)]
@@ -41,13 +44,13 @@ pub extern "C" fn reis_c_start(
     capabilities: u64,
     pieces: u32,
 ) -> u32
-    ensures started { result ≡ OK → (held : Held) × (session.new.held ≡ Some held)
-        × IsStarted (record { serial = serial; capabilities = capabilities; pieces = pieces }) held }
-    ensures kept { result ≢ OK → session.new.held ≡ session.old.held }
+    ensures started { result ≡ number.OK → (held : Held) × (session.new.held ≡ Some held)
+        × IsStarted (setup_for serial capabilities pieces) held }
+    ensures kept { result ≢ number.OK → session.new.held ≡ session.old.held }
     // which answer it is
-    ensures there { (result ≡ HAS_SESSION) ↔ IsSome session.old.held }
-    ensures lawless { (result ≡ CAPABILITIES) ↔ ((session.old.held ≡ None) × (all_bits < capabilities)) }
-    ensures which { (result ≡ OK) ⊎ (result ≡ NO_MEMORY) ⊎ (result ≡ HAS_SESSION) ⊎ (result ≡ CAPABILITIES) }
+    ensures there { (result ≡ number.HAS_SESSION) ↔ IsSome session.old.held }
+    ensures lawless { (result ≡ number.CAPABILITIES) ↔ ((session.old.held ≡ None) × (all_bits < capabilities)) }
+    ensures which { (result ≡ number.OK) ⊎ (result ≡ number.NO_MEMORY) ⊎ (result ≡ number.HAS_SESSION) ⊎ (result ≡ number.CAPABILITIES) }
 {
     if let Some(held) = session.take(alloc) {
         session.put(held);
@@ -56,12 +59,7 @@ pub extern "C" fn reis_c_start(
     let Some(capabilities) = DeviceCapabilities::from_bits(capabilities) else {
         return CAPABILITIES;
     };
-    let setup = Setup {
-        initial_serial: serial,
-        capabilities,
-        pieces,
-    };
-    match Held::start(alloc, setup) {
+    match Held::start(alloc, serial, capabilities, pieces) {
         Some(held) => {
             session.put(held);
             OK
@@ -96,30 +94,46 @@ pub extern "C" fn reis_c_end_of_input(alloc: Global, session: &mut ReisSession) 
     on_session!(session, alloc, |held| held.end_of_input())
 }
 
-/// Hands out the replies that wait, as many as there is room for, and tells how many bytes and handles these are.
+/// Lends the replies that wait: where their bytes and handles begin, and how many these are. They lie in the session, and stay
+/// there until its next call. Where there is none of them, no place is written.
 ///
 /// `NO_SESSION`.
 #[unsafe(no_mangle)]
-pub extern "C" fn reis_c_replies(
+pub extern "C" fn reis_c_unsent(
     alloc: Global,
     session: &mut ReisSession,
-    bytes: &mut [u8],
-    handles: &mut [u32],
+    bytes: &mut *const u8,
     count: &mut usize,
+    handles: &mut *const Handle,
     handle_count: &mut usize,
 ) -> u32
-    ensures handed { OnSession session.old.held result session.new.held (λ old new. (result ≡ OK)
-        × HandsReplies bytes.old handles.old count.new handle_count.new bytes.new handles.new old new) }
-    ensures none { result ≢ OK → (count.new ≡ 0) × (handle_count.new ≡ 0) × (bytes.new ≡ bytes.old) × (handles.new ≡ handles.old) }
+    ensures counted { ReadsSession session.old.held result session.new.held (λ held. (result ≡ number.OK)
+        × (count.new ≡ length held.server.unsent.bytes) × (handle_count.new ≡ length held.server.unsent.handles)) }
+    ensures none { result ≢ number.OK → (count.new ≡ 0) × (handle_count.new ≡ 0) }
+    ensures no_place { result ≢ number.OK → (bytes.new ≡ bytes.old) × (handles.new ≡ handles.old) }
 {
     *count = 0;
     *handle_count = 0;
     on_session!(session, alloc, |held| {
-        let (bytes_taken, handles_taken) = held.replies(bytes, handles);
-        *count = bytes_taken;
-        *handle_count = handles_taken;
+        *count = lend(held.server.unsent(), bytes);
+        *handle_count = lend(held.server.unsent_handles(), handles);
         OK
     })
+}
+
+/// Says that so many of the bytes and handles that wait were written: the first ones, which wait no more.
+///
+/// `NO_SESSION`; `NOT_UNSENT` where so many don't wait.
+#[unsafe(no_mangle)]
+pub extern "C" fn reis_c_sent(
+    alloc: Global,
+    session: &mut ReisSession,
+    bytes: usize,
+    handles: usize,
+) -> u32
+    ensures { OnSession session.old.held result session.new.held (Sends bytes handles result) }
+{
+    on_session!(session, alloc, |held| held.sent(bytes, handles))
 }
 
 /// Hands out the next request.
@@ -132,7 +146,7 @@ pub extern "C" fn reis_c_next_request(
     request: &mut ReisRequest,
 ) -> u32
     ensures handed { OnSession session.old.held result session.new.held (HandsRequest request.old result request.new) }
-    ensures none { result ≢ OK → request.new ≡ request.old }
+    ensures none { result ≢ number.OK → request.new ≡ request.old }
 {
     on_session!(session, alloc, |held| held.next_request(request))
 }
@@ -148,10 +162,34 @@ pub extern "C" fn reis_c_request_text(
     length: &mut usize,
 ) -> u32
     ensures written { ReadsSession session.old.held result session.new.held (λ held. Writes (last_text held) text.old result length.new text.new) }
-    ensures none { result ≡ NO_SESSION → (length.new ≡ 0) × (text.new ≡ text.old) }
+    ensures none { result ≡ number.NO_SESSION → (length.new ≡ 0) × (text.new ≡ text.old) }
 {
     *length = 0;
     on_session!(session, alloc, |held| held.request_text(text, length))
+}
+
+/// Tells who the client is: its context type, and its name, which has no byte where the client told none.
+///
+/// `NO_SESSION`; `NOTHING` where no connection stands; `NO_ROOM` where the name is longer than the room.
+#[unsafe(no_mangle)]
+pub extern "C" fn reis_c_client(
+    alloc: Global,
+    session: &mut ReisSession,
+    context_type: &mut u32,
+    name: &mut [u8],
+    length: &mut usize,
+) -> u32
+    ensures told { ReadsSession session.old.held result session.new.held (λ held.
+        TellsClient (connection_of_server held.server) name.old result context_type.new length.new name.new) }
+    ensures none { result ≡ number.NO_SESSION → (context_type.new ≡ 0) × (length.new ≡ 0) × (name.new ≡ name.old) }
+{
+    *context_type = 0;
+    *length = 0;
+    on_session!(
+        session,
+        alloc,
+        |held| held.client(context_type, name, length)
+    )
 }
 
 /// Tells how the session ended.
@@ -159,9 +197,9 @@ pub extern "C" fn reis_c_request_text(
 /// `NO_SESSION`.
 #[unsafe(no_mangle)]
 pub extern "C" fn reis_c_end(alloc: Global, session: &mut ReisSession, end: &mut u32) -> u32
-    ensures told { ReadsSession session.old.held result session.new.held (λ held. (result ≡ OK)
+    ensures told { ReadsSession session.old.held result session.new.held (λ held. (result ≡ number.OK)
         × (end.new ≡ end_number held.server.answer)) }
-    ensures none { result ≢ OK → end.new ≡ end_number None }
+    ensures none { result ≢ number.OK → end.new ≡ end_number None }
 {
     *end = end_number(None);
     on_session!(session, alloc, |held| {
@@ -181,7 +219,7 @@ pub extern "C" fn reis_c_end_text(
     length: &mut usize,
 ) -> u32
     ensures written { ReadsSession session.old.held result session.new.held (λ held. WritesMade (ending_text held) text.old result length.new text.new) }
-    ensures none { (result ≡ NO_SESSION) ⊎ (result ≡ NO_MEMORY) → (length.new ≡ 0) × (text.new ≡ text.old) }
+    ensures none { (result ≡ number.NO_SESSION) ⊎ (result ≡ number.NO_MEMORY) → (length.new ≡ 0) × (text.new ≡ text.old) }
 {
     *length = 0;
     on_session!(session, alloc, |held| held.end_text(alloc, text, length))
@@ -192,7 +230,7 @@ pub extern "C" fn reis_c_end_text(
 /// `NO_SESSION`.
 #[unsafe(no_mangle)]
 pub extern "C" fn reis_c_free(alloc: Global, session: &mut ReisSession) -> u32
-    ensures answer { result ≡ (if is_some session.old.held then OK else NO_SESSION) }
+    ensures answer { result ≡ (if is_some session.old.held then number.OK else number.NO_SESSION) }
     ensures none { session.new.held ≡ None }
 {
     match session.take(alloc) {

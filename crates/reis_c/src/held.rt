@@ -1,20 +1,22 @@
 //! What stands behind the word.
 
-ghost use Rattle.std.specs.Prelude.{◌≡◌, ◌≢◌, ◌≤◌, IfSome, IsSome};
+ghost use Rattle.std.specs.Prelude.{◌≡◌, ◌≢◌, ◌≤◌, [], IfOk, IfSome, IsSome, None};
 ghost use Rattle.std.specs.Option.{option_and_then};
 ghost use Rattle.ei_types.specs.Capability.{bits_of, all_bits};
-ghost use Rattle.ei_serve.specs.Standing.{setup_of};
+ghost use Rattle.reis_server.specs.Serving.{IsServing, nothing, connection_of_server};
 ghost use Rattle.reis_c.specs.Answers.{Writes};
 ghost use Rattle.reis_c.specs.Ending.{end_text};
 ghost use Rattle.reis_c.specs.Flat.{text_in};
+ghost use Rattle.reis_c.specs.Starting.{setup_for};
 
 use crate::flat::{ReisRequest, flat, text_in};
-use crate::numbers::{NO_MEMORY, NOTHING, OK, answer_number};
-use crate::writing::{copy_bytes, copy_handles, copy_numbers, write_text};
+use crate::numbers::{NO_LIMIT, NO_MEMORY, NOTHING, OK, answer_number};
+use crate::writing::{copy_handles, write_name, write_text};
 use ei_request::EisRequest;
 use ei_serve::Setup;
 use ei_spec::Handle;
 use ei_spec::limits::MOST_PIECE_HANDLES;
+use ei_types::{DeviceCapabilities, Error};
 use reis_server::Server;
 use std::alloc::Global;
 use std::mem;
@@ -33,18 +35,44 @@ fn keep(last: &mut Option<EisRequest>, next: EisRequest)
     drop(mem::replace(last, Some(next)));
 }
 
+/// Starts a server, with this limit or with none.
+fn start_server(
+    alloc: Global,
+    initial_serial: u32,
+    capabilities: DeviceCapabilities,
+    pieces: u32,
+) -> Result<Server, Error>
+    requires lawful { bits_of capabilities ≤ all_bits }
+    ensures { IfOk result (λ server. IsServing (setup_for initial_serial (bits_of capabilities) pieces) [] nothing [] server × (server.answer ≡ None)) }
+{
+    if pieces == NO_LIMIT {
+        return Server::start_unlimited(alloc, initial_serial, capabilities);
+    }
+    let setup = Setup {
+        initial_serial,
+        capabilities,
+        pieces,
+    };
+    Server::start(alloc, setup)
+}
+
 /// Room for one handle more than a piece may have.
 const HANDLE_ROOM: usize = MOST_PIECE_HANDLES + 1;
 
 impl Held {
-    ghost use Rattle.reis_c.specs.Calls.{IsStarted, Feeds, TakesEnd, HandsReplies, HandsRequest};
+    ghost use Rattle.reis_c.specs.Calls.{IsStarted, Feeds, TakesEnd, Sends, HandsRequest, TellsClient};
 
     /// A session that was just started; `None` where memory ran out.
-    pub(crate) fn start(alloc: Global, setup: Setup) -> Option<Box<Held>>
-        requires lawful { bits_of setup.capabilities ≤ all_bits }
-        ensures { IfSome result (λ held. IsStarted (setup_of setup) held.value) }
+    pub(crate) fn start(
+        alloc: Global,
+        initial_serial: u32,
+        capabilities: DeviceCapabilities,
+        pieces: u32,
+    ) -> Option<Box<Held>>
+        requires lawful { bits_of capabilities ≤ all_bits }
+        ensures { IfSome result (λ held. IsStarted (setup_for initial_serial (bits_of capabilities) pieces) held.value) }
     {
-        let server = Server::start(alloc, setup).ok()?;
+        let server = start_server(alloc, initial_serial, capabilities, pieces).ok()?;
         Box::new(alloc, Held { server, last: None }).ok()
     }
 
@@ -64,14 +92,28 @@ impl Held {
         answer_number(self.server.end_of_input())
     }
 
-    /// Hands out replies, as many as there is room for, and tells how many bytes and handles these are.
-    pub(crate) fn replies(&mut self, bytes: &mut [u8], handles: &mut [u32]) -> (usize, usize)
-        ensures { HandsReplies bytes.old handles.old result.0 result.1 bytes.new handles.new self.old self.new }
+    /// Counts so many of the replies that wait as sent.
+    pub(crate) fn sent(&mut self, bytes: usize, handles: usize) -> u32
+        ensures { Sends bytes handles result self.old self.new }
     {
-        let count = copy_bytes(self.server.unsent(), bytes);
-        let handle_count = copy_numbers(self.server.unsent_handles(), handles);
-        let _sent = self.server.sent(count, handle_count);
-        (count, handle_count)
+        answer_number(self.server.sent(bytes, handles))
+    }
+
+    /// Tells who the client is.
+    pub(crate) fn client(&self, context_type: &mut u32, room: &mut [u8], length: &mut usize) -> u32
+        ensures { TellsClient (connection_of_server self.now.server) room.old result context_type.new length.new room.new }
+    {
+        match self.server.connection() {
+            Some(connection) => {
+                *context_type = u32::from(connection.context_type());
+                write_name(connection.name(), room, length)
+            }
+            None => {
+                *context_type = 0;
+                *length = 0;
+                NOTHING
+            }
+        }
     }
 
     /// Hands out the next request.

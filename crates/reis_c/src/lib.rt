@@ -1,4 +1,4 @@
-//! A server's session, for a caller in C. `include/reis_c.h` says what each call is to such a caller.
+//! A server's session, for a caller in C. `include/reis.h` says what each call is to such a caller.
 //!
 //! Nothing is decided here: `reis_server` is the session. A caller owns one word, which is zero or the address of a session;
 //! each export takes the session out, works on it, and puts it back. Begin with `exports`; `numbers` has each number that

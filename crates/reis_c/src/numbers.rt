@@ -1,4 +1,4 @@
-//! The numbers that cross to C. `include/reis_c.h` repeats them.
+//! The numbers that cross to C. `include/reis.h` repeats them.
 
 ghost use Rattle.std.specs.Prelude.{◌≡◌};
 ghost use Rattle.reis_c.specs.Answers.{answer_number};
@@ -30,6 +30,11 @@ pub const NOTHING: u32 = 9;
 pub const NO_ROOM: u32 = 10;
 
 pub const NOT_UNSENT: u32 = 11;
+
+// ---- what a session is started with
+
+/// So many pieces are no limit.
+pub const NO_LIMIT: u32 = 4294967295;
 
 // ---- the kinds of requests
 

@@ -40,12 +40,12 @@ use Rattle.ei_serve.specs.Serving.{AnswersAs, IsDecided}
 use Rattle.ei_serve.specs.Causes.{NoFault}
 use Rattle.ei_serve.proofs.Going.{versions_behind, gives_none, in_part_none}
 use Rattle.ei_serve.proofs.Histories.{GoesOn as GoingOn, going, front_same, accepted_front}
-use Rattle.reis_server.specs.EndedBy.{ended_by}
+use Rattle.ei_serve.specs.EndedBy.{ended_by}
 use Rattle.reis_server.specs.Fed.{Fed, pieces_of, handled, frames, readings_with, readings_of}
 use Rattle.reis_server.specs.View.{ServerView}
 use Rattle.reis_server.specs.Serving.{requests_of, bytes_alone, GaveAll, GoesOn, HasEnded, RanOut, IsServing, IsInputEnd, IsNoInputEnd}
 use Rattle.reis_server.proofs.Copies.{first_copies, framed_copies}
-use Rattle.reis_server.proofs.EarlyRequests.{handed_alike}
+use Rattle.ei_serve.proofs.EarlyRequests.{handed_alike}
 use Rattle.reis_server.proofs.FewMessages.{FewHandled, handled_few, over_or_on, FewFrames, few_frames}
 
 -- ---- bytes
@@ -76,7 +76,7 @@ unfolding handled
 handled_of setup fed = refl
 
 -- where the session goes on it handled the messages of all pieces
-handled_is : (setup : Setup) (fed : List Fed) → GoingOn setup (pieces_of fed) → handled setup fed ≡ accepted setup (stream (pieces_of fed))
+pub handled_is : (setup : Setup) (fed : List Fed) → GoingOn setup (pieces_of fed) → handled setup fed ≡ accepted setup (stream (pieces_of fed))
 handled_is setup fed on = handled_of setup fed ∙ ap (λ (o : Outcome). o.handled) (going setup (pieces_of fed) on)
 
 frames_are : (setup : Setup) (messages : List Raw) → frames setup messages ≡ frames_made (each (slot setup) messages)
@@ -281,6 +281,7 @@ module _ (setup : Setup) (fed : List Fed) (sent : Piece) (given ready coming : L
         gives = subst (λ (o : List EisRequest). GivesOut setup before before times [] coming o) (sym h.out) (gives_none setup before before times coming (λ r. refl));
         replies = subst (λ (o : Option Piece). RepliesInPart setup before before (Some unsent) o) (sym h.took) (in_part_none setup before (Some unsent));
         drawn = λ told is. refl;
+        leaves = λ told is. h.readings ∙ is;
       }
 
       -- the piece that came is the one that was lent

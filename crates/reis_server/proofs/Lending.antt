@@ -20,7 +20,7 @@ use Rattle.ei_serve.specs.declared.phase.Phase.{Phase}
 use Rattle.ei_serve.specs.declared.phase.Phase.TheVariants as phase
 use Rattle.ei_serve.specs.Turning.{Turns}
 use Rattle.reis_server.specs.Lent.{lent}
-use Rattle.reis_server.specs.EndedBy.{ended_by}
+use Rattle.ei_serve.specs.EndedBy.{ended_by}
 use Rattle.reis_server.specs.Fed.{Fed, pieces_of, readings_of}
 use Rattle.reis_server.specs.Queue.{queued}
 use Rattle.reis_server.specs.View.{ServerView}

@@ -1,5 +1,4 @@
 pub mod Lent
-pub mod EndedBy
 pub mod Fed
 pub mod Queue
 pub mod View

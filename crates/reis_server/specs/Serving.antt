@@ -1,5 +1,5 @@
 -- What a server stands for.
-use Rattle.std.specs.Prelude.{◌≡◌, ℕ, ◌==◌, ◌||◌, nat_lt, Bool, List, [], ◌∷◌, ◌++◌, length, take, drop, map, Option, Some, None, Result, Ok, Err}
+use Rattle.std.specs.Prelude.{◌≡◌, ℕ, ◌==◌, ◌||◌, nat_lt, Bool, List, [], ◌∷◌, ◌++◌, length, take, drop, map, Option, Some, None, is_some, Result, Ok, Err}
 use Rattle.std.specs.Prelude.{if◌then◌else◌}
 use Rattle.ei_spec.specs.Message.{Raw, all_bytes}
 use Rattle.ei_spec.specs.Piece.{Piece}
@@ -8,6 +8,7 @@ use Rattle.ei_session.specs.Requests.{framed}
 use Rattle.ei_session.specs.Events.{replies}
 use Rattle.ei_session.specs.Served.{session}
 use Rattle.ei_backend.specs.Outside.{with_more}
+use Rattle.ei_request.specs.Connection.{ConnectionView}
 use Rattle.ei_request.specs.declared.event.EisRequest.{EisRequest}
 use Rattle.ei_standing.specs.Standing.{request_in_code}
 use Rattle.ei_types.specs.declared.error.Error.{Error}
@@ -15,7 +16,7 @@ use Rattle.ei_types.specs.declared.error.Error.TheVariants as error
 use Rattle.ei_serve.specs.declared.session.Ended.{Ended}
 use Rattle.ei_serve.specs.declared.session.Ended.TheVariants as ended
 use Rattle.ei_serve.specs.Serving.{AnswersAs, IsDecided, IsSourceEnd}
-use Rattle.ei_serve.specs.Standing.{Stands}
+use Rattle.ei_serve.specs.Standing.{Stands, connection_of}
 use Rattle.ei_spec.specs.declared.limits.TheConstants.{MOST_PIECE_BYTES, MOST_PIECE_HANDLES}
 use Rattle.reis_server.specs.declared.server.CallError.{CallError}
 use Rattle.reis_server.specs.declared.server.CallError.TheVariants as call_error
@@ -85,6 +86,10 @@ pub record HasServed (s : ServerView) : Type 0 where
   pub serving : IsServing setup fed sent given s
 
 -- ---- calls
+
+-- the connection, where it stands
+abbrev pub connection_of_server : ServerView → Option ConnectionView
+connection_of_server s = if is_some s.answer then None else connection_of s.session
 
 -- whether a piece of so many bytes and handles is taken, and else why not
 abbrev pub feed_answer : Bool → ℕ → ℕ → Result Unit CallError

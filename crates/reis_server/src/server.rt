@@ -1,28 +1,27 @@
 //! A session with what it wrote and asks for.
 
 ghost use Rattle.std.specs.Prelude.{◌≡◌, ◌≤◌, ℕ, List, [], ◌∷◌, ◌++◌, length, take, IfOk, IfErr, OnOk, OnErr, is_some};
-ghost use Rattle.std.specs.Option.{option_copied, option_to_list};
+ghost use Rattle.std.specs.Option.{option_copied, option_map, option_to_list};
 ghost use Rattle.std.specs.declared.option.Option.TheVariants.{None};
 ghost use Rattle.ei_spec.specs.Piece.{Piece};
 ghost use Rattle.ei_types.specs.Capability.{bits_of, all_bits};
 ghost use Rattle.ei_types.specs.declared.error.Error.TheVariants as error;
 ghost use Rattle.ei_session.specs.Setup.{Setup as Started};
 ghost use Rattle.ei_backend.specs.Outside.{with_more};
-ghost use Rattle.ei_serve.specs.Standing.{setup_of};
+ghost use Rattle.ei_serve.specs.Standing.{setup_of, unlimited, IsClientAfter};
 ghost use Rattle.ei_request.specs.declared.event.EisRequest.{EisRequest as Handed};
-ghost use Rattle.reis_server.specs.Fed.{Fed, fed_of};
-ghost use Rattle.reis_server.specs.EndedBy.{ended_by};
+ghost use Rattle.reis_server.specs.Fed.{Fed, fed_of, handled};
 ghost use Rattle.reis_server.specs.Queue.{IsNext};
 
 use crate::moment::Moment;
 use crate::one_piece::OnePiece;
 use crate::queue::next_of;
 use crate::replies::Replies;
-use ei_request::EisRequest;
-use ei_serve::{Ended, Session, Setup, Turn};
+use ei_request::{Connection, EisRequest};
+use ei_serve::{Ended, Session, Setup, ended_by};
 use ei_spec::Handle;
 use ei_spec::limits::{MOST_PIECE_BYTES, MOST_PIECE_HANDLES};
-use ei_types::Error;
+use ei_types::{DeviceCapabilities, Error};
 use std::alloc::Global;
 use std::marker::Model;
 
@@ -82,7 +81,7 @@ impl Model for Server {
 
 impl Server {
     ghost use Rattle.reis_server.specs.Serving.{IsServing, TakesLent, EndsLent, nothing, IsInputEnd, IsNoInputEnd};
-    ghost use Rattle.reis_server.specs.Serving.{feed_answer, end_answer, sent_answer, unsent_after};
+    ghost use Rattle.reis_server.specs.Serving.{feed_answer, end_answer, sent_answer, unsent_after, connection_of_server};
     ghost use Rattle.reis_server.specs.Lent.{lent};
 
     /// Starts a session, whose greeting waits to be sent. The capabilities have no bit that stands for none.
@@ -97,6 +96,32 @@ impl Server {
     {
         let mut replies = Replies::new(alloc);
         let session = Session::start(alloc, setup, &mut replies)?;
+        Ok(Server {
+            session,
+            replies,
+            ready: Vec::new(alloc),
+            coming: Vec::new(alloc),
+            answer: None,
+        })
+    }
+
+    /// Starts a session that isn't ended by the number of its pieces: it takes 18446744073709551615 of them. Its greeting waits
+    /// to be sent. The capabilities have no bit that stands for none.
+    ///
+    /// `NoMemory` where memory ran out.
+    pub fn start_unlimited(
+        alloc: Global,
+        initial_serial: u32,
+        capabilities: DeviceCapabilities,
+    ) -> Result<Server, Error>
+        requires lawful { bits_of capabilities ≤ all_bits }
+        // nothing was fed to it, and nothing taken from it
+        ensures serves { IfOk result (λ server. IsServing (unlimited initial_serial capabilities) [] nothing [] server) }
+        ensures goes_on { IfOk result (λ server. server.answer ≡ None) }
+        ensures only { IfErr result (λ e. e ≡ error.NoMemory) }
+    {
+        let mut replies = Replies::new(alloc);
+        let session = Session::start_unlimited(alloc, initial_serial, capabilities, &mut replies)?;
         Ok(Server {
             session,
             replies,
@@ -153,6 +178,20 @@ impl Server {
         }
         self.take(&[], &[], 0);
         Ok(())
+    }
+
+    /// The connection, which knows the client's name and context type. `None` exactly where none stands: before the
+    /// handshake's end, and where the session has ended.
+    pub fn connection(&self) -> Option<&Connection>
+        ensures value { option_map (λ c. c.now) result ≡ connection_of_server self.now }
+        // over the messages that were handled
+        ensures client { (setup : Started) (fed : List Fed) (sent : Piece) (given : List Handed) → IsServing setup fed sent given self.now →
+            self.now.answer ≡ None → IsClientAfter (handled setup fed) (option_map (λ c. c.now) result) }
+    {
+        match &self.answer {
+            Some(_) => None,
+            None => self.session.connection(),
+        }
     }
 
     /// The bytes that wait to be written to the client.
@@ -230,17 +269,5 @@ impl Server {
             &mut self.coming,
         );
         self.answer = ended_by(turned);
-    }
-}
-
-/// How a turn ends the session; `None` where that goes on.
-fn ended_by(turned: Result<Turn, Error>) -> Option<Result<Ended, Error>>
-    ensures { result ≡ ended_by turned }
-{
-    match turned {
-        Ok(Turn::GoOn) => None,
-        Ok(Turn::Disconnect) => Some(Ok(Ended::Disconnect)),
-        Ok(Turn::End) => Some(Ok(Ended::End)),
-        Err(error) => Some(Err(error)),
     }
 }

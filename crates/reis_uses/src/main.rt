@@ -1,15 +1,18 @@
-//! Callers: a server's loop over `Session`, and a client by its proxies. Nothing stands on this program.
+//! Callers: a server's loop over `Session`, a client by its proxies, and several clients in one loop. Nothing stands on this
+//! program.
 //!
 //! The client shakes hands and leaves, the server serves it, and the client reads what the server replied. All of it
-//! stands in memory. Begin with `server` and `client`; `outside` has a source and a sink.
+//! stands in memory. Begin with `server`, `client` and `clients`; `outside` has a source and a sink.
 #![tactic(auto)]
 
 mod client;
+mod clients;
 mod outside;
 mod server;
 mod stop;
 
 use crate::client::{shake_hands, show_events};
+use crate::clients::serve_clients;
 use crate::outside::{Inbox, Outbox};
 use crate::server::serve_by_turns;
 use crate::stop::Stop;
@@ -38,5 +41,6 @@ fn talk<R: Print + AllocGlobal>(
     sent.bytes.extend_from_slice(&DISCONNECT)?;
     serve_by_turns(rt, &mut Inbox::new(&sent.bytes), replied)?;
     client.read(&mut Inbox::new(&replied.bytes))?;
-    show_events(rt, client)
+    show_events(rt, client)?;
+    serve_clients(rt, &sent.bytes)
 }

@@ -26,6 +26,11 @@ impl<'a> Inbox<'a> {
             last: LastAnswer::Nothing,
         }
     }
+
+    /// How many bytes it has left.
+    pub(crate) fn left(&self) -> usize {
+        self.bytes.len()
+    }
 }
 
 impl Source for Inbox<'_> {

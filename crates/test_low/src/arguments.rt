@@ -1,13 +1,13 @@
 //! Arguments, written, read and shown, and the header of a message.
 
-use crate::stop::Stop;
-use crate::words::{bytes, first, id, number};
+use crate::words::{bytes, id};
 use ei_spec::Handle;
 use ei_types::{ButtonState, ContextType, DeviceType, DisconnectReason, KeyState, KeymapType};
 use ei_wire::{Arg, ByteStream, EiText, Header, NoMemory, OwnedArg, RawFloat};
 use std::alloc::{AllocError, Global};
 use std::fmt;
 use std::fmt::Write;
+use test_table::{Stop, first, number};
 
 /// What a call answers:
 /// - `write ARGUMENT`: how `written` says that it is written;

@@ -1,15 +1,15 @@
 //! The bytes and handles of an endpoint: from the source, and into the sink.
 
 use crate::arguments::argument;
-use crate::stop::Stop;
 use crate::version::{endpoint_of, give, pending};
-use crate::words::{bytes, count, first, number, said};
+use crate::words::{bytes, count, said};
 use crate::world::{World, new_sink};
 use ei_backend::{Backend, InterfaceName, Pieces};
 use ei_spec::{Handle, KnownInterface};
 use ei_wire::{Arg, SendError};
 use std::alloc::Global;
 use std::fmt::Debug;
+use test_table::{Stop, first, number};
 
 /// What a call answers:
 /// - `end KIND`: nothing, and begins with a fresh endpoint;

@@ -1,10 +1,10 @@
 //! Reasons without a name, capabilities and sets of them. The enums are read where arguments are.
 
-use crate::stop::Stop;
-use crate::words::{count, first, number};
+use crate::words::count;
 use ei_types::{DeviceCapabilities, DeviceCapability, DisconnectReason, OtherReason};
 use std::alloc::{AllocError, Global};
 use std::fmt::Write;
+use test_table::{Stop, first, number};
 
 /// What a call answers:
 /// - `other-reason NUMBER`: the reason without a name, if it is one, and its number;

@@ -1,10 +1,10 @@
 //! The texts of all errors, and what the errors of the wire become.
 
-use crate::stop::Stop;
 use ei_types::{Error, EventError, HandshakeError, RequestError};
 use ei_wire::{EiText, FlushError, NoMemory, ParseError, ReadError, SendError};
 use std::alloc::{AllocError, Global};
 use std::fmt::{Display, Write};
+use test_table::Stop;
 
 /// What isn't sent, and why.
 const SENDS: [SendError; 3] = [

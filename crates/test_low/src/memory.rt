@@ -2,11 +2,11 @@
 
 ghost use Rattle.std.specs.Prelude.{◌≡◌, IfOk, vec_len};
 
-use crate::stop::Stop;
 use ei_backend::{Clock, Fault, Input, MemoryText, Pieces, Readings, Sink, Source, Taken, Tray};
 use ei_spec::Handle;
 use ei_wire::NoMemory;
 use std::alloc::Global;
+use test_table::Stop;
 
 /// Whether the source, the sink, the text or the clock answers as it should, and fails where it is said to.
 pub(crate) fn answer(alloc: Global, call: &str) -> Result<bool, Stop> {

@@ -1,11 +1,11 @@
 //! The names of interfaces and of messages.
 
-use crate::stop::Stop;
-use crate::words::{count, first};
+use crate::words::count;
 use ei_backend::InterfaceName;
 use ei_spec::KnownInterface;
 use ei_types::{interfaces, known_interfaces, op_name};
 use std::alloc::{AllocError, Global};
+use test_table::{Stop, first};
 
 /// What a call answers:
 /// - `interface NAME`: the interface of that name, with its name;

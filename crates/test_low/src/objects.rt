@@ -1,14 +1,14 @@
 //! The objects of an endpoint: ids, names and versions, and the messages to them.
 
 use crate::arguments::argument;
-use crate::stop::Stop;
-use crate::words::{first, id, number, said};
+use crate::words::{id, said};
 use crate::world::World;
 use ei_backend::{Backend, HasBackend, InterfaceName, Object};
 use ei_spec::KnownInterface;
 use ei_wire::{Arg, SendError};
 use std::alloc::Global;
 use std::fmt::Debug;
+use test_table::{Stop, first, number};
 
 /// What a call answers:
 /// - `own NAME VERSION`: the endpoint's next object;

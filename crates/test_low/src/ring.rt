@@ -1,10 +1,10 @@
 //! The ring of the bytes that are unread: messages that lie across its end, and how it grows.
 
-use crate::stop::Stop;
 use crate::version::{InterfaceVersion, PIECE, give, next};
 use ei_backend::{Backend, PendingRequestResult, Pieces};
 use ei_wire::NoMemory;
 use std::alloc::Global;
+use test_table::Stop;
 
 /// Whether messages are read `across` its end, and whether it `grows` for the longest message.
 pub(crate) fn answer(alloc: Global, call: &str) -> Result<bool, Stop> {

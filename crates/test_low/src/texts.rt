@@ -1,9 +1,9 @@
 //! Texts, read at each cut of their bytes, and their order.
 
-use crate::stop::Stop;
-use crate::words::{bytes, count, first, number, said};
+use crate::words::{bytes, count, said};
 use ei_wire::{Arg, ByteStream, EiText, OwnedArg, ParseError};
 use std::alloc::Global;
+use test_table::{Stop, first, number};
 
 /// What a call answers:
 /// - `cut TEXT N PADDING BEHIND PLACE`: whether it is read by the rule at each cut of its bytes, with each ending;

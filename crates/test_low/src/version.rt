@@ -3,14 +3,13 @@
 ghost use Rattle.std.specs.Prelude.{[], ◌∷◌, false};
 ghost use Rattle.ei_spec.specs.Value.{Word, Letters};
 
-use crate::stop::Stop;
 use ei_backend::{
-    Backend, FIRST_SERVER_ID, InterfaceName, MessageEnum, Object, PendingRequestResult, Pieces,
-    Table,
+    Backend, FIRST_SERVER_ID, MessageEnum, Object, PendingRequestResult, Pieces, Table,
 };
 use ei_spec::{Handle, KnownInterface};
 use ei_wire::{Arg, ByteStream, EiText, NoMemory, ParseError};
 use std::alloc::Global;
+use test_table::Stop;
 
 /// The most bytes of a piece.
 pub(crate) const PIECE: usize = 65536;
@@ -39,7 +38,7 @@ impl MessageEnum for InterfaceVersion {
         bytes: &mut ByteStream<'_>,
         _table: &mut Table,
     ) -> Result<InterfaceVersion, ParseError> {
-        let InterfaceName::Known(KnownInterface::Handshake) = object.interface_name() else {
+        let Some(KnownInterface::Handshake) = object.known_interface() else {
             return Err(ParseError::NoMemory);
         };
         if opcode != 4 {

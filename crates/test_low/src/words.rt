@@ -1,12 +1,7 @@
 //! The words of a line.
 
-use crate::stop::Stop;
 use std::alloc::Global;
-
-/// The first word, and the others.
-pub(crate) fn first(line: &str) -> (&str, &str) {
-    line.split_once(' ').unwrap_or((line, ""))
-}
+use test_table::Stop;
 
 /// The bytes of hexadecimal digits, two for each byte; none of a dash.
 pub(crate) fn bytes(alloc: Global, word: &str) -> Result<Vec<u8>, Stop> {
@@ -19,11 +14,6 @@ pub(crate) fn bytes(alloc: Global, word: &str) -> Result<Vec<u8>, Stop> {
 /// The id in hexadecimal digits.
 pub(crate) fn id(word: &str) -> Result<u64, Stop> {
     Ok(u64::from_str_radix(word, 16)?)
-}
-
-/// The number in decimal digits.
-pub(crate) fn number(word: &str) -> Result<u32, Stop> {
-    Ok(word.parse::<u32>()?)
 }
 
 /// The count in decimal digits; `most` is the highest one.

@@ -3,7 +3,6 @@
 
 use crate::end::End;
 use crate::joined::in_pieces;
-use crate::stop::Stop;
 use crate::targets::{proxy, with_targets};
 use ei_backend::{
     Backend, HasBackend, Interface, MessageEnum, Object, PendingRequestResult, Pieces, Tray,
@@ -12,6 +11,7 @@ use ei_types::DisconnectReason;
 use ei_wire::{Arg, NoMemory, ReadError, SendError};
 use std::alloc::{AllocError, Global};
 use std::io::Print;
+use test_table::Stop;
 
 /// Shows each.
 pub(crate) fn show<R: Print + AllocGlobal>(rt: &R) -> Result<(), Stop> {
@@ -36,7 +36,7 @@ macro_rules! own_calls {
     ($alloc:ident, $context:ident, $pieces:ident, $tray:ident) => {{
         match $context.handshake() {
             Some(handshake) => handshake.handshake_version($context, 1)?,
-            None => return Err(Stop::Object),
+            None => return Err(Stop::Call),
         }
         let waiting = $context.unsent_len();
         $context.flush($tray)?;
@@ -92,7 +92,7 @@ fn without_a_text(alloc: Global) -> Result<String, Stop> {
     let mut server: ei_server::Context = with_targets(alloc)?;
     match proxy(&server) {
         Some(connection) => disconnected(alloc, &mut server, &connection),
-        None => Err(Stop::Object),
+        None => Err(Stop::Call),
     }
 }
 
@@ -177,7 +177,7 @@ fn letters_in<M: MessageEnum>(
 ) -> Result<usize, Stop> {
     match next {
         Some(PendingRequestResult::Request(message)) => Ok(letters_of(alloc, message)?),
-        _ => Err(Stop::Read),
+        _ => Err(Stop::Call),
     }
 }
 
@@ -208,7 +208,7 @@ fn others<E: End, T: Interface + Drop>(alloc: Global) -> Result<(bool, bool), St
             has_proxy::<ei_server::Connection>(it.as_object().copy()),
             has_proxy::<ei_client::Seat>(it.as_object().copy()),
         )),
-        None => Err(Stop::Object),
+        None => Err(Stop::Call),
     }
 }
 

@@ -3,13 +3,13 @@
 use crate::end::End;
 use crate::reading::{answer, is_nothing};
 use crate::row::Row;
-use crate::stop::Stop;
 use crate::targets::with_targets;
 use ei_backend::{FIRST_SERVER_ID, HasBackend, Pieces, Tray};
 use ei_spec::Handle;
 use ei_wire::{NoMemory, SendError};
 use std::alloc::{AllocError, Global};
 use std::fmt::Write;
+use test_table::Stop;
 
 /// The bytes in pieces of this size, but for the last, and the handles with the first.
 pub(crate) fn in_pieces(
@@ -29,9 +29,38 @@ pub(crate) fn in_pieces(
     Ok(pieces)
 }
 
+/// Where the bytes of a row that is read alone lie.
+#[derive(Clone, Copy)]
+pub(crate) enum Lies {
+    /// In one stretch: most messages are read the shorter way of lawful ones.
+    InPlace,
+    /// Across the end of the ring of unread bytes: each message is read the general way.
+    Across,
+}
+
+/// The sizes of two messages that fill a new ring, of 131072 bytes, but for its last eight.
+const AHEAD: [u32; 2] = [65536, 65528];
+
+/// Reads a message of that size to no object, and takes it out.
+fn take_one<E: End>(alloc: Global, end: &mut E, size: u32) -> Result<(), Stop> {
+    let mut bytes = Vec::new(alloc);
+    bytes.extend_from_slice(&99u64.to_le_bytes())?;
+    bytes.extend_from_slice(&size.to_le_bytes())?;
+    bytes.resize(size as usize, 0)?;
+    end.backend_mut()
+        .read(&mut in_pieces(alloc, &bytes, &[], 65536)?)?;
+    let _no_object = answer(alloc, end)?;
+    Ok(())
+}
+
 /// A fresh end to which the bytes of a row came, with these handles.
-fn after<E: End>(alloc: Global, row: &Row, handles: &[Handle]) -> Result<E, Stop> {
+fn after<E: End>(alloc: Global, row: &Row, handles: &[Handle], lies: Lies) -> Result<E, Stop> {
     let mut end: E = with_targets(alloc)?;
+    if let Lies::Across = lies {
+        for size in &AHEAD {
+            take_one(alloc, &mut end, *size)?;
+        }
+    }
     end.backend_mut()
         .read(&mut in_pieces(alloc, &row.bytes, handles, 65536)?)?;
     Ok(end)
@@ -43,8 +72,9 @@ pub(crate) fn read_alone<E: End>(
     alloc: Global,
     row: &Row,
     handles: &[Handle],
+    lies: Lies,
 ) -> Result<String, Stop> {
-    let mut end: E = after(alloc, row, handles)?;
+    let mut end: E = after(alloc, row, handles, lies)?;
     let mut text = answer(alloc, &mut end)?;
     let second = answer(alloc, &mut end)?;
     if !is_nothing(second.as_str()) {

@@ -18,12 +18,11 @@ mod reading;
 mod row;
 mod server;
 mod sides;
-mod stop;
 mod targets;
 
 use crate::row::Table;
-use crate::stop::Stop;
 use std::io::Print;
+use test_table::Stop;
 
 fn main(rt: HostRuntime) -> Result<(), Stop> {
     let table = Table::from_input(&rt)?;

@@ -1,7 +1,6 @@
 //! The proxies of both ends through their traits.
 
 use crate::end::End;
-use crate::stop::Stop;
 use crate::targets::{Target, targets, with_targets};
 use ei_backend::{HasBackend, Interface, Object, kinds};
 use ei_spec::KnownInterface;
@@ -10,6 +9,7 @@ use std::fmt;
 use std::fmt::Write;
 use std::hash::{FoldHasher, Hash, Hasher};
 use std::io::Print;
+use test_table::Stop;
 
 /// Shows the proxy of each interface at each end.
 pub(crate) fn show<R: Print + AllocGlobal>(rt: &R) -> Result<(), Stop> {
@@ -30,8 +30,8 @@ fn show_all<E: End, R: Print + AllocGlobal>(rt: &R, name: &str) -> Result<(), St
 
 /// The proxy over that object of an end.
 fn text_of<E: End>(alloc: Global, end: &E, target: &Target) -> Result<String, Stop> {
-    let object = end.backend().object_for_id(target.id).ok_or(Stop::Object)?;
-    proxy_text(alloc, end, object)?.ok_or(Stop::Object)
+    let object = end.backend().object_for_id(target.id).ok_or(Stop::Call)?;
+    proxy_text(alloc, end, object)?.ok_or(Stop::Call)
 }
 
 /// The proxy over the object as a text: `None` where the object has none.

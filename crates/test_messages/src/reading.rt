@@ -2,11 +2,11 @@
 
 use crate::end::End;
 use crate::proxies::proxy_text;
-use crate::stop::Stop;
 use ei_backend::{HasBackend, MessageEnum, Object, PendingRequestResult};
 use std::alloc::Global;
 use std::fmt;
 use std::fmt::Write;
+use test_table::Stop;
 
 /// The answer where no message is whole.
 const NOTHING: &str = "nothing";
@@ -80,9 +80,9 @@ fn push_args<M: MessageEnum>(alloc: Global, text: &mut String, message: &M) -> R
 /// Adds the name of a message and of its fields, without its target.
 fn push_name<M: fmt::Debug>(alloc: Global, text: &mut String, message: &M) -> Result<(), Stop> {
     let whole = format!(in alloc; "{message:?}")?;
-    let (_target, name) = whole.split_once(")), ").ok_or(Stop::Shown)?;
+    let (_target, name) = whole.split_once(")), ").ok_or(Stop::Call)?;
     text.push_str(" | ")?;
-    text.push_str(name.strip_suffix(')').ok_or(Stop::Shown)?)?;
+    text.push_str(name.strip_suffix(')').ok_or(Stop::Call)?)?;
     Ok(())
 }
 
@@ -94,10 +94,7 @@ fn push_new<E: End>(
     end: &E,
     object: &Object,
 ) -> Result<(), Stop> {
-    let kept = end
-        .backend()
-        .object_for_id(object.id())
-        .ok_or(Stop::Object)?;
+    let kept = end.backend().object_for_id(object.id()).ok_or(Stop::Call)?;
     write!(text, " | new {} {}", kept.interface(), kept.version())?;
     if !is_same(object, kept) || !has_same_proxy(alloc, end, object, kept)? {
         text.push_str(", and another in the message")?;

@@ -1,11 +1,11 @@
 //! The table of messages, line by line.
 
-use crate::stop::Stop;
 use crate::targets::interface_of;
 use ei_spec::KnownInterface;
 use ei_wire::Header;
 use std::alloc::Global;
 use std::io::Input;
+use test_table::Stop;
 
 /// A message: its bytes, and what it is read as.
 #[derive(Drop)]

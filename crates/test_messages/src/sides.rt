@@ -1,32 +1,22 @@
 //! The two directions: what is sent, what is read, and what is carried from one end to the other.
 
 use crate::end::End;
-use crate::joined::{Received, Sent, carried, read_alone, send};
+use crate::joined::{Lies, Received, Sent, carried, read_alone, send};
 use crate::row::{Row, Table};
-use crate::stop::Stop;
 use ei_backend::Tray;
 use ei_spec::Handle;
 use std::io::Print;
+use test_table::Stop;
 
 /// The sizes of the pieces in which the bytes come.
 const SIZES: [usize; 3] = [1, 5, 65536];
 
-/// Which handles come with the bytes of a row that is read alone.
-#[derive(Clone, Copy)]
-enum Given {
-    /// One, whether the row takes it or not: while it is unread, each message is read the general way.
-    One,
-    /// One where the row takes it, else none: then most messages are read the shorter way of lawful ones.
-    AsTaken,
-}
-
-impl Given {
-    /// The handles that come with this row.
-    fn handles(self, row: &Row) -> &'static [Handle] {
-        match self {
-            Given::AsTaken if !row.read_as.contains("takes a handle") => &[],
-            _ => &[Handle(7)],
-        }
+/// The handles that come with the bytes of a row that is read alone: one where the row takes it.
+fn handles_of(row: &Row) -> &'static [Handle] {
+    if row.read_as.contains("takes a handle") {
+        &[Handle(7)]
+    } else {
+        &[]
     }
 }
 
@@ -51,9 +41,9 @@ fn show<S: End, E: End, R: Print + AllocGlobal>(
     rows: &[Row],
 ) -> Result<(), Stop> {
     println!(rt; "{heading}")?;
-    show_alone::<E, R>(rt, lone, Given::AsTaken)?;
-    show_alone::<E, R>(rt, rows, Given::One)?;
-    show_alone::<E, R>(rt, rows, Given::AsTaken)?;
+    show_alone::<E, R>(rt, lone, Lies::InPlace)?;
+    show_alone::<E, R>(rt, rows, Lies::Across)?;
+    show_alone::<E, R>(rt, rows, Lies::InPlace)?;
     show_joined::<S, E, R>(rt, rows)
 }
 
@@ -61,11 +51,11 @@ fn show<S: End, E: End, R: Print + AllocGlobal>(
 fn show_alone<E: End, R: Print + AllocGlobal>(
     rt: &R,
     rows: &[Row],
-    given: Given,
+    lies: Lies,
 ) -> Result<(), Stop> {
     let mut right = 0usize;
     for row in rows {
-        let text = read_alone::<E>(rt.alloc(), row, given.handles(row))?;
+        let text = read_alone::<E>(rt.alloc(), row, handles_of(row), lies)?;
         if is_right(rt, row, text.as_str())? {
             right = right.saturating_add(1);
         }

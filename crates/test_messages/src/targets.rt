@@ -1,10 +1,10 @@
 //! The objects that the messages are to: one of each interface, at both ends under the same id.
 
 use crate::end::End;
-use crate::stop::Stop;
 use ei_backend::{FIRST_SERVER_ID, HasBackend, Interface, InterfaceName};
 use ei_spec::KnownInterface;
 use std::alloc::Global;
+use test_table::Stop;
 
 /// An object.
 pub(crate) struct Target {
@@ -93,7 +93,7 @@ pub(crate) fn with_targets<E: End>(alloc: Global) -> Result<E, Stop> {
     let mut end = E::new(alloc)?;
     for target in targets() {
         if target.id != 0 && !puts(&mut end, target) {
-            return Err(Stop::Object);
+            return Err(Stop::Call);
         }
     }
     Ok(end)

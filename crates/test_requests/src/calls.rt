@@ -4,17 +4,27 @@ use crate::client_requests::{ask, ask_elsewhere};
 use crate::connecting::Greeting;
 use crate::ends::{disconnect, read, remove_device, remove_seat};
 use crate::making::{add_device, add_object, add_seat, bear, leave_ids};
-use crate::stop::Stop;
 use crate::telling::{connection, device, interface, keys, requests, seat};
-use crate::words::first;
 use crate::world::World;
+use std::alloc::Global;
+use test_table::{Answers, Stop, first, joined};
+
+impl Answers for Greeting {
+    fn answer(&mut self, _alloc: Global, call: &str) -> Result<String, Stop> {
+        answer(self, call)
+    }
+
+    fn is_wanted(&self, alloc: Global, found: &str, wanted: &str) -> Result<bool, Stop> {
+        Ok(joined(alloc, found)? == joined(alloc, wanted)?)
+    }
+}
 
 /// What a call answers:
 /// - `greet BYTES`: how many bytes the client sends until the connection;
 /// - `forget`: nothing, and the client sends none;
 /// - `connect SERIAL`: what the client told of itself, and how many interfaces both ends have; begins with a fresh
 ///   connection.
-pub(crate) fn answer(greeting: &mut Greeting, call: &str) -> Result<String, Stop> {
+fn answer(greeting: &mut Greeting, call: &str) -> Result<String, Stop> {
     let (name, rest) = first(call);
     match name {
         "greet" => greeting.send(rest),

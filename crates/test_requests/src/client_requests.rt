@@ -1,7 +1,6 @@
 //! What a client asks.
 
 use crate::connecting::{in_pieces, reached};
-use crate::stop::Stop;
 use crate::words::bytes;
 use crate::world::World;
 use ei_backend::PendingRequestResult;
@@ -10,6 +9,7 @@ use ei_server::{Context, Request};
 use ei_wire::NoMemory;
 use std::alloc::AllocError;
 use std::fmt::{Debug, Write};
+use test_table::Stop;
 
 /// Why the converter refuses messages of these bytes, and the requests that it makes of them.
 pub(crate) fn ask(world: &mut World, digits: &str) -> Result<String, Stop> {

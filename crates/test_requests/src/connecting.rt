@@ -1,13 +1,13 @@
 //! The handshake of a client, up to the connection.
 
-use crate::stop::Stop;
-use crate::words::{bytes, number};
+use crate::words::bytes;
 use crate::world::World;
 use ei_backend::{HasBackend, Pieces, Readings, Tray};
 use ei_handshake::{EisHandshakeResp, EisHandshaker, request_result};
 use ei_request::{Connection, EisRequestConverter};
 use ei_server::Context;
 use std::alloc::{AllocError, Global};
+use test_table::{Stop, number};
 
 /// The most bytes of a piece.
 const PIECE: usize = 65536;
@@ -98,7 +98,7 @@ fn connected(alloc: Global, serial: u32, sent: &[u8]) -> Result<World, Stop> {
 /// What a handshake with that serial answers.
 fn greeted(alloc: Global, context: &mut Context, serial: u32) -> Result<EisHandshakeResp, Stop> {
     if context.handshake().is_none() {
-        return Err(Stop::Handshake);
+        return Err(Stop::Call);
     }
     let mut handshaker = EisHandshaker::new(alloc, context, serial)?;
     shaken(&mut handshaker, context)
@@ -115,5 +115,5 @@ fn shaken(handshaker: &mut EisHandshaker, context: &mut Context) -> Result<EisHa
             return Ok(resp);
         }
     }
-    Err(Stop::Handshake)
+    Err(Stop::Call)
 }

@@ -1,15 +1,15 @@
 //! Seats and devices that are taken away, the end of a connection, and serials.
 
 use crate::making::{letters, shown};
-use crate::stop::Stop;
-use crate::words::{first, number, place, text, time};
+use crate::words::text;
 use crate::world::World;
 use ei_backend::{Pieces, Readings};
 use ei_types::DisconnectReason;
+use test_table::{Stop, count, first, id, number};
 
 /// `remove-seat PLACE`: whether the seat is taken away.
 pub(crate) fn remove_seat(world: &mut World, at: &str) -> Result<String, Stop> {
-    let Some(seat) = world.seats.get(place(at)?) else {
+    let Some(seat) = world.seats.get(count(at)?) else {
         return Err(Stop::Line);
     };
     let removed = seat.remove(world.converter.handle_mut());
@@ -18,7 +18,7 @@ pub(crate) fn remove_seat(world: &mut World, at: &str) -> Result<String, Stop> {
 
 /// `remove-device PLACE`: whether the device is taken away.
 pub(crate) fn remove_device(world: &mut World, at: &str) -> Result<String, Stop> {
-    let Some(device) = world.devices.get(place(at)?) else {
+    let Some(device) = world.devices.get(count(at)?) else {
         return Err(Stop::Line);
     };
     let removed = device.remove(world.converter.handle_mut());
@@ -63,7 +63,7 @@ pub(crate) fn read(world: &mut World, name: &str, rest: &str) -> Result<String, 
         }
         "with-serial" => with_serial(world),
         "no-object" => {
-            let told = world.converter.handle_mut().invalid_object(time(rest)?);
+            let told = world.converter.handle_mut().invalid_object(id(rest)?);
             let answer = shown(world.alloc, &told)?;
             world.with_sent(answer)
         }
@@ -84,7 +84,7 @@ fn read_byte(world: &mut World) -> Result<String, Stop> {
 fn set_clock(world: &mut World, rest: &str) -> Result<String, Stop> {
     let mut readings = Vec::new(world.alloc);
     for word in rest.split(' ') {
-        readings.push(time(word)?)?;
+        readings.push(id(word)?)?;
     }
     world.clock = Readings::new(world.alloc, &readings)?;
     Ok(String::from_str(world.alloc, "done")?)

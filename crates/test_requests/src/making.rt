@@ -1,7 +1,6 @@
 //! Seats and devices that are announced, and the events of devices.
 
-use crate::stop::Stop;
-use crate::words::{capabilities, first, number, place, text, time};
+use crate::words::{capabilities, text};
 use crate::world::World;
 use ei_backend::{Backend, HasBackend, InterfaceName};
 use ei_request::{Connection, Device, DeviceSetup, Seat};
@@ -10,6 +9,7 @@ use ei_types::{DeviceCapabilities, DeviceCapability, DeviceType, KeymapType};
 use ei_wire::{RawFloat, SendError};
 use std::alloc::Global;
 use std::fmt::Debug;
+use test_table::{Stop, count, first, id, number};
 
 /// `add-seat TEXT CAPABILITIES`: the seat of that name.
 pub(crate) fn add_seat(world: &mut World, rest: &str) -> Result<String, Stop> {
@@ -142,7 +142,7 @@ fn keymap<'a>(rest: &str) -> Result<DeviceSetup<'a>, Stop> {
 pub(crate) fn add_device(world: &mut World, rest: &str) -> Result<String, Stop> {
     let (seat, rest) = first(rest);
     let described = description(world.alloc, rest)?;
-    let Some(seat) = world.seats.get(place(seat)?) else {
+    let Some(seat) = world.seats.get(count(seat)?) else {
         return Err(Stop::Line);
     };
     let device = add(world.converter.handle_mut(), seat, &described)?;
@@ -199,7 +199,7 @@ pub(crate) fn leave_ids(world: &mut World, count: &str) -> Result<String, Stop> 
 /// device of that place is sent.
 pub(crate) fn bear(world: &mut World, name: &str, rest: &str) -> Result<String, Stop> {
     let (at, rest) = first(rest);
-    let Some(device) = world.devices.get(place(at)?) else {
+    let Some(device) = world.devices.get(count(at)?) else {
         return Err(Stop::Line);
     };
     let handle = world.converter.handle_mut();
@@ -211,7 +211,7 @@ pub(crate) fn bear(world: &mut World, name: &str, rest: &str) -> Result<String, 
         "paused" => device.paused(handle),
         "start" => device.start_emulating(handle, number(rest)?),
         "stop" => device.stop_emulating(handle),
-        "frame" => device.frame(handle, time(rest)?),
+        "frame" => device.frame(handle, id(rest)?),
         _ => return Err(Stop::Line),
     };
     shown(world.alloc, &sent)

@@ -1,7 +1,5 @@
 //! What is told of a connection, of seats and devices by their keys, and of requests.
 
-use crate::stop::Stop;
-use crate::words::first;
 use crate::world::World;
 use ei_backend::{HasBackend, Interface};
 use ei_request::{
@@ -13,6 +11,7 @@ use ei_wire::NoMemory;
 use std::alloc::{AllocError, Global};
 use std::fmt::{Debug, Write};
 use std::hash::{FoldHasher, Hash, Hasher};
+use test_table::{Stop, first};
 
 /// `connection`: its proxy, the last serial, whether it has ended, and how many bytes are unread.
 pub(crate) fn connection(world: &World) -> Result<String, Stop> {
@@ -180,13 +179,13 @@ fn push_seat<T: SeatEvent>(text: &mut String, event: &T) -> Result<(), AllocErro
 }
 
 /// Adds the seat and the device of an event.
-fn push_device<T: DeviceEvent>(text: &mut String, event: &T) -> Result<(), AllocError> {
+fn push_device<T: DeviceEvent<Device>>(text: &mut String, event: &T) -> Result<(), AllocError> {
     push_seat(text, event)?;
     write!(text, " {:?}", event.device())
 }
 
 /// Adds the seat, the device and the time of an event.
-fn push_time<T: EventTime>(text: &mut String, event: &T) -> Result<(), AllocError> {
+fn push_time<T: EventTime<Device>>(text: &mut String, event: &T) -> Result<(), AllocError> {
     push_device(text, event)?;
     write!(text, " {}", event.time())
 }

@@ -1,12 +1,11 @@
 //! A connection, and what the calls before made of it.
 
-use crate::stop::Stop;
-use crate::words::{first, place};
 use ei_backend::{HasBackend, Readings, Tray};
 use ei_request::{Connection, Device, EisRequest, EisRequestConverter, Seat};
 use ei_spec::Handle;
 use std::alloc::{AllocError, Global};
 use std::fmt::Write;
+use test_table::{Stop, count, first};
 
 /// A converter with its clock, the seats and the devices that were made, in this order, and the requests of the last
 /// call that took some.
@@ -40,12 +39,12 @@ impl World {
 
     /// The seat of that place.
     pub(crate) fn seat(&self, word: &str) -> Result<&Seat, Stop> {
-        self.seats.get(place(word)?).ok_or(Stop::Line)
+        self.seats.get(count(word)?).ok_or(Stop::Line)
     }
 
     /// The device of that place.
     pub(crate) fn device(&self, word: &str) -> Result<&Device, Stop> {
-        self.devices.get(place(word)?).ok_or(Stop::Line)
+        self.devices.get(count(word)?).ok_or(Stop::Line)
     }
 
     /// The answer with what was sent behind it: the bytes, or how many where there are many, and the handles.

@@ -1,7 +1,7 @@
 //! The calls of the table by their names.
 
 use crate::feeding::{done, feed, feed_cut, sent};
-use crate::starting::start;
+use crate::starting::{start, start_unlimited};
 use crate::told::{requests, told};
 use reis_server::Server;
 use std::alloc::Global;
@@ -19,6 +19,9 @@ impl Answers for Calls {
         if name == "start" {
             return start(alloc, &mut self.server, rest);
         }
+        if name == "unlimited" {
+            return start_unlimited(alloc, &mut self.server, rest);
+        }
         match &mut self.server {
             Some(server) => answer(alloc, server, name, rest),
             None => Err(Stop::Line),
@@ -32,7 +35,8 @@ impl Answers for Calls {
 /// - `end`: whether the end of the input is taken;
 /// - `sent BYTES HANDLES`: whether so many wait no more;
 /// - `next` and `requests`: the next request, and all that wait;
-/// - `unsent`, `unsent-handles`, `answer` and `over`: what waits to be sent, and how the session ended.
+/// - `unsent`, `unsent-handles`, `answer` and `over`: what waits to be sent, and how the session ended;
+/// - `client`: its context type, and its name where it told one.
 fn answer(alloc: Global, server: &mut Server, name: &str, rest: &str) -> Result<String, Stop> {
     match name {
         "feed" => feed(alloc, server, rest),

@@ -20,6 +20,31 @@ pub(crate) fn start(
     Ok(String::from_str(alloc, "started")?)
 }
 
+/// `unlimited SERIAL CAPABILITIES`: a server without a limit of pieces in place of that of the lines before.
+pub(crate) fn start_unlimited(
+    alloc: Global,
+    server: &mut Option<Server>,
+    words: &str,
+) -> Result<String, Stop> {
+    let (serial, bits) = first(words);
+    let capabilities = capabilities_of(bits)?;
+    put(
+        server,
+        Server::start_unlimited(alloc, number(serial)?, capabilities),
+    )?;
+    Ok(String::from_str(alloc, "started")?)
+}
+
+/// The capabilities of these bits.
+fn capabilities_of(bits: &str) -> Result<DeviceCapabilities, Stop>
+    ensures { IfOk result (λ capabilities. bits_of capabilities ≤ all_bits) }
+{
+    match DeviceCapabilities::from_bits(id(bits)?) {
+        Some(capabilities) => Ok(capabilities),
+        None => Err(Stop::Line),
+    }
+}
+
 /// Puts what was made into its place. Only want of memory keeps it from being made.
 fn put<T: Drop, E: Drop>(place: &mut Option<T>, made: Result<T, E>) -> Result<(), Stop> {
     match made {
@@ -37,12 +62,9 @@ fn setup_of(words: &str) -> Result<Setup, Stop>
 {
     let (serial, rest) = first(words);
     let (bits, pieces) = first(rest);
-    let Some(capabilities) = DeviceCapabilities::from_bits(id(bits)?) else {
-        return Err(Stop::Line);
-    };
     Ok(Setup {
         initial_serial: number(serial)?,
-        capabilities,
+        capabilities: capabilities_of(bits)?,
         pieces: number(pieces)?,
     })
 }

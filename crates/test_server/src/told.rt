@@ -1,6 +1,7 @@
 //! What a server tells.
 
 use ei_request::EisRequest;
+use ei_types::ContextType;
 use reis_report::{answer_text, request_line};
 use reis_server::Server;
 use std::alloc::Global;
@@ -51,6 +52,7 @@ pub(crate) fn told(alloc: Global, server: &Server, name: &str) -> Result<String,
         "unsent" => or_nothing(hex::encode(alloc, server.unsent())?),
         "unsent-handles" => number_text(alloc, server.unsent_handles().len()),
         "answer" => ended_text(alloc, server),
+        "client" => client_text(alloc, server),
         "over" => Ok(format!(in alloc; "{}", server.is_over())?),
         _ => Err(Stop::Line),
     }
@@ -67,6 +69,22 @@ fn ended_text(alloc: Global, server: &Server) -> Result<String, Stop> {
         Some(answer) => Ok(answer_text(alloc, answer)?),
         None => Ok(String::from_str(alloc, "goes on")?),
     }
+}
+
+/// Who the client is: its context type, and its name where it told one.
+fn client_text(alloc: Global, server: &Server) -> Result<String, Stop> {
+    let mut text = String::new(alloc);
+    if let Some(connection) = server.connection() {
+        text.push_str(match connection.context_type() {
+            ContextType::Receiver => "receiver",
+            ContextType::Sender => "sender",
+        })?;
+        if let Some(name) = connection.name() {
+            text.push(' ')?;
+            text.push_str(name)?;
+        }
+    }
+    or_nothing(text)
 }
 
 /// The text; `nothing` where it is empty.

@@ -1,6 +1,7 @@
 //! Why a program that tests stops.
 
-use ei_wire::NoMemory;
+use ei_types::Error;
+use ei_wire::{FlushError, NoMemory, ReadError, SendError};
 use hex::FromHexError;
 use std::alloc::{AllocError, AllocFailed};
 use std::io;
@@ -34,6 +35,30 @@ impl<T: Drop> From<AllocFailed<T>> for Stop {
 impl From<NoMemory> for Stop {
     fn from(_e: NoMemory) -> Stop {
         Stop::NoMemory
+    }
+}
+
+impl From<Error> for Stop {
+    fn from(_e: Error) -> Stop {
+        Stop::Call
+    }
+}
+
+impl From<ReadError> for Stop {
+    fn from(_e: ReadError) -> Stop {
+        Stop::Call
+    }
+}
+
+impl From<FlushError> for Stop {
+    fn from(_e: FlushError) -> Stop {
+        Stop::Call
+    }
+}
+
+impl From<SendError> for Stop {
+    fn from(_e: SendError) -> Stop {
+        Stop::Call
     }
 }
 

@@ -9,6 +9,11 @@ use std::io::{Input, Print};
 pub trait Answers {
     /// What the call answers.
     fn answer(&mut self, alloc: Global, call: &str) -> Result<String, Stop>;
+
+    /// Whether what was found is what is wanted: blanks at the ends don't count.
+    fn is_wanted(&self, _alloc: Global, found: &str, wanted: &str) -> Result<bool, Stop> {
+        Ok(found.trim_end() == wanted.trim_end())
+    }
 }
 
 /// How many lines of the table on the standard input are as they should be. Shows each one that isn't, above what was
@@ -44,7 +49,7 @@ where
     let call = names.expanded(call)?;
     let found = calls.answer(rt.alloc(), call.as_str())?;
     let wanted = names.expanded(wanted)?;
-    let right = found.as_str().trim_end() == wanted.as_str().trim_end();
+    let right = calls.is_wanted(rt.alloc(), found.as_str(), wanted.as_str())?;
     if !right {
         println!(rt; "wanted of {line}")?;
         println!(rt; "found  {found}")?;

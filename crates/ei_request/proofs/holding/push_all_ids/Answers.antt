@@ -5,7 +5,7 @@ use Rattle.ei_request.proofs.holding.push_all_ids.Goals as goal
 
 pub loop-seat-preserved : goal.loop-seat-preserved
 loop-seat-preserved c =
-    let devices = c.args.devices.now in
+    let devices = c.args.devices.now.items in
     let seats = c.args.seats.now in
     let i = c.loop-seat.seat-index in
     let s = c.seat-item.result in

@@ -1,9 +1,8 @@
-use Rattle.std.proofs.Common.{◌≡◌, ℕ, ◌+◌, ◌*◌, ◌≤◌, ◌++◌, take}
+use Rattle.std.proofs.Common.{◌≡◌, ◌+◌, ◌≤◌, ◌++◌, take}
 use Rattle.std.specs.Prelude.{vec_len, vec_capacity}
-use Rattle.ei_backend.specs.Backend.{unsent_of}
-use Rattle.ei_backend.specs.Outgoing.{HasSpare}
 use Rattle.ei_backend.specs.Endpoint.{endpoint_of}
 use Rattle.ei_request.specs.Connection.{version_in}
+use Rattle.ei_request.specs.Costs.{Spends, interfaces_cost}
 use Rattle.ei_request.specs.Making.{announces_all, objects_of}
 use Rattle.ei_request.proofs.MadeInTurn.{so_far}
 use Rattle.ei_request.proofs.making.interfaces.Given as goal
@@ -13,9 +12,7 @@ abbrev pub invariant-loop-one : goal.invariant-loop-one
 invariant-loop-one l = record {
   made : endpoint_of l.ctx ≡ announces_all (endpoint_of l.fn.ctx) (version_in l.versions) l.device.id (so_far l.allowed.given l.allowed.wanted (take l.one-index l.one-items));
   listed : l.objects.items ≡ l.fn.objects.items ++ objects_of (endpoint_of l.fn.ctx) (version_in l.versions) (so_far l.allowed.given l.allowed.wanted (take l.one-index l.one-items));
-  spare : (n h : ℕ) → HasSpare (n + 52 * l.one-index) h (unsent_of l.fn.ctx) l.fn.ctx.room → HasSpare n h (unsent_of l.ctx) l.ctx.room;
-  own_room : l.ctx.table.room ≡ l.fn.ctx.table.room;
+  spends : Spends (interfaces_cost (so_far l.allowed.given l.allowed.wanted (take l.one-index l.one-items))) l.fn.ctx l.ctx;
   len : vec_len l.objects ≤ vec_len l.fn.objects + l.one-index;
   capacity : vec_capacity l.objects ≡ vec_capacity l.fn.objects;
-  ring : l.ctx.capacity ≡ l.fn.ctx.capacity;
 }

@@ -1,11 +1,12 @@
-use Rattle.std.proofs.Common.{◌+◌, [], ◌∷◌, length, refl, ap, arith}
-use Rattle.ei_spec.specs.Value.{Letters, written}
-use Rattle.ei_backend.specs.Backend.{BackendView, unsent_of}
-use Rattle.ei_request.proofs.Rooms.{ok_at}
-use Rattle.ei_request.proofs.DeviceRooms.{spent_plain, text_size}
+use Rattle.std.proofs.Common.{[], ◌∷◌, Some, arith}
+use Rattle.ei_spec.specs.Value.{Letters}
+use Rattle.ei_request.specs.Costs.{name_cost}
+use Rattle.ei_request.proofs.Rooms.{ok_at, text_size}
+use Rattle.ei_request.proofs.Spending.{spends_sent}
 use Rattle.ei_request.proofs.making.tell_name.Goals as goal
 
-pub returns-clause-spare : goal.returns-clause-spare
-returns-clause-spare c = λ n h s.
-    let is = ok_at c.name.result c.unwrap.result c.unwrap.ensures c.name.ensures.sends.ok in
-    spent_plain c.args.ctx.now c.name.new.ctx c.args.device.now.id 1 (Letters c.args.name.now ∷ []) n h (16 + length (written (Letters c.args.name.now))) (ap unsent_of is) (ap (λ (b : BackendView). b.room) is) (omega (arith, text_size c.args.device.now.id 1 c.args.name.now)) refl s
+pub returns-in-Some-clause-spends : goal.returns-in-Some-clause-spends
+returns-in-Some-clause-spends c =
+    let id = c.args.device.now.id in
+    let name = c.in-Some.name.now in
+    rw c.in-Some.is (spends_sent (name_cost (Some name)) _ _ id 1 (Letters name ∷ []) (ok_at c.name.result c.unwrap.result c.unwrap.ensures c.name.ensures.sends.ok) (omega (arith, text_size id 1 name)) (omega arith))

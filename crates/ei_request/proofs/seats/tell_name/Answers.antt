@@ -1,8 +1,12 @@
-use Rattle.ei_request.proofs.Rooms.{ok_at}
-use Rattle.ei_request.proofs.SeatRooms.{spent_name}
+use Rattle.std.proofs.Common.{[], ◌∷◌, Some, arith}
+use Rattle.ei_spec.specs.Value.{Letters}
+use Rattle.ei_request.specs.Costs.{name_cost}
+use Rattle.ei_request.proofs.Rooms.{ok_at, text_size}
+use Rattle.ei_request.proofs.Spending.{spends_sent}
 use Rattle.ei_request.proofs.seats.tell_name.Goals as goal
 
-pub returns-in-Some-clause-spare : goal.returns-in-Some-clause-spare
-returns-in-Some-clause-spare c = λ n s.
-    spent_name c.args.ctx.now c.name.new.ctx c.args.seat.now.id n 0 c.in-Some.name.now
-    (ok_at c.name.result c.unwrap.result c.unwrap.ensures c.name.ensures.sends.ok) (rw c.in-Some.is at s)
+pub returns-in-Some-clause-spends : goal.returns-in-Some-clause-spends
+returns-in-Some-clause-spends c =
+    let id = c.args.seat.now.id in
+    let name = c.in-Some.name.now in
+    rw c.in-Some.is (spends_sent (name_cost (Some name)) _ _ id 1 (Letters name ∷ []) (ok_at c.name.result c.unwrap.result c.unwrap.ensures c.name.ensures.sends.ok) (omega (arith, text_size id 1 name)) (omega arith))

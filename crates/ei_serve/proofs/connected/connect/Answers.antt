@@ -1,6 +1,6 @@
 use Rattle.std.proofs.Common.{refl}
 use Rattle.std.proofs.lemmas.Result.{err_from_is_err_and}
-use Rattle.ei_serve.specs.Standing.{setup_of}
+use Rattle.ei_serve.specs.Standing.{terms_of}
 use Rattle.ei_serve.proofs.Lent.{sink_unsent}
 use Rattle.ei_serve.proofs.ConversingSeat.{unseated, connects, cuts_off}
 use Rattle.ei_serve.proofs.connected.connect.Goals as goal
@@ -8,17 +8,17 @@ use Rattle.ei_serve.proofs.connected.connect.Goals as goal
 pub returns-in_err-add_seat-clause-connects : goal.returns-in_err-add_seat-clause-connects
 returns-in_err-add_seat-clause-connects g c = λ before finish after handles off is over.
     let p = err_from_is_err_and c.from_residual.result c.from_residual.ensures.1 in
-    unseated (setup_of c.args.start.setup) before after handles c.args.resp c.args.context over finish _ c.new-converter.ensures _ c.handle_mut-handle.ensures.value _ _ _ _ _ p.1 p.2 c.in_err-add_seat.ensures.exhausted c.in_err-add_seat.ensures.long
+    unseated (terms_of c.args.start.terms) before after handles c.args.resp c.args.context over finish _ c.new-converter.ensures _ c.handle_mut-handle.ensures.value _ _ _ _ _ p.1 p.2 c.in_err-add_seat.ensures.exhausted c.in_err-add_seat.ensures.long
 
 pub returns-in_err-flush-clause-connects : goal.returns-in_err-flush-clause-connects
 returns-in_err-flush-clause-connects g c = λ before finish after handles off is over.
     let p = err_from_is_err_and c.from_residual-in_err-flush.result c.from_residual-in_err-flush.ensures.1 in
-    cuts_off (setup_of c.args.start.setup) before after handles c.args.resp c.args.context over finish _ c.new-converter.ensures _ c.handle_mut-handle.ensures.value c.args.start.setup.capabilities refl _ c.in_ok-add_seat.ensures.ok c.in_ok-add_seat.ensures.ring _ c.context_mut.ensures.value off is
+    cuts_off (terms_of c.args.start.terms) before after handles c.args.resp c.args.context over finish _ c.new-converter.ensures _ c.handle_mut-handle.ensures.value c.args.start.terms.capabilities refl _ c.in_ok-add_seat.ensures.ok c.in_ok-add_seat.ensures.ring _ c.context_mut.ensures.value off is
     _ _ _ _ _ _ c.in_err-flush.ensures.took p.1 p.2
 
 pub returns-clause-connects : goal.returns-clause-connects
 returns-clause-connects g c = λ before finish after handles off is over.
-    connects (setup_of c.args.start.setup) before after handles c.args.resp c.args.context over finish _ c.new-converter.ensures _ c.handle_mut-handle.ensures.value c.args.start.setup.capabilities refl _ c.in_ok-add_seat.ensures.ok c.in_ok-add_seat.ensures.ring _ c.context_mut.ensures.value off is
+    connects (terms_of c.args.start.terms) before after handles c.args.resp c.args.context over finish _ c.new-converter.ensures _ c.handle_mut-handle.ensures.value c.args.start.terms.capabilities refl _ c.in_ok-add_seat.ensures.ok c.in_ok-add_seat.ensures.ring _ c.context_mut.ensures.value off is
     c.flush.new.self _ _ c.in_ok-flush.ensures.stops c.in_ok-flush.ensures.kept c.in_ok-flush.ensures.took
 
 pub returns-in_err-add_seat-clause-sink : goal.returns-in_err-add_seat-clause-sink

@@ -1,20 +1,27 @@
-use Rattle.std.proofs.Common.{◌≡◌, ◌+◌, List, [], ◌∷◌, ◌++◌, length, ap, ◌∙◌, arith}
+use Rattle.std.proofs.Common.{◌≡◌, List, [], ◌∷◌, ◌++◌, ap, ◌∙◌, arith}
 use Rattle.std.specs.Option.{option_copied}
 use Rattle.ei_spec.specs.declared.interface.KnownInterface.TheVariants as known
 use Rattle.ei_spec.specs.Interface.{ObjectView}
 use Rattle.ei_backend.specs.Endpoint.{endpoint_of}
 use Rattle.ei_request.specs.Connection.{ConnectionView, version_in}
 use Rattle.ei_request.specs.Held.{DeviceView}
-use Rattle.ei_request.specs.Making.{granted, name_text, setup_room, begins_device}
+use Rattle.ei_request.specs.Costs.{begin_cost}
+use Rattle.ei_request.specs.Making.{granted_to, begins_device}
 use Rattle.ei_request.proofs.AddedDevice.{made_whole, adds_device, device_is, same_held}
-use Rattle.ei_request.proofs.DeviceRooms.{at_most}
+use Rattle.ei_request.proofs.Spending.{fits_within, fits_after}
+use Rattle.ei_request.proofs.TableRoom.{has_room}
 use Rattle.ei_request.proofs.connection.Connection.add_allowed.Goals as goal
 
-pub describe-requires-clause-room : goal.describe-requires-clause-room
-describe-requires-clause-room c =
-    let items = c.args.setup.now in
-    let t = length (name_text (option_copied c.args.name)) in
-    c.begin-proxy.ensures.spare (364 + (setup_room items + 16)) (length items) (at_most (444 + t + setup_room items) (364 + (setup_room items + 16) + (64 + t)) (length items) (length items) _ _ c.in_ok-make_room.ensures.room (omega arith) (omega arith))
+pub begin-proxy-requires-clause-fits : goal.begin-proxy-requires-clause-fits
+begin-proxy-requires-clause-fits c = fits_within _ (begin_cost (option_copied c.args.name)) _ c.in_ok-make_room.ensures.fits (omega arith) (omega arith) (omega arith)
+
+pub describe-requires-clause-fits : goal.describe-requires-clause-fits
+describe-requires-clause-fits c = fits_after _ (begin_cost (option_copied c.args.name)) _ _ _ c.in_ok-make_room.ensures.fits c.begin-proxy.ensures.spends (omega arith) (omega arith) (omega arith)
+
+pub push_reserved-requires : goal.push_reserved-requires
+push_reserved-requires c =
+    has_room c.reserve.new.self c.new.result c.args.allowed.given c.args.allowed.wanted (endpoint_of c.begin-proxy.new.ctx) (version_in c.self.inside.negotiated) c.in_ok-reserve.ensures.ok
+    (ap (λ (d : DeviceView). d.interfaces) c.new.ensures ∙ c.describe.ensures.objects)
 
 pub returns-clause-ok : goal.returns-clause-ok
 returns-clause-ok c =
@@ -25,7 +32,7 @@ returns-clause-ok c =
     let name = option_copied c.args.name in
     let kind = c.args.device_type in
     let items = c.args.setup.now in
-    let is = granted c.args.allowed.given c.args.allowed.wanted in
+    let is = granted_to c.args.allowed in
     let v = c.unwrap_or-version.result in
     let proxy = c.begin-proxy.result in
     let objects = c.describe.new.objects.items in

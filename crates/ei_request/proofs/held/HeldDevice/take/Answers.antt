@@ -2,8 +2,8 @@ use Rattle.std.proofs.Common.{◌≡◌, ℕ, Bool, true, false, cond, List, [],
 use Rattle.std.specs.Prelude.{OnOk, if◌then◌else◌}
 use Rattle.std.specs.List.{list_any}
 use Rattle.ei_request.specs.declared.input_error.InputError.{InputError}
-use Rattle.ei_request.specs.declared.input.Input.{Input}
-use Rattle.ei_request.specs.declared.input.Input.TheVariants as input
+use Rattle.ei_input.specs.declared.input_event.InputEvent.{InputEvent as Input}
+use Rattle.ei_input.specs.declared.input_event.InputEvent.TheVariants as input
 use Rattle.ei_request.specs.Held.{DeviceView, has_touch, with_input, without_touch, without_first}
 use Rattle.ei_request.proofs.FirstOnes.{without_any}
 use Rattle.ei_request.proofs.held.HeldDevice.take.Goals as goal

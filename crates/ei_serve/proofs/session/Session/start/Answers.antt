@@ -1,17 +1,12 @@
-use Rattle.std.proofs.Common.{[], refl, inr}
-use Rattle.ei_serve.specs.Standing.{setup_of}
-use Rattle.ei_serve.proofs.BetweenTurns.{holds_little, not_over}
-use Rattle.ei_serve.proofs.Running.{stands_for_none}
+use Rattle.std.proofs.Common.{◌≤◌, sym, subst, []}
+use Rattle.std.specs.Prelude.{IfOk}
+use Rattle.ei_session.specs.Setup.{Setup}
+use Rattle.ei_types.specs.Capability.{all_bits}
+use Rattle.ei_serve.specs.Standing.{Stands}
 use Rattle.ei_serve.proofs.session.Session.start.Goals as goal
 
-pub invariant_of-result : goal.invariant_of-result
-invariant_of-result g c = inr (record { setup = setup_of c.args.setup; pieces = []; times = []; stands = stands_for_none (setup_of c.args.setup) _ refl (c.in_ok-phase.ensures.stands (setup_of c.args.setup) c.requires.lawful refl) refl })
+pub start_on-requires : goal.start_on-requires
+start_on-requires g c = record { lawful = subst (λ (s : Setup). s.capabilities ≤ all_bits) (sym c.of.ensures) c.requires.lawful }
 
 pub returns-clause-stands : goal.returns-clause-stands
-returns-clause-stands g c = stands_for_none (setup_of c.args.setup) _ refl (c.in_ok-phase.ensures.stands (setup_of c.args.setup) c.requires.lawful refl) refl
-
-pub returns-clause-going : goal.returns-clause-going
-returns-clause-going g c = not_over (setup_of c.args.setup) [] [] _ (stands_for_none (setup_of c.args.setup) _ refl (c.in_ok-phase.ensures.stands (setup_of c.args.setup) c.requires.lawful refl) refl)
-
-pub returns-clause-little : goal.returns-clause-little
-returns-clause-little g c = holds_little _ (inr (record { setup = setup_of c.args.setup; pieces = []; times = []; stands = stands_for_none (setup_of c.args.setup) _ refl (c.in_ok-phase.ensures.stands (setup_of c.args.setup) c.requires.lawful refl) refl }))
+returns-clause-stands g c = subst (λ (s : Setup). IfOk c.start_on.result (λ session. Stands s [] [] session)) c.of.ensures c.start_on.ensures.stands

@@ -4,7 +4,7 @@ use Rattle.ei_types.specs.declared.error.Error.{Error}
 use Rattle.ei_session.specs.Served.{accepted, reading_of}
 use Rattle.ei_spec.specs.Piece.{stream}
 use Rattle.ei_serve.specs.Around.{around, no_source}
-use Rattle.ei_serve.specs.Standing.{setup_of}
+use Rattle.ei_serve.specs.Standing.{terms_of}
 use Rattle.ei_serve.proofs.Turns.{refused_as, found_end, handled, no_end_handled, with_setup}
 use Rattle.ei_serve.proofs.state.SessionState.answer.Goals as goal
 
@@ -21,10 +21,10 @@ returns-then-not-branch-clause-turns g c = λ setup pieces times before source s
 pub returns-clause-turns : goal.returns-clause-turns
 returns-clause-turns g c = λ setup pieces times before source source_new s took.
     let t = rw (c.in_ok-came.was, c.if-not-branch.false) at took in
-    let h = with_setup setup c.args.self.now.start.setup _ _ _ _ _ _ _ _ t.2.started (c.handle_messages.ensures.handles (accepted setup (stream pieces)) times ((reading_of setup (stream pieces)).rest ++ t.0.bytes) t.2.unread (rw t.2.started t.2.phase)) in
+    let h = with_setup setup c.args.self.now.start.terms _ _ _ _ _ _ _ _ t.2.started (c.handle_messages.ensures.handles (accepted setup (stream pieces)) times ((reading_of setup (stream pieces)).rest ++ t.0.bytes) t.2.unread (rw t.2.started t.2.phase)) in
     handled setup pieces times before c.args.self.now _ t.0 s t.2 source source_new t.1 (around no_source c.args.out.now.items _ _) (around no_source _ _ _) c.handle_messages.result refl refl h
 
 pub returns-clause-ends : goal.returns-clause-ends
 returns-clause-ends g c = λ setup pieces times before source source_new s took at.
     let t = rw (c.in_ok-came.was, c.if-not-branch.false) at took in
-    no_end_handled (setup_of c.args.self.now.start.setup) _ _ _ _ _ _ _ _ _ (c.handle_messages.ensures.handles (accepted setup (stream pieces)) times ((reading_of setup (stream pieces)).rest ++ t.0.bytes) t.2.unread (rw t.2.started t.2.phase)) at
+    no_end_handled (terms_of c.args.self.now.start.terms) _ _ _ _ _ _ _ _ _ (c.handle_messages.ensures.handles (accepted setup (stream pieces)) times ((reading_of setup (stream pieces)).rest ++ t.0.bytes) t.2.unread (rw t.2.started t.2.phase)) at

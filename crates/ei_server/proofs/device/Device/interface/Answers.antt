@@ -1,19 +1,10 @@
-use Rattle.std.proofs.Common.{rules, arith}
-use Rattle.ei_spec.proofs.Utf8.{is_text}
+use Rattle.std.proofs.Common.{◌≡◌, ap, ◌∙◌}
+use Rattle.ei_spec.specs.Interface.{Interface, ObjectView, name_of, named}
+use Rattle.ei_spec.specs.declared.interface.KnownInterface.{KnownInterface}
 use Rattle.ei_server.proofs.NamedKnown.{named_known}
 use Rattle.ei_server.proofs.device.Device.interface.Goals as goal
 
-pub returns : goal.returns
-returns g c =
-    let same = named_known g.T.Described.KNOWN in
-    record {
-      sends = record {
-        kinds = grind (arith, is_text);
-        ok = rw same (search rules);
-        object = rw same (search rules);
-        err = search rules;
-        exhausted = search rules;
-        not_long = search rules;
-        room = search rules;
-      };
-    }
+pub new_unchecked-requires : goal.new_unchecked-requires
+new_unchecked-requires g c =
+    ap (λ (o : ObjectView). o.interface) c.in_ok-object.ensures.sends.object
+    ∙ ap (λ (k : KnownInterface). named (name_of k)) c.KNOWN.ensures ∙ named_known g.T.Described.KNOWN

@@ -1,0 +1,6 @@
+pub mod Readings
+pub mod Turned
+pub mod Limits
+pub mod Places
+pub mod Sinces
+pub mod Rounds

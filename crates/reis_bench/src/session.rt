@@ -1,0 +1,129 @@
+//! The row `session`: a session over a client that asks for devices, releases the first of them, and sends input to the last.
+
+ghost use Rattle.std.specs.Prelude.{◌≡◌, ◌+◌, ◌*◌};
+
+use crate::row::Outcome;
+use crate::serving::serve_said;
+use crate::stream::push_versions;
+use ei_backend::{HasBackend, Tray};
+use ei_client::Context;
+use ei_types::{ContextType, Error};
+use ei_wire::Arg;
+use std::alloc::Global;
+
+/// The seat that the server announces.
+const SEAT: u64 = 0xff00000000000001;
+
+/// The first device that it makes.
+const DEVICE: u64 = 0xff00000000000002;
+
+/// A device takes so many ids: its own, and one for each of its seven interfaces.
+const IDS: u64 = 8;
+
+/// All seven capabilities.
+const ALL: u64 = 127;
+
+/// The interfaces that the handshake settles.
+const INTERFACES: u32 = 12;
+
+/// The numbers of a motion: 1.5 and -0.25.
+const X: u32 = 0x3fc00000;
+
+const Y: u32 = 0xbe800000;
+
+/// What a client does.
+#[derive(Clone, Copy)]
+pub(crate) struct Doing {
+    /// It asks for so many devices of all capabilities.
+    pub(crate) devices: u32,
+    /// It releases so many of them, from the first on.
+    pub(crate) released: u32,
+    /// Whether it sends a descriptor at first, which no request takes.
+    pub(crate) descriptor: bool,
+    /// It sends so many motions to the last device, each with a frame.
+    pub(crate) groups: u32,
+}
+
+/// Serves a client that does this.
+pub(crate) fn row(alloc: Global, doing: Doing) -> Result<Outcome, Error> {
+    let mut said = Tray::new(alloc);
+    let messages = say_session(alloc, doing, &mut said)?;
+    let replies = serve_said(alloc, said.bytes(), doing.descriptor)?;
+    Ok(Outcome::Served(messages, replies))
+}
+
+/// Says what such a client says. It answers how many messages that is.
+fn say_session(alloc: Global, doing: Doing, said: &mut Tray) -> Result<u64, Error> {
+    let mut context = Context::new(alloc)?;
+    push_opening(&mut context, said)?;
+    push_devices(&mut context, doing, said)?;
+    push_groups(&mut context, doing, said)?;
+    let opening = u64::from(INTERFACES) + 3;
+    let devices = u64::from(doing.devices) + u64::from(doing.released);
+    Ok(opening + devices + 1 + 2 * u64::from(doing.groups))
+}
+
+/// The id of the device at that place, from 0.
+fn device_id(place: u32) -> u64
+    ensures { result ≡ DEVICE + IDS * place }
+{
+    DEVICE + IDS * u64::from(place)
+}
+
+/// Sends the handshake of a client that sends input.
+fn push_opening(context: &mut Context, said: &mut Tray) -> Result<(), Error> {
+    let Some(handshake) = context.handshake() else {
+        return Ok(());
+    };
+    handshake.handshake_version(context, 1)?;
+    handshake.context_type(context, ContextType::Sender)?;
+    push_versions(context, INTERFACES, said)
+}
+
+/// Sends a message to an object that the server made.
+fn say(
+    context: &mut Context,
+    said: &mut Tray,
+    id: u64,
+    opcode: u32,
+    args: &[Arg<'_>],
+) -> Result<(), Error> {
+    context.backend_mut().request(id, opcode, args)?;
+    Ok(context.flush(said)?)
+}
+
+/// Binds the seat, which makes the first device, asks for the others, and releases the first ones.
+fn push_devices(context: &mut Context, doing: Doing, said: &mut Tray) -> Result<(), Error> {
+    say(context, said, SEAT, 1, &[Arg::Uint64(ALL)])?;
+    for _place in 1..doing.devices {
+        say(context, said, SEAT, 2, &[Arg::Uint64(ALL)])?;
+    }
+    push_releases(context, doing.released, said)
+}
+
+/// Releases so many devices, from the first on.
+fn push_releases(context: &mut Context, count: u32, said: &mut Tray) -> Result<(), Error> {
+    for place in 0..count {
+        say(context, said, device_id(place), 0, &[])?;
+    }
+    Ok(())
+}
+
+/// Begins to send input to the last device, and sends motions, each with a frame.
+fn push_groups(context: &mut Context, doing: Doing, said: &mut Tray) -> Result<(), Error> {
+    let device = device_id(doing.devices.saturating_sub(1));
+    let pointer = device + 1;
+    say(context, said, device, 1, &[Arg::Uint32(1), Arg::Uint32(1)])?;
+    for place in 0..doing.groups {
+        say(context, said, pointer, 1, &[Arg::Float(X), Arg::Float(Y)])?;
+        let time = u64::from(place);
+        say(
+            context,
+            said,
+            device,
+            3,
+            &[Arg::Uint32(1), Arg::Uint64(time)],
+        )?;
+    }
+    Ok(())
+}

@@ -1,0 +1,49 @@
+//! A server of several clients in one loop.
+
+use crate::outside::{Inbox, Outbox};
+use crate::stop::Stop;
+use ei_backend::Readings;
+use ei_hub::Hub;
+use ei_serve::Setup;
+use ei_types::DeviceCapabilities;
+use std::io::Print;
+
+/// Serves a client that sends these bytes and one that sends none, by turns, until each has its end, and shows how much each
+/// asked for.
+pub(crate) fn serve_clients<R: Print + AllocGlobal>(rt: &R, stream: &[u8]) -> Result<(), Stop> {
+    let setup = Setup {
+        initial_serial: 5,
+        capabilities: DeviceCapabilities::all(),
+        pieces: 200,
+    };
+    let mut clock = Readings::new(rt.alloc(), &[])?;
+    let mut hub = Hub::new(rt.alloc(), setup);
+    join(rt, &mut hub, stream)?;
+    join(rt, &mut hub, &[])?;
+    hub.serve_all(&mut clock);
+    show_clients(rt, &hub)
+}
+
+/// A client of this stream joins.
+fn join<'a, R: Print + AllocGlobal>(
+    rt: &R,
+    hub: &mut Hub<Inbox<'a>, Outbox>,
+    stream: &'a [u8],
+) -> Result<(), Stop> {
+    if let Err(refused) = hub.join(Inbox::new(stream), Outbox::new(rt.alloc())) {
+        println!(rt; "could not join: {}", refused.cause)?;
+    }
+    Ok(())
+}
+
+/// Shows how much each client asked for, and what its source has left.
+fn show_clients<R: Print>(rt: &R, hub: &Hub<Inbox<'_>, Outbox>) -> Result<(), Stop> {
+    for client in 0..hub.count() {
+        println!(rt;
+            "client {client} asked for {} things, and has {} bytes left",
+            hub.requests(client).len(),
+            hub.source(client).left()
+        )?;
+    }
+    Ok(())
+}
