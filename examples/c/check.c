@@ -1,6 +1,8 @@
 #include "check.h"
 
+#include <dirent.h>
 #include <stdio.h>
+#include <string.h>
 
 static unsigned long passed;
 static unsigned long failed;
@@ -28,6 +30,15 @@ int checked(const char *program) {
     return failed == 0 && passed > 0 ? 0 : 1;
 }
 
+size_t open_files(void) {
+    size_t count = 0;
+    DIR *folder = opendir("/proc/self/fd");
+    while (folder != NULL && readdir(folder) != NULL)
+        count++;
+    CHECK(folder != NULL && closedir(folder) == 0);
+    return count;
+}
+
 size_t load_all(struct worked *sessions, int count, char **paths) {
     if (count < 1 || count > MOST_SESSIONS)
         return 0;
@@ -38,4 +49,14 @@ size_t load_all(struct worked *sessions, int count, char **paths) {
         }
     }
     return (size_t)count;
+}
+
+const struct worked *named(const struct worked *sessions, size_t count, const char *name) {
+    for (size_t i = 0; i < count; i++) {
+        if (strcmp(sessions[i].name, name) == 0)
+            return &sessions[i];
+    }
+    checking(name, 0, 0);
+    CHECK(false);
+    return sessions;
 }

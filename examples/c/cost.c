@@ -4,7 +4,7 @@
  *     valgrind --tool=callgrind --toggle-collect=serve_all c-cost GROUPS
  *
  * With a second word, any, it writes the pieces as lines of hexadecimal digits in place of that, as `reis serve` reads them. */
-#include "reis_c.h"
+#include "reis.h"
 #include "worked.h"
 
 #include <stdio.h>
@@ -72,14 +72,13 @@ static void write_lines(const struct stream *stream) {
 
 /* Takes all that waits. How many requests that were. */
 static size_t take_all(reis_session *session) {
-    static uint8_t bytes[PIECE];
-    static uint32_t handles[REIS_MOST_HANDLES];
+    const uint8_t *bytes;
+    const uint32_t *handles;
     reis_request request;
     size_t count, handle_count;
     size_t requests = 0;
-    do {
-        reis_session_replies(session, bytes, PIECE, handles, REIS_MOST_HANDLES, &count, &handle_count);
-    } while (count > 0);
+    while (reis_session_unsent(session, &bytes, &count, &handles, &handle_count) == REIS_OK && count > 0)
+        reis_session_sent(session, count, handle_count);
     while (reis_session_next_request(session, &request) == REIS_OK)
         requests++;
     return requests;
@@ -90,12 +89,11 @@ size_t serve_all(const struct stream *stream);
 /* Serves the stream. How many requests were taken. */
 __attribute__((noinline)) size_t serve_all(const struct stream *stream) {
     reis_session session = {0};
-    static uint32_t handles[1];
     size_t requests = 0;
-    if (reis_session_start(&session, 1, REIS_ALL_CAPABILITIES, UINT32_MAX) != REIS_OK)
+    if (reis_session_start(&session, 1, REIS_ALL_CAPABILITIES, REIS_NO_PIECE_LIMIT) != REIS_OK)
         return 0;
     for (size_t at = 0; at < stream->count; at += PIECE) {
-        reis_session_feed(&session, stream->bytes + at, piece_at(stream, at), handles, 0, 0);
+        reis_session_feed(&session, stream->bytes + at, piece_at(stream, at), NULL, 0, 0);
         requests += take_all(&session);
     }
     reis_session_free(&session);

@@ -12,34 +12,27 @@ struct field {
     enum form form;
 };
 
-struct kind {
-    const char *name;
-    struct field fields[4];
-};
-
-static const struct kind kinds[] = {
-    [REIS_DISCONNECT] = {"disconnect", {{0}}},
-    [REIS_BIND] = {"bind", {{"capabilities", NUMBER}}},
-    [REIS_DEVICE_CLOSED] = {"device_closed", {{0}}},
-    [REIS_REQUEST_DEVICE] = {"request_device", {{"capabilities", NUMBER}}},
-    [REIS_FRAME] = {"frame", {{"serial", NUMBER}}},
-    [REIS_READY] = {"ready", {{0}}},
-    [REIS_START_EMULATING] = {"start_emulating", {{"serial", NUMBER}, {"sequence", NUMBER}}},
-    [REIS_STOP_EMULATING] = {"stop_emulating", {{"serial", NUMBER}}},
-    [REIS_POINTER_MOTION] = {"pointer_motion", {{"dx", DISTANCE}, {"dy", DISTANCE}}},
-    [REIS_POINTER_MOTION_ABSOLUTE] = {"pointer_motion_absolute", {{"x", DISTANCE}, {"y", DISTANCE}}},
-    [REIS_BUTTON_CHANGE] = {"button", {{"button", NUMBER}, {"state", STATE}}},
-    [REIS_SCROLL_DELTA] = {"scroll_delta", {{"dx", DISTANCE}, {"dy", DISTANCE}}},
-    [REIS_SCROLL_STOP] = {"scroll_stop", {{"x", AXIS}, {"y", AXIS}}},
-    [REIS_SCROLL_CANCEL] = {"scroll_cancel", {{"x", AXIS}, {"y", AXIS}}},
-    [REIS_SCROLL_DISCRETE] = {"scroll_discrete", {{"dx", STEPS}, {"dy", STEPS}}},
-    [REIS_KEY] = {"key", {{"key", NUMBER}, {"state", STATE}}},
-    [REIS_TOUCH_DOWN] = {"touch_down", {{"touch", NUMBER}, {"x", DISTANCE}, {"y", DISTANCE}}},
-    [REIS_TOUCH_MOTION] = {"touch_motion", {{"touch", NUMBER}, {"x", DISTANCE}, {"y", DISTANCE}}},
-    [REIS_TOUCH_UP] = {"touch_up", {{"touch", NUMBER}}},
-    [REIS_TOUCH_CANCEL] = {"touch_cancel", {{"touch", NUMBER}}},
-    [REIS_TEXT_KEYSYM] = {"text_keysym", {{"keysym", NUMBER}, {"state", STATE}}},
-    [REIS_TEXT_UTF8] = {"text_utf8", {{"text", TEXT}}},
+/* The fields of each kind. */
+static const struct field kinds[][3] = {
+    [REIS_KIND_BIND] = {{"capabilities", NUMBER}},
+    [REIS_KIND_REQUEST_DEVICE] = {{"capabilities", NUMBER}},
+    [REIS_KIND_FRAME] = {{"serial", NUMBER}},
+    [REIS_KIND_START_EMULATING] = {{"serial", NUMBER}, {"sequence", NUMBER}},
+    [REIS_KIND_STOP_EMULATING] = {{"serial", NUMBER}},
+    [REIS_KIND_POINTER_MOTION] = {{"dx", DISTANCE}, {"dy", DISTANCE}},
+    [REIS_KIND_POINTER_MOTION_ABSOLUTE] = {{"x", DISTANCE}, {"y", DISTANCE}},
+    [REIS_KIND_BUTTON] = {{"button", NUMBER}, {"state", STATE}},
+    [REIS_KIND_SCROLL_DELTA] = {{"dx", DISTANCE}, {"dy", DISTANCE}},
+    [REIS_KIND_SCROLL_STOP] = {{"x", AXIS}, {"y", AXIS}},
+    [REIS_KIND_SCROLL_CANCEL] = {{"x", AXIS}, {"y", AXIS}},
+    [REIS_KIND_SCROLL_DISCRETE] = {{"dx", STEPS}, {"dy", STEPS}},
+    [REIS_KIND_KEY] = {{"key", NUMBER}, {"state", STATE}},
+    [REIS_KIND_TOUCH_DOWN] = {{"touch", NUMBER}, {"x", DISTANCE}, {"y", DISTANCE}},
+    [REIS_KIND_TOUCH_MOTION] = {{"touch", NUMBER}, {"x", DISTANCE}, {"y", DISTANCE}},
+    [REIS_KIND_TOUCH_UP] = {{"touch", NUMBER}},
+    [REIS_KIND_TOUCH_CANCEL] = {{"touch", NUMBER}},
+    [REIS_KIND_TEXT_KEYSYM] = {{"keysym", NUMBER}, {"state", STATE}},
+    [REIS_KIND_TEXT_UTF8] = {{"text", TEXT}},
 };
 
 struct line {
@@ -58,7 +51,7 @@ static void add(struct line *line, const char *format, ...) {
 
 /* A client's text in hexadecimal digits: it may hold what a terminal obeys. */
 static void add_text(struct line *line, reis_session *session) {
-    uint8_t text[254];
+    uint8_t text[REIS_MOST_TEXT];
     size_t length = 0;
     if (reis_session_request_text(session, text, sizeof text, &length) != REIS_OK)
         return;
@@ -97,19 +90,16 @@ static void add_place(struct line *line, const reis_request *request) {
         add(line, " device=%" PRIx64, request->device);
     else if (request->seat != 0)
         add(line, " seat=%" PRIx64, request->seat);
-    if (request->kind == REIS_FRAME || request->kind >= REIS_POINTER_MOTION)
+    if (request->kind == REIS_KIND_FRAME || request->kind >= REIS_KIND_POINTER_MOTION)
         add(line, " time=%" PRIu64, request->time);
 }
 
 void describe(reis_session *session, const reis_request *request, char text[MOST_LINE]) {
     struct line line = {text, 0};
-    if (request->kind == 0 || request->kind >= sizeof kinds / sizeof kinds[0]) {
-        add(&line, "unknown kind=%" PRIu32, request->kind);
-        return;
-    }
-    const struct kind *kind = &kinds[request->kind];
-    add(&line, "%s", kind->name);
+    add(&line, "%s", reis_kind_name(request->kind));
     add_place(&line, request);
-    for (size_t i = 0; i < 4; i++)
-        add_field(&line, session, kind->fields[i], request->fields[i]);
+    if (request->kind >= sizeof kinds / sizeof kinds[0])
+        return;
+    for (size_t i = 0; i < 3; i++)
+        add_field(&line, session, kinds[request->kind][i], request->fields[i]);
 }

@@ -2,7 +2,7 @@
 #ifndef DESCRIBE_H
 #define DESCRIBE_H
 
-#include "reis_c.h"
+#include "reis.h"
 
 enum { MOST_LINE = 1024 };
 

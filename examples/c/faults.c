@@ -7,6 +7,7 @@
 
 #include <poll.h>
 #include <string.h>
+#include <sys/resource.h>
 #include <sys/socket.h>
 #include <sys/uio.h>
 #include <unistd.h>
@@ -16,6 +17,7 @@
 /* The client sends so many bytes, and the server takes and answers them. */
 static void play_front(struct play *play, const struct worked *worked, size_t count) {
     begin(play, worked, count, MOST_WORKED);
+    CHECK(connection_write(&play->connection) == TRANSFER_DONE);
     send_some(play);
     serve_some(play);
 }
@@ -28,7 +30,7 @@ static void test_closes_early(const struct worked *worked) {
     CHECK(take_some(&play) && play.got_count == 20 && is_front(&play));
     close(play.client);
     CHECK(connection_read(&play.connection, 0) == TRANSFER_DONE);
-    CHECK(connection_end(&play.connection) == REIS_ERROR_UNEXPECTED_EOF);
+    CHECK(connection_end(&play.connection) == REIS_END_ERROR_UNEXPECTED_EOF);
     CHECK(connection_write(&play.connection) == TRANSFER_DONE);
     connection_close(&play.connection);
 }
@@ -40,7 +42,7 @@ static void test_closes_unread(const struct worked *worked) {
     play_front(&play, worked, 41);
     close(play.client);
     CHECK(connection_read(&play.connection, 0) == TRANSFER_FAILED);
-    CHECK(connection_end(&play.connection) == REIS_GOES_ON);
+    CHECK(connection_end(&play.connection) == REIS_END_GOES_ON);
     connection_close(&play.connection);
 }
 
@@ -92,11 +94,14 @@ static size_t take_replies(struct play *play, size_t before) {
     return count > 0 ? (size_t)count : 0;
 }
 
-/* The server reads no further while its replies wait, and loses none of them. The session is the one that leaves. */
+/* The server reads no further while its replies wait, and loses none of them, though its socket takes a few kilobytes at a
+ * time. The session is the one that leaves. */
 static void test_takes_no_replies(const struct worked *worked) {
     static struct play play;
+    int least = 1;
     checking("takes no replies", 0, 0);
     play_front(&play, worked, worked->client_count - 16);
+    CHECK(setsockopt(play.connection.socket, SOL_SOCKET, SO_SNDBUF, &least, sizeof least) == 0);
     size_t sent = send_until_full(&play);
     CHECK(sent > 100 && sent < MOST_MESSAGES && connection_has_replies(&play.connection));
     size_t wanted = worked->server_count + sent * sizeof no_nine;
@@ -108,17 +113,17 @@ static void test_takes_no_replies(const struct worked *worked) {
     CHECK(got == wanted);
     send_some(&play);
     serve_some(&play);
-    CHECK(connection_end(&play.connection) == REIS_DISCONNECTED);
+    CHECK(connection_end(&play.connection) == REIS_END_DISCONNECTED);
     connection_close(&play.connection);
     close(play.client);
 }
 
 /* ---- descriptors ---- */
 
-enum { MANY_DESCRIPTORS = REIS_MOST_HANDLES + 1 };
+enum { MOST_PASSED = 253 /* as the kernel has it */, LIMIT = 64 };
 
 union control {
-    char room[CMSG_SPACE(MANY_DESCRIPTORS * sizeof(int))];
+    char room[CMSG_SPACE(MOST_PASSED * sizeof(int))];
     struct cmsghdr aligned;
 };
 
@@ -138,73 +143,46 @@ static void pass(int socket, uint8_t byte, int descriptor, size_t count) {
     CHECK(sendmsg(socket, &message, MSG_NOSIGNAL) == 1);
 }
 
-/* A pipe whose end for writing was passed to the server, and is open nowhere else. Its end for reading. */
-static int passed_pipe(struct play *play, size_t count) {
-    int ends[2];
-    CHECK(pipe(ends) == 0);
-    pass(play->client, play->worked->client[0], ends[1], count);
-    close(ends[1]);
-    return ends[0];
-}
-
 /* Whether the pipe's end for writing is closed everywhere: there are no bytes in it. */
 static bool is_closed(int pipe_end) {
     struct pollfd polled = {.fd = pipe_end, .events = POLLIN};
     return poll(&polled, 1, 0) == 1 && (polled.revents & POLLHUP) != 0;
 }
 
-/* What comes is kept by its number until the connection is closed. */
-static void test_descriptors(const struct worked *worked, size_t count) {
-    static struct play play;
-    checking("descriptors", count, 0);
-    begin(&play, worked, 1, MOST_WORKED);
-    int pipe_end = passed_pipe(&play, count);
-    enum transfer wanted = count > REIS_MOST_HANDLES ? TRANSFER_FAILED : TRANSFER_DONE;
-    CHECK(connection_read(&play.connection, 0) == wanted);
-    CHECK(connection_end(&play.connection) == REIS_GOES_ON);
-    CHECK(!is_closed(pipe_end));
-    connection_close(&play.connection);
-    CHECK(is_closed(pipe_end));
-    close(pipe_end);
-    close(play.client);
+/* The client passes a pipe's end for writing, so many times, with its next byte, and has it no more. The server's read leaves
+ * it open nowhere, and the session goes on. */
+static void pass_and_read(struct play *play, size_t count) {
+    int ends[2];
+    CHECK(pipe(ends) == 0);
+    pass(play->client, play->worked->client[play->sent++], ends[1], count);
+    close(ends[1]);
+    CHECK(!is_closed(ends[0]));
+    CHECK(connection_read(&play->connection, 0) == TRANSFER_DONE);
+    CHECK(is_closed(ends[0]));
+    CHECK(connection_end(&play->connection) == REIS_END_GOES_ON);
+    close(ends[0]);
 }
 
-/* The descriptor that came with the next byte; -1 where none did. */
-static int received_descriptor(int socket) {
-    uint8_t byte;
-    int descriptor = -1;
-    union control control;
-    struct iovec part = {&byte, 1};
-    struct msghdr message = {
-        .msg_iov = &part, .msg_iovlen = 1, .msg_control = &control, .msg_controllen = sizeof control};
-    CHECK(recvmsg(socket, &message, MSG_DONTWAIT) == 1);
-    struct cmsghdr *header = CMSG_FIRSTHDR(&message);
-    if (header != NULL && header->cmsg_len == CMSG_LEN(sizeof descriptor))
-        memcpy(&descriptor, CMSG_DATA(header), sizeof descriptor);
-    return descriptor;
-}
-
-/* A handle that goes out is passed with the first of its bytes, and is the client's alone then. No session hands one out
- * today: the test puts it beside the greeting. */
-static void test_passes_back(const struct worked *worked) {
+/* What is passed is closed as it comes, however much it is: here 5 times 253 where a process may have 64 open files. */
+static void test_descriptors(const struct worked *worked) {
     static struct play play;
-    checking("passes back", 0, 0);
-    begin(&play, worked, 1, MOST_WORKED);
-    int pipe_end = passed_pipe(&play, 1);
-    CHECK(connection_read(&play.connection, 0) == TRANSFER_DONE);
-    struct connection *connection = &play.connection;
-    connection->replies[0] = 0;
-    connection->end = 1;
-    connection->handles[0] = 0;
-    connection->handle_count = 1;
-    CHECK(connection_write(connection) == TRANSFER_DONE);
-    int descriptor = received_descriptor(play.client);
-    CHECK(descriptor != -1 && !is_closed(pipe_end));
-    close(descriptor);
-    CHECK(is_closed(pipe_end));
-    close(pipe_end);
-    connection_close(connection);
-    close(play.client);
+    struct rlimit before, few;
+    checking("descriptors", 0, 0);
+    CHECK(getrlimit(RLIMIT_NOFILE, &before) == 0);
+    few = before;
+    few.rlim_cur = LIMIT;
+    CHECK(setrlimit(RLIMIT_NOFILE, &few) == 0);
+    begin(&play, worked, MOST_WORKED, MOST_WORKED);
+    size_t open_before = open_files();
+    pass_and_read(&play, 1);
+    for (int i = 0; i < 5; i++)
+        pass_and_read(&play, MOST_PASSED);
+    CHECK(open_files() == open_before);
+    for (int turns = 0; turns < MOST_TURNS && turn(&play); turns++)
+        continue;
+    finish(&play);
+    CHECK(open_files() == open_before - 2);
+    CHECK(setrlimit(RLIMIT_NOFILE, &before) == 0);
 }
 
 /* ---- all ---- */
@@ -217,9 +195,6 @@ int main(int word_count, char **words) {
     test_closes_unread(&leaves);
     test_closes_before_replies(&leaves);
     test_takes_no_replies(&leaves);
-    test_descriptors(&leaves, 1);
-    test_descriptors(&leaves, REIS_MOST_HANDLES);
-    test_descriptors(&leaves, MANY_DESCRIPTORS);
-    test_passes_back(&leaves);
+    test_descriptors(&leaves);
     return checked("faults");
 }

@@ -1,5 +1,5 @@
 /* Sizes and offsets of what crosses the border, as the library has them. Nothing runs here: it is compiled. */
-#include "reis_c.h"
+#include "reis.h"
 
 _Static_assert(sizeof(void *) == 8, "a word has 8 bytes");
 _Static_assert(sizeof(size_t) == 8, "a count has 8 bytes");
@@ -18,3 +18,6 @@ _Static_assert(offsetof(reis_request, fields) == 32, "the fields");
 _Static_assert(sizeof(((reis_request *)0)->fields) == 32, "four of them");
 
 _Static_assert(sizeof(float) == 4, "a distance has 4 bytes");
+_Static_assert(offsetof(struct reis_touch, y) == 16, "each field of a view stands where one of the four does");
+
+_Static_assert(sizeof(reis_answer) == 4 && sizeof(reis_end) == 4 && sizeof(reis_context_type) == 4, "a number has 4 bytes");

@@ -1,16 +1,9 @@
 /* Tests of a server's connection over a socket pair: the worked sessions in odd cuts, with replies that are taken a few bytes
- * at a time; two at once; and the loop of one client.
+ * at a time, and two at once.
  *
  *     pair SESSION .. */
 #include "check.h"
-#include "describe.h"
-#include "loop.h"
 #include "play.h"
-
-#include <stdio.h>
-#include <string.h>
-#include <sys/socket.h>
-#include <unistd.h>
 
 /* ---- the worked sessions ---- */
 
@@ -49,40 +42,6 @@ static void test_two(const struct worked *one, const struct worked *other) {
     finish(&second);
 }
 
-/* ---- the loop of one client ---- */
-
-static struct play *looped;
-
-void act(reis_session *session, const reis_request *request) {
-    char line[MOST_LINE];
-    describe(session, request, line);
-    note_line(looped, line);
-}
-
-uint64_t now(void) {
-    return looped->worked->time;
-}
-
-/* All is sent before it begins, and what it replies is read when it is done. Its seat offers all capabilities. */
-static void test_loop(const struct worked *worked) {
-    static struct play play;
-    int ends[2];
-    checking(worked->name, 0, 0);
-    memset(&play, 0, sizeof play);
-    play.worked = worked;
-    play.take = MOST_WORKED;
-    looped = &play;
-    CHECK(socketpair(AF_UNIX, SOCK_STREAM, 0, ends) == 0);
-    play.client = ends[0];
-    CHECK(send(ends[0], worked->client, worked->client_count, MSG_NOSIGNAL) == (ssize_t)worked->client_count);
-    CHECK(shutdown(ends[0], SHUT_WR) == 0);
-    CHECK(serve_client(ends[1], worked->serial) == worked->end);
-    CHECK(take_some(&play) && play.got_count == worked->server_count && is_front(&play));
-    CHECK(strcmp(play.requests, worked->requests) == 0);
-    close(ends[0]);
-    close(ends[1]);
-}
-
 /* ---- all ---- */
 
 int main(int word_count, char **words) {
@@ -90,7 +49,6 @@ int main(int word_count, char **words) {
     size_t count = load_all(sessions, word_count - 1, words + 1);
     for (size_t i = 0; i < count; i++) {
         test_worked(&sessions[i]);
-        test_loop(&sessions[i]);
         for (size_t j = 0; j < count; j++)
             test_two(&sessions[i], &sessions[j]);
     }

@@ -30,13 +30,14 @@ void send_some(struct play *play) {
         ssize_t sent = send(play->client, worked->client + play->sent, count, MSG_NOSIGNAL | MSG_DONTWAIT);
         CHECK(sent == (ssize_t)count);
         play->sent += count;
-    } else if (!play->closed && (worked->end == REIS_END_OF_INPUT || worked->end == REIS_ERROR_UNEXPECTED_EOF)) {
+    } else if (!play->closed && (worked->end == REIS_END_END_OF_INPUT || worked->end == REIS_END_ERROR_UNEXPECTED_EOF)) {
         CHECK(shutdown(play->client, SHUT_WR) == 0);
         play->closed = true;
     }
 }
 
-void note_line(struct play *play, const char *line) {
+/* Adds the line of a request. */
+static void note_line(struct play *play, const char *line) {
     size_t room = MOST_WORKED - play->request_length;
     int count = snprintf(play->requests + play->request_length, room, "%s\n", line);
     CHECK(count > 0 && (size_t)count < room);
@@ -56,7 +57,7 @@ static void note_requests(struct play *play) {
 
 void serve_some(struct play *play) {
     struct connection *connection = &play->connection;
-    if (!connection_has_replies(connection) && connection_end(connection) == REIS_GOES_ON) {
+    if (!connection_has_replies(connection) && connection_end(connection) == REIS_END_GOES_ON) {
         CHECK(connection_read(connection, play->worked->time) != TRANSFER_FAILED);
         note_requests(play);
     }
@@ -80,7 +81,7 @@ bool turn(struct play *play) {
     send_some(play);
     serve_some(play);
     bool took = take_some(play);
-    return took || connection_has_replies(&play->connection) || connection_end(&play->connection) == REIS_GOES_ON;
+    return took || connection_has_replies(&play->connection) || connection_end(&play->connection) == REIS_END_GOES_ON;
 }
 
 void finish(struct play *play) {
@@ -90,7 +91,7 @@ void finish(struct play *play) {
     CHECK(play->got_count == worked->server_count && is_front(play));
     CHECK(strcmp(play->requests, worked->requests) == 0);
     CHECK(connection_end(&play->connection) == worked->end);
-    uint32_t answer = reis_session_end_text(&play->connection.session, text, sizeof text, &length);
+    reis_answer answer = reis_session_end_text(&play->connection.session, text, sizeof text, &length);
     CHECK(answer == (worked->text[0] == 0 ? REIS_NOTHING : REIS_OK));
     CHECK(length == strlen(worked->text) && memcmp(text, worked->text, length) == 0);
     connection_close(&play->connection);

@@ -27,9 +27,6 @@ void begin(struct play *play, const struct worked *worked, size_t cut, size_t ta
 /* The client sends the next bytes; behind the last it says that no more come, where the session is to end so. */
 void send_some(struct play *play);
 
-/* Adds the line of a request. */
-void note_line(struct play *play, const char *line);
-
 /* The server reads where it has written all, and writes. */
 void serve_some(struct play *play);
 

@@ -2,18 +2,18 @@
  *
  *     server PATH SERIAL CAPABILITIES [CLIENTS]
  *
- * It ends when so many clients are done; without that number it goes on. */
+ * It ends when so many clients are done; without that number it goes on until it is told to end, by SIGTERM or SIGINT. */
 #include "connection.h"
 #include "describe.h"
+#include "listen.h"
 
 #include <errno.h>
 #include <inttypes.h>
 #include <poll.h>
+#include <signal.h>
 #include <stdio.h>
 #include <stdlib.h>
-#include <string.h>
 #include <sys/socket.h>
-#include <sys/un.h>
 #include <time.h>
 #include <unistd.h>
 
@@ -35,7 +35,7 @@ struct server {
     struct client clients[MOST_CLIENTS];
 };
 
-/* Microseconds. */
+/* The clock of the protocol, in microseconds. */
 static uint64_t now(void) {
     struct timespec time;
     clock_gettime(CLOCK_MONOTONIC, &time);
@@ -64,10 +64,10 @@ static void leave(struct server *server, struct client *client) {
 
 /* Prints how the session ended. The name of an interface in an error's text is the client's: what isn't a letter, a digit or
  * a sign of ASCII is shown as a question mark. */
-static void tell_end(struct client *client, uint32_t end) {
+static void tell_end(struct client *client, reis_end end) {
     uint8_t text[512];
     size_t length = 0;
-    printf("client %u: end %" PRIu32, client->number, end);
+    printf("client %u: end %d", client->number, (int)end);
     if (reis_session_end_text(&client->connection.session, text, sizeof text, &length) == REIS_OK) {
         printf(" ");
         for (size_t i = 0; i < length; i++)
@@ -79,11 +79,11 @@ static void tell_end(struct client *client, uint32_t end) {
 /* Writes what waits. The client leaves where it can't be written to, and where its session is over and all is written. */
 static void write_to(struct server *server, struct client *client) {
     enum transfer written = connection_write(&client->connection);
-    uint32_t end = connection_end(&client->connection);
+    reis_end end = connection_end(&client->connection);
     if (written == TRANSFER_FAILED) {
         printf("client %u: it can't be written to\n", client->number);
         leave(server, client);
-    } else if (written == TRANSFER_DONE && end != REIS_GOES_ON) {
+    } else if (written == TRANSFER_DONE && end != REIS_END_GOES_ON) {
         tell_end(client, end);
         leave(server, client);
     }
@@ -102,7 +102,7 @@ static void read_from(struct server *server, struct client *client) {
 }
 
 /* Nothing is read while replies wait to be written: so a client that takes none can't fill the memory. */
-static short wanted(const struct client *client) {
+static short wanted(struct client *client) {
     return connection_has_replies(&client->connection) ? POLLOUT : POLLIN;
 }
 
@@ -130,9 +130,9 @@ static void accept_client(struct server *server) {
         server->rests = true;
         return;
     }
-    uint32_t started = connection_open(&client->connection, socket, server->serial, server->capabilities);
+    reis_answer started = connection_open(&client->connection, socket, server->serial, server->capabilities);
     if (started != REIS_OK) {
-        fprintf(stderr, "no session: %" PRIu32 "\n", started);
+        fprintf(stderr, "no session: %s\n", reis_answer_name(started));
         return;
     }
     client->here = true;
@@ -140,10 +140,14 @@ static void accept_client(struct server *server) {
     write_to(server, client);
 }
 
-/* Waits until something can be done at a socket: those of the clients, and the listener behind them. Whether that went well. */
+/* Waits until something can be done at a socket: those of the clients, and the listener behind them. Signals that end the
+ * server come only here. Whether something can be done. */
 static bool wait_for(struct server *server, struct pollfd polled[MOST_CLIENTS + 1]) {
+    static const struct timespec second = {1, 0};
+    sigset_t none;
+    sigemptyset(&none);
     for (size_t i = 0; i < MOST_CLIENTS; i++) {
-        const struct client *client = &server->clients[i];
+        struct client *client = &server->clients[i];
         polled[i].fd = client->here ? client->connection.socket : -1;
         polled[i].events = client->here ? wanted(client) : 0;
         polled[i].revents = 0;
@@ -151,35 +155,50 @@ static bool wait_for(struct server *server, struct pollfd polled[MOST_CLIENTS + 
     polled[MOST_CLIENTS].fd = !server->rests && free_place(server) != NULL ? server->listener : -1;
     polled[MOST_CLIENTS].events = POLLIN;
     polled[MOST_CLIENTS].revents = 0;
-    int patience = server->rests ? 1000 : -1;
+    const struct timespec *patience = server->rests ? &second : NULL;
     server->rests = false;
-    return poll(polled, MOST_CLIENTS + 1, patience) >= 0;
+    return ppoll(polled, MOST_CLIENTS + 1, patience, &none) >= 0;
 }
 
-/* Waits, and does what can be done. Whether that went well. */
-static bool serve_turn(struct server *server) {
+/* Waits, and does what can be done. */
+static void serve_turn(struct server *server) {
     struct pollfd polled[MOST_CLIENTS + 1];
     if (!wait_for(server, polled))
-        return errno == EINTR;
+        return;
     for (size_t i = 0; i < MOST_CLIENTS; i++) {
         if (polled[i].revents != 0)
             turn(server, &server->clients[i]);
     }
     if (polled[MOST_CLIENTS].revents != 0)
         accept_client(server);
-    return true;
 }
 
-/* A socket that listens on the path; -1 where there is none. */
-static int listen_on(const char *path) {
-    struct sockaddr_un name = {.sun_family = AF_UNIX};
-    if (strlen(path) >= sizeof name.sun_path)
-        return -1;
-    strcpy(name.sun_path, path);
-    int listener = socket(AF_UNIX, SOCK_STREAM | SOCK_CLOEXEC, 0);
-    if (listener != -1 && bind(listener, (struct sockaddr *)&name, sizeof name) == 0 && listen(listener, 16) == 0)
-        return listener;
-    return -1;
+/* ---- its end ---- */
+
+static volatile sig_atomic_t told_to_end;
+
+static void tell_to_end(int signal) {
+    (void)signal;
+    told_to_end = 1;
+}
+
+/* Keeps the two signals back until wait_for lets them come. */
+static void take_signals(void) {
+    struct sigaction action = {.sa_handler = tell_to_end};
+    sigset_t both;
+    sigemptyset(&both);
+    sigaddset(&both, SIGTERM);
+    sigaddset(&both, SIGINT);
+    sigprocmask(SIG_BLOCK, &both, NULL);
+    sigaction(SIGTERM, &action, NULL);
+    sigaction(SIGINT, &action, NULL);
+}
+
+static void close_all(struct server *server) {
+    for (size_t i = 0; i < MOST_CLIENTS; i++) {
+        if (server->clients[i].here)
+            leave(server, &server->clients[i]);
+    }
 }
 
 int main(int count, char **words) {
@@ -188,21 +207,20 @@ int main(int count, char **words) {
         fprintf(stderr, "usage: server PATH SERIAL CAPABILITIES [CLIENTS]\n");
         return 2;
     }
+    if (!reis_version_matches()) {
+        fprintf(stderr, "libreis is of another version than " REIS_VERSION_TEXT ": 0x%06" PRIx32 "\n", reis_version());
+        return 1;
+    }
     server.serial = (uint32_t)strtoul(words[2], NULL, 10);
     server.capabilities = strtoull(words[3], NULL, 10);
     unsigned long most = count == 5 ? strtoul(words[4], NULL, 10) : 0;
+    take_signals();
     server.listener = listen_on(words[1]);
-    if (server.listener == -1) {
-        perror(words[1]);
+    if (server.listener == -1)
         return 1;
-    }
-    while (most == 0 || server.done < most) {
-        if (!serve_turn(&server)) {
-            perror("poll");
-            return 1;
-        }
-    }
-    close(server.listener);
-    unlink(words[1]);
+    while (!told_to_end && (most == 0 || server.done < most))
+        serve_turn(&server);
+    close_all(&server);
+    listen_no_more(server.listener, words[1]);
     return 0;
 }

@@ -1,0 +1,405 @@
+/* A server's session of the ei protocol, for a program with a loop of its own: a compositor, which owns its sockets.
+ *
+ * Nothing here reads or writes a socket, looks at a clock or waits. The program hands in what it read from a client, with
+ * the time; writes out the bytes and handles that wait for that client; and takes the client's requests one by one. A session
+ * is one client's: a program has as many of them as it has clients.
+ *
+ *     reis_session session = {0};
+ *     reis_session_start(&session, serial, REIS_ALL_CAPABILITIES, REIS_NO_PIECE_LIMIT);
+ *     at each turn of the loop:
+ *         write what reis_session_unsent lends, and say with reis_session_sent how much of it the socket took;
+ *         act on each request that reis_session_next_request hands out, until it answers REIS_NOTHING;
+ *         reis_session_end tells whether the session is over: then close the socket and call reis_session_free;
+ *         read from the socket, and call reis_session_feed, or reis_session_end_of_input where nothing more comes.
+ *
+ * Who owns what. The program owns the `reis_session`, which is one word, and every buffer. No call keeps a pointer that
+ * it was given. What a session needs beside its word it takes from the heap, and reis_session_free gives it back. What
+ * reis_session_unsent lends is the session's.
+ *
+ * Threads. A session stays on the thread that started it, and one call at a time is made on it. Sessions on other threads
+ * don't disturb it. No call is made in a signal handler, or in the forked child of a process with threads.
+ *
+ * What no call can test, and what the program must see to:
+ *   - a pointer that isn't NULL points to what its type says, as many items of it as the count beside it, which nothing else
+ *     uses during the call; no two parameters of one call overlap;
+ *   - a `reis_session` is all zero before reis_session_start, and is changed by these calls alone. It may be moved to
+ *     another place, and then the old word is not used any more: two copies of one word, both used, are as wrong as memory
+ *     that is freed twice;
+ *   - what reis_session_unsent lends is read before the next call on the session, and never written.
+ * Everything else is answered, and each answer but REIS_OK leaves the session as it was. A pointer may be NULL where the
+ * count beside it is 0; any other NULL is answered by REIS_NULL, and then nothing is written anywhere.
+ *
+ * Numbers to come. A later library of the same version number but for its last part may know more kinds of requests and more
+ * ends than this header: a kind that isn't named here is to be passed over, and an end that isn't named is an error.
+ *
+ * Linking. libreis.a and libreis.so want the C library alone. A program that has a heap of its own includes reis_heap.h.
+ *
+ * C11 or C++11; x86-64, with the instructions of x86-64-v2, as the processors since 2009 have them.
+ */
+#ifndef REIS_H
+#define REIS_H
+
+#include <stddef.h>
+#include <stdint.h>
+#include <string.h>
+
+#if !defined(__x86_64__) || defined(__ILP32__)
+#error "libreis is built for x86-64, with pointers of eight bytes, and for nothing else"
+#endif
+
+/* An enum of 32 bits. Any number may stand in it, also one without a name here. */
+#if defined(__cplusplus) || (defined(__STDC_VERSION__) && __STDC_VERSION__ >= 202311L)
+#define REIS_ENUM(name) enum name : uint32_t
+#else
+#define REIS_ENUM(name) enum name
+#endif
+
+/* A field of a request: it stands where a number of eight bytes would. */
+#ifdef __cplusplus
+#define REIS_FIELD alignas(8)
+#else
+#define REIS_FIELD _Alignas(8)
+#endif
+
+#ifdef __cplusplus
+extern "C" {
+#endif
+
+/* ---- the version ---- */
+
+#define REIS_VERSION_MAJOR 0
+#define REIS_VERSION_MINOR 1
+#define REIS_VERSION_PATCH 0
+
+/* The version of this header as one number, and as a text. */
+#define REIS_VERSION ((REIS_VERSION_MAJOR << 16) | (REIS_VERSION_MINOR << 8) | REIS_VERSION_PATCH)
+#define REIS_VERSION_TEXT "0.1.0"
+
+/* The version of the library, as a number like REIS_VERSION. */
+uint32_t reis_version(void);
+
+/* Whether the library fits this header: the first two parts of their versions are the same. A program asks it once, before
+ * its first session, where the library is loaded when the program is run. */
+static inline int reis_version_matches(void) {
+    return reis_version() >> 8 == REIS_VERSION >> 8;
+}
+
+/* ---- what crosses ---- */
+
+/* A session, or none where it is all zero. */
+typedef struct reis_session {
+    uint8_t *at;
+} reis_session;
+
+/* What a call answers. Where it isn't REIS_OK, nothing changed but the counts and lengths that the call says. */
+typedef REIS_ENUM(reis_answer) {
+    REIS_OK = 0,               /* it did what it says */
+    REIS_NO_SESSION = 1,       /* there is no session: none was started, or it was freed */
+    REIS_HAS_SESSION = 2,      /* start: a session is there already */
+    REIS_CAPABILITIES = 3,     /* start: a bit outside REIS_ALL_CAPABILITIES */
+    REIS_NO_MEMORY = 4,        /* memory ran out */
+    REIS_OVER = 5,             /* feed, end_of_input: the session is over */
+    REIS_EMPTY = 6,            /* feed: no byte */
+    REIS_TOO_LONG = 7,         /* feed: more than REIS_MOST_BYTES */
+    REIS_TOO_MANY_HANDLES = 8, /* feed: more than REIS_MOST_HANDLES */
+    REIS_NOTHING = 9,          /* there is no further request, no text, or no connection */
+    REIS_NO_ROOM = 10,         /* the text has more bytes than there is room for */
+    REIS_NOT_UNSENT = 11,      /* sent: so much doesn't wait */
+    REIS_NULL = 12             /* a pointer is NULL, and the count beside it, if it has one, isn't 0 */
+} reis_answer;
+
+/* The most that reis_session_feed takes at a time, and the most bytes of the text of a request. */
+enum { REIS_MOST_BYTES = 65536, REIS_MOST_HANDLES = 64, REIS_MOST_TEXT = 254 };
+
+/* In place of the most pieces that a session takes: it takes as many as come. */
+#define REIS_NO_PIECE_LIMIT 0xffffffffu
+
+/* Bits of a mask. */
+typedef REIS_ENUM(reis_capability) {
+    REIS_CAPABILITY_POINTER = 1,
+    REIS_CAPABILITY_POINTER_ABSOLUTE = 2,
+    REIS_CAPABILITY_KEYBOARD = 4,
+    REIS_CAPABILITY_TOUCH = 8,
+    REIS_CAPABILITY_SCROLL = 16,
+    REIS_CAPABILITY_BUTTON = 32,
+    REIS_CAPABILITY_TEXT = 64,
+    REIS_ALL_CAPABILITIES = 127
+} reis_capability;
+
+/* What a client is: it takes input events, or it sends them. The requests with a time are those of a sender. */
+typedef REIS_ENUM(reis_context_type) {
+    REIS_CONTEXT_RECEIVER = 1,
+    REIS_CONTEXT_SENDER = 2
+} reis_context_type;
+
+/* ---- a session ---- */
+
+/* Starts a session in a word that is zero. Its greeting waits to be written. `serial` is the serial that the connection
+ * bears at first, `capabilities` what its one seat offers, `pieces` the most pieces that it takes, where one more ends it,
+ * or REIS_NO_PIECE_LIMIT.
+ * REIS_OK, REIS_HAS_SESSION, REIS_CAPABILITIES, REIS_NO_MEMORY, REIS_NULL. */
+reis_answer reis_session_start(reis_session *session, uint32_t serial, uint64_t capabilities, uint32_t pieces);
+
+/* Hands in one piece of what came from the client: 1 to REIS_MOST_BYTES bytes, cut anywhere, and the numbers of the at
+ * most REIS_MOST_HANDLES descriptors that came with them. A handle is a number of the program's own choice. No request of
+ * a client takes a descriptor: a program may close each as it comes, and hand in no handles.
+ * `time` is that of each frame that the server makes itself while it handles the piece. It is in microseconds of
+ * CLOCK_MONOTONIC, as every time of this protocol.
+ * REIS_OK, REIS_NO_SESSION, REIS_OVER, REIS_EMPTY, REIS_TOO_LONG, REIS_TOO_MANY_HANDLES, REIS_NULL. REIS_OK says that the
+ * piece was taken; it may have ended the session: see reis_session_end. */
+reis_answer reis_session_feed(reis_session *session, const uint8_t *bytes, size_t count, const uint32_t *handles,
+                              size_t handle_count, uint64_t time);
+
+/* Says that no more comes from the client, as read answers 0. The session is over then.
+ * REIS_OK, REIS_NO_SESSION, REIS_OVER, REIS_NULL. */
+reis_answer reis_session_end_of_input(reis_session *session);
+
+/* Lends all bytes and handles that wait to be written to the client. They stay where they are until the next call on the
+ * session, and wait until reis_session_sent counts them. The handles are to be passed with the first of the bytes. It works
+ * after the end too.
+ * REIS_OK, REIS_NO_SESSION, REIS_NULL. Where nothing waits, and where there is no session, the counts are 0 and the pointers
+ * NULL. */
+reis_answer reis_session_unsent(reis_session *session, const uint8_t **bytes, size_t *count, const uint32_t **handles,
+                                size_t *handle_count);
+
+/* Says that the first so many bytes and handles were written: they wait no more.
+ * REIS_OK, REIS_NO_SESSION, REIS_NULL. REIS_NOT_UNSENT: so many don't wait, and all wait still. */
+reis_answer reis_session_sent(reis_session *session, size_t bytes, size_t handles);
+
+/* Tells who the client is, while its connection stands: what it is, and its name, without a zero behind it. The length is that
+ * of the name in bytes, 0 where the client gave none. It is UTF-8, and the client's own choice.
+ * REIS_OK. REIS_NO_ROOM: the name isn't written, the type and the length are. REIS_NOTHING, with type and length 0: no
+ * connection stands, since the handshake isn't done, or the session is over. REIS_NO_SESSION, with type and length 0.
+ * REIS_NULL. */
+reis_answer reis_session_client(reis_session *session, reis_context_type *context_type, uint8_t *name, size_t room,
+                                size_t *length);
+
+/* Ends the session where it still goes on, and gives its memory back: the word is zero. What waits is lost.
+ * REIS_OK, REIS_NO_SESSION, REIS_NULL. */
+reis_answer reis_session_free(reis_session *session);
+
+/* ---- requests ---- */
+
+/* The kinds, each with the view of a reis_request that has its fields. All kinds but REIS_KIND_DISCONNECT have a seat; all but
+ * REIS_KIND_DISCONNECT, REIS_KIND_BIND and REIS_KIND_REQUEST_DEVICE have a device. REIS_KIND_FRAME and all from
+ * REIS_KIND_POINTER_MOTION on have a time: an input bears the time of its frame, which comes right behind the inputs that
+ * belong to it. */
+typedef REIS_ENUM(reis_kind) {
+    REIS_KIND_DISCONNECT = 1,               /* the client ends the connection */
+    REIS_KIND_BIND = 2,                     /* bind: it wants devices of these capabilities */
+    REIS_KIND_DEVICE_CLOSED = 3,            /* it wants the device no more */
+    REIS_KIND_REQUEST_DEVICE = 4,           /* request_device: it asks for one more device with these */
+    REIS_KIND_FRAME = 5,                    /* frame: the inputs of the device before it belong together */
+    REIS_KIND_READY = 6,                    /* it has taken note of the device */
+    REIS_KIND_START_EMULATING = 7,          /* start_emulating: it begins to send input of the device */
+    REIS_KIND_STOP_EMULATING = 8,           /* stop_emulating: it sends no more */
+    REIS_KIND_POINTER_MOTION = 9,           /* pointer_motion */
+    REIS_KIND_POINTER_MOTION_ABSOLUTE = 10, /* pointer_motion_absolute: in a region */
+    REIS_KIND_BUTTON = 11,                  /* button */
+    REIS_KIND_SCROLL_DELTA = 12,            /* scroll_delta */
+    REIS_KIND_SCROLL_STOP = 13,             /* scroll_stop: scrolling stopped */
+    REIS_KIND_SCROLL_CANCEL = 14,           /* scroll_cancel: it stopped, and nothing may scroll on by itself */
+    REIS_KIND_SCROLL_DISCRETE = 15,         /* scroll_discrete */
+    REIS_KIND_KEY = 16,                     /* key */
+    REIS_KIND_TOUCH_DOWN = 17,              /* touch_down: it begins there */
+    REIS_KIND_TOUCH_MOTION = 18,            /* touch_motion: it moved there */
+    REIS_KIND_TOUCH_UP = 19,                /* touch_up: it ended */
+    REIS_KIND_TOUCH_CANCEL = 20,            /* touch_cancel: it ended and is not to count */
+    REIS_KIND_TEXT_KEYSYM = 21,             /* text_keysym */
+    REIS_KIND_TEXT_UTF8 = 22                /* text_utf8: see reis_session_request_text */
+} reis_kind;
+
+/* The views of the fields. A state is 1 where it goes down and 0 where it goes up. */
+struct reis_capabilities { /* a mask of reis_capability */
+    REIS_FIELD uint64_t capabilities;
+};
+struct reis_serial { /* the last serial of the server that the client knew of */
+    REIS_FIELD uint32_t last_serial;
+};
+struct reis_sequence { /* the client's number of this stretch of input */
+    REIS_FIELD uint32_t last_serial;
+    REIS_FIELD uint32_t sequence;
+};
+struct reis_distance { /* in logical pixels */
+    REIS_FIELD float dx;
+    REIS_FIELD float dy;
+};
+struct reis_position { /* in logical pixels */
+    REIS_FIELD float x;
+    REIS_FIELD float y;
+};
+struct reis_button { /* a code of linux/input-event-codes.h, as BTN_LEFT */
+    REIS_FIELD uint32_t button;
+    REIS_FIELD uint32_t state;
+};
+struct reis_axes { /* 1 where the axis is meant, and 0 where it isn't */
+    REIS_FIELD uint32_t x;
+    REIS_FIELD uint32_t y;
+};
+struct reis_clicks { /* a click of a wheel is 120 */
+    REIS_FIELD int32_t dx;
+    REIS_FIELD int32_t dy;
+};
+struct reis_key { /* a code of linux/input-event-codes.h, as KEY_A */
+    REIS_FIELD uint32_t key;
+    REIS_FIELD uint32_t state;
+};
+struct reis_touch { /* the client's number of the touch, and a position in logical pixels */
+    REIS_FIELD uint32_t touch_id;
+    REIS_FIELD float x;
+    REIS_FIELD float y;
+};
+struct reis_touch_end { /* the client's number of the touch */
+    REIS_FIELD uint32_t touch_id;
+};
+struct reis_keysym { /* a keysym, by its number in XKB */
+    REIS_FIELD uint32_t keysym;
+    REIS_FIELD uint32_t state;
+};
+struct reis_text { /* in bytes, 1 to REIS_MOST_TEXT */
+    REIS_FIELD uint64_t length;
+};
+
+/* What a client asks for. `seat` and `device` are ids, told apart by their numbers; 0 where the kind has none. `time` is in
+ * microseconds, as the client sent it in its frame; 0 where the kind has none. The fields stand in the order of the view, and
+ * those that the kind hasn't are 0. */
+typedef struct reis_request {
+    reis_kind kind;
+    uint64_t seat;
+    uint64_t device;
+    uint64_t time;
+    union {
+        uint64_t fields[4];
+        struct reis_capabilities bind;
+        struct reis_capabilities request_device;
+        struct reis_serial frame;
+        struct reis_sequence start_emulating;
+        struct reis_serial stop_emulating;
+        struct reis_distance pointer_motion;
+        struct reis_position pointer_motion_absolute;
+        struct reis_button button;
+        struct reis_distance scroll_delta;
+        struct reis_axes scroll_stop;
+        struct reis_axes scroll_cancel;
+        struct reis_clicks scroll_discrete;
+        struct reis_key key;
+        struct reis_touch touch_down;
+        struct reis_touch touch_motion;
+        struct reis_touch_end touch_up;
+        struct reis_touch_end touch_cancel;
+        struct reis_keysym text_keysym;
+        struct reis_text text_utf8;
+    };
+} reis_request;
+
+/* What the library takes these to be. A compiler that makes enums smaller than an int is told so here. */
+#ifdef __cplusplus
+static_assert(sizeof(reis_kind) == 4 && sizeof(reis_request) == 64, "enums have four bytes, and a request has 64");
+#else
+_Static_assert(sizeof(reis_kind) == 4 && sizeof(reis_request) == 64, "enums have four bytes, and a request has 64");
+#endif
+
+/* For who reads `fields`: a field that is a distance or a position. */
+static inline float reis_float(uint64_t field) {
+    uint32_t bits = (uint32_t)field;
+    float number;
+    memcpy(&number, &bits, sizeof number);
+    return number;
+}
+
+/* For who reads `fields`: a field that is a number of steps with a sign. */
+static inline int32_t reis_steps(uint64_t field) {
+    uint32_t bits = (uint32_t)field;
+    int32_t number;
+    memcpy(&number, &bits, sizeof number);
+    return number;
+}
+
+/* Hands out the next request, which waits no more, in the order in which the client made them. It works after the end too.
+ * REIS_OK, REIS_NO_SESSION, REIS_NOTHING, REIS_NULL; where it isn't REIS_OK the request isn't written. */
+reis_answer reis_session_next_request(reis_session *session, reis_request *request);
+
+/* Writes the text of the request that was handed out last, without a zero behind it, and tells its length in bytes. It is
+ * UTF-8. It can be asked again until the next request is handed out.
+ * REIS_OK. REIS_NO_ROOM: nothing is written, and the length is that of the text. REIS_NOTHING, with length 0: that request
+ * has no text, or none was handed out. REIS_NO_SESSION, with length 0. REIS_NULL. */
+reis_answer reis_session_request_text(reis_session *session, uint8_t *text, size_t room, size_t *length);
+
+/* ---- the end ---- */
+
+/* How a session ended. */
+typedef REIS_ENUM(reis_end) {
+    REIS_END_GOES_ON = 0,         /* it didn't */
+    REIS_END_DISCONNECTED = 1,    /* the client disconnected */
+    REIS_END_END_OF_INPUT = 2,    /* no more came, after the connection */
+
+    /* errors */
+    REIS_END_ERROR_UNEXPECTED_EOF = 10,             /* no more came, before the connection */
+    REIS_END_ERROR_PIECE_LIMIT = 11,                /* more pieces came than the session takes */
+    REIS_END_ERROR_HANDLE_LIMIT = 12,               /* more than 4096 handles would be unread */
+    REIS_END_ERROR_NO_MEMORY = 13,                  /* memory ran out */
+    REIS_END_ERROR_IDS_EXHAUSTED = 14,              /* no id is left for a new object */
+    REIS_END_ERROR_INVALID_INTERFACE_VERSION = 15,  /* an object has a version that doesn't serve */
+    REIS_END_ERROR_UNEXPECTED_HANDSHAKE_EVENT = 16, /* never */
+    REIS_END_ERROR_READ_FAULT = 17,                 /* never: the program reads */
+    REIS_END_ERROR_WRITE_FAULT = 18,                /* never: the program writes */
+    REIS_END_ERROR_MESSAGE_TOO_LONG = 19,           /* never */
+
+    /* errors of the handshake */
+    REIS_END_HANDSHAKE_INVALID_OBJECT = 20,         /* a message to an object that isn't the handshake */
+    REIS_END_HANDSHAKE_NON_HANDSHAKE_EVENT = 21,    /* never */
+    REIS_END_HANDSHAKE_MISSING_INTERFACE = 22,      /* the client lacks an interface that each session needs */
+    REIS_END_HANDSHAKE_DUPLICATE_EVENT = 23,        /* the name or the context type came twice */
+
+    /* a request that doesn't fit the state */
+    REIS_END_REQUEST_INVALID_CAPABILITIES = 30,     /* the mask has a bit that the seat doesn't offer */
+    REIS_END_REQUEST_DUPLICATED_TOUCH_DOWN = 31,    /* a touch that is down goes down */
+    REIS_END_REQUEST_TOO_MANY_TOUCHES = 32,         /* sixteen touches are down, and one more goes down */
+    REIS_END_REQUEST_INVALID_TEXT_LENGTH = 33,      /* the text has no bytes, or more than 254 */
+
+    /* a message that can't be read */
+    REIS_END_PARSE_END_OF_MESSAGE = 40,             /* it ends inside an argument */
+    REIS_END_PARSE_UTF8 = 41,                       /* a text isn't UTF-8 */
+    REIS_END_PARSE_INVALID_ID = 42,                 /* the client may not give this id to a new object */
+    REIS_END_PARSE_NO_FD = 43,                      /* no handle came with it */
+    REIS_END_PARSE_INVALID_OPCODE = 44,             /* the interface has no message of this opcode */
+    REIS_END_PARSE_INVALID_VARIANT = 45,            /* an enum has no such value */
+    REIS_END_PARSE_INVALID_INTERFACE = 46,          /* no interface has this name */
+    REIS_END_PARSE_HEADER_LENGTH = 47,              /* the header's length is below 16 or above 1048576 */
+    REIS_END_PARSE_MESSAGE_LENGTH = 48,             /* bytes are left over behind the arguments */
+    REIS_END_PARSE_INVALID_NULL = 49,               /* a text that must be there is null */
+    REIS_END_PARSE_NO_MEMORY = 50,                  /* never: REIS_END_ERROR_NO_MEMORY */
+
+    /* an event that doesn't fit the state: never, since a server is sent none */
+    REIS_END_EVENT_DEVICE_EVENT_BEFORE_DONE = 60,
+    REIS_END_EVENT_DEVICE_SETUP_EVENT_AFTER_DONE = 61,
+    REIS_END_EVENT_SEAT_SETUP_EVENT_AFTER_DONE = 62,
+    REIS_END_EVENT_SEAT_EVENT_BEFORE_DONE = 63,
+    REIS_END_EVENT_NO_DEVICE_TYPE = 64,
+    REIS_END_EVENT_UNEXPECTED_HANDSHAKE_EVENT = 65,
+    REIS_END_EVENT_UNKNOWN_CAPABILITY_INTERFACE = 66
+} reis_end;
+
+/* Tells in `end` how the session ended, or REIS_END_GOES_ON.
+ * REIS_OK. REIS_NO_SESSION, with `end` REIS_END_GOES_ON. REIS_NULL. */
+reis_answer reis_session_end(reis_session *session, reis_end *end);
+
+/* Writes the text of the error that ended the session, without a zero behind it, and tells its length in bytes. It is UTF-8;
+ * the name of an interface in it is the client's.
+ * REIS_OK. REIS_NO_ROOM: nothing is written, and the length is that of the text. REIS_NOTHING, with length 0: no error ended
+ * it. REIS_NO_MEMORY, with length 0. REIS_NO_SESSION, with length 0. REIS_NULL. */
+reis_answer reis_session_end_text(reis_session *session, uint8_t *text, size_t room, size_t *length);
+
+/* ---- names ---- */
+
+/* The name of a number, for a log: that of its constant in small letters, without REIS_, REIS_KIND_ or REIS_END_ before it, as
+ * "pointer_motion". "unknown" where it has none. The text stays for good. */
+const char *reis_answer_name(reis_answer answer);
+const char *reis_kind_name(reis_kind kind);
+const char *reis_end_name(reis_end end);
+
+#ifdef __cplusplus
+}
+#endif
+
+#endif
