@@ -65,11 +65,12 @@ $(OUT)/libreis.a: $(OUT)/libreis.o $(OUT)/heap.o
 	rm -f $@
 	$(AR) rcs $@ $^
 
+# Copies stand beside it, and no links, which `rt ci` refuses wherever they lie.
 $(OUT)/$(SHARED): $(OUT)/libreis.o $(OUT)/heap.o border/reis.map
 	$(CC) -shared $(CFLAGS) $(LDFLAGS) -Wl,-soname,$(SONAME) -Wl,--version-script=border/reis.map -Wl,-z,defs -Wl,-z,text \
 	    -Wl,-z,relro -Wl,-z,now $(OUT)/libreis.o $(OUT)/heap.o -o $@
-	ln -sf $(SHARED) $(OUT)/$(SONAME)
-	ln -sf $(SONAME) $(OUT)/libreis.so
+	cp -f $@ $(OUT)/$(SONAME)
+	cp -f $@ $(OUT)/libreis.so
 
 $(OUT)/proof: $(OUT)/libreis.a $(OUT)/$(SHARED) border/record
 	border/record $(ARCHIVE) $(OUT)/sources.sha256 $(OUT)/libreis.a $(OUT)/$(SHARED) >$@
