@@ -50,21 +50,21 @@ take_whole (x ∷ l) = ap (λ (t : List ℕ). x ∷ t) (take_whole l)
 
 -- n bytes went out
 pub stops_after : (old : Piece) (n : ℕ) (result : Result (Unit {0}) FlushError) (bytes : List ℕ) (handles : List Handle) → HasBytes old.bytes old.handles →
-    n ≤ length old.bytes → OnOk result (n ≡ length old.bytes) → bytes ≡ drop n old.bytes → handles ≡ kept_beside n old.handles →
+    OnOk result (n ≡ length old.bytes) → OnErr result (n < length old.bytes) → bytes ≡ drop n old.bytes → handles ≡ kept_beside n old.handles →
     StopsAfter old result (record { bytes = bytes; handles = handles })
-stops_after old n (Ok u) bytes handles has le all rest kept =
+stops_after old n (Ok u) bytes handles has all lt rest kept =
     same_piece _ _ _ _ (rest ∙ ap (λ (k : ℕ). drop k old.bytes) all ∙ drop_whole old.bytes) (kept ∙ ap (λ (k : ℕ). kept_beside k old.handles) all ∙ kept_whole old.bytes old.handles has)
-stops_after old n (Err e) bytes handles has le all rest kept = (n, le, same_piece _ _ _ _ rest kept)
+stops_after old n (Err e) bytes handles has all lt rest kept = (n, lt, same_piece _ _ _ _ rest kept)
 
 -- and a sink took them
 pub flushes : (held old : Piece) (n : ℕ) (result : Result (Unit {0}) FlushError) (bytes : List ℕ) (handles : List Handle) (taken : Option Piece) → HasBytes old.bytes old.handles →
-    n ≤ length old.bytes → OnOk result (n ≡ length old.bytes) → bytes ≡ drop n old.bytes → handles ≡ kept_beside n old.handles → taken ≡ Some (sent_front n old held) →
+    OnOk result (n ≡ length old.bytes) → OnErr result (n < length old.bytes) → bytes ≡ drop n old.bytes → handles ≡ kept_beside n old.handles → taken ≡ Some (sent_front n old held) →
     Flushes held old result (record { bytes = bytes; handles = handles }) taken
-flushes held old n (Ok u) bytes handles taken has le all rest kept took =
+flushes held old n (Ok u) bytes handles taken has all lt rest kept took =
     let front : take n old.bytes ≡ old.bytes = ap (λ (k : ℕ). take k old.bytes) all ∙ take_whole old.bytes in
     let beside_it : beside n old.handles ≡ old.handles = ap (λ (k : ℕ). beside k old.handles) all ∙ beside_whole old.bytes old.handles has in
     took ∙ ap Some (same_piece _ _ _ _ (ap (λ (l : List ℕ). held.bytes ++ l) front) (ap (λ (l : List Handle). held.handles ++ l) beside_it))
-flushes held old n (Err e) bytes handles taken has le all rest kept took = (n, le, took, same_piece _ _ _ _ rest kept)
+flushes held old n (Err e) bytes handles taken has all lt rest kept took = (n, lt, took, same_piece _ _ _ _ rest kept)
 
 -- a header has 16 bytes
 pub header_length : (id len opcode : ℕ) → length (header id len opcode) ≡ 16

@@ -1,17 +1,17 @@
 -- A message without a text isn't too long.
-use Rattle.std.proofs.Common.{◌≡◌, ℕ, ◌*◌, ◌≤◌, Bool, true, false, cond, eqb, leb, ◌||◌, List, [], ◌∷◌, length, Some, refl, sym, ap}
-use Rattle.std.proofs.Common.{◌∙◌, length-append, arith}
+use Rattle.std.proofs.Common.{◌≡◌, ℕ, ◌*◌, ◌≤◌, Bool, true, false, leb, ◌||◌, List, [], ◌∷◌, length, Some, refl}
+use Rattle.std.proofs.Common.{length-append, arith}
 use Rattle.std.specs.List.{flat_map, list_all, list_any}
-use Rattle.std.proofs.lemmas.Bool.{leb-true, or_parts, and_parts}
-use Rattle.std.proofs.lemmas.Option.{same_Some}
+use Rattle.std.proofs.lemmas.Bool.{leb-true, or_parts}
 use Rattle.ei_spec.specs.declared.interface.KnownInterface.{KnownInterface}
-use Rattle.ei_spec.specs.declared.interface.KnownInterface.TheVariants as known
+use Rattle.ei_spec.specs.Interface.{the_interfaces}
 use Rattle.ei_spec.specs.Value.{Kind, U32, I32, U64, I64, Float, Text, Nullable, Handle, New, Choice, OpenChoice, Value, Word, Long, Signed, SignedLong}
 use Rattle.ei_spec.specs.Value.{Fd, IsOf, written}
 use Rattle.ei_spec.specs.Rows.{Row, row_at}
 use Rattle.ei_spec.specs.Table.{table}
 use Rattle.ei_spec.specs.Arguments.{AreOf}
 use Rattle.ei_spec.specs.Message.{message, size}
+use Rattle.ei_spec.proofs.EachInterface.{each_row, of_each_row}
 use Rattle.ei_backend.specs.Typed.{is_text}
 
 -- ---- the rows
@@ -19,43 +19,9 @@ use Rattle.ei_backend.specs.Typed.{is_text}
 abbrev few : Row → Bool
 few r = list_any is_text r.kinds || leb (length r.kinds) 8
 
-all_few : (events : Bool) (interface : KnownInterface) → list_all (λ (x : ℕ × Row). few x.1) (table events interface) ≡ true
-all_few false known.Handshake = refl
-all_few false known.Connection = refl
-all_few false known.Callback = refl
-all_few false known.Pingpong = refl
-all_few false known.Seat = refl
-all_few false known.Device = refl
-all_few false known.Pointer = refl
-all_few false known.PointerAbsolute = refl
-all_few false known.Scroll = refl
-all_few false known.Button = refl
-all_few false known.Keyboard = refl
-all_few false known.Touchscreen = refl
-all_few false known.Text = refl
-all_few true known.Handshake = refl
-all_few true known.Connection = refl
-all_few true known.Callback = refl
-all_few true known.Pingpong = refl
-all_few true known.Seat = refl
-all_few true known.Device = refl
-all_few true known.Pointer = refl
-all_few true known.PointerAbsolute = refl
-all_few true known.Scroll = refl
-all_few true known.Button = refl
-all_few true known.Keyboard = refl
-all_few true known.Touchscreen = refl
-all_few true known.Text = refl
-
-few_head : (b : Bool) (opcode : ℕ) (x : ℕ × Row) (xs : List (ℕ × Row)) (r : Row) → few x.1 ≡ true → (row_at opcode xs ≡ Some r → few r ≡ true) → cond b (Some x.1) (row_at opcode xs) ≡ Some r → few r ≡ true
-few_head true opcode x xs r h rest e = let same : x.1 ≡ r = same_Some x.1 r e in ap few (sym same) ∙ h
-few_head false opcode x xs r h rest e = rest e
-
-few_at : (opcode : ℕ) (rows : List (ℕ × Row)) (r : Row) → list_all (λ (x : ℕ × Row). few x.1) rows ≡ true → row_at opcode rows ≡ Some r → few r ≡ true
-few_at opcode [] r h e = absurd cc
-few_at opcode (x ∷ xs) r h e =
-    let parts = and_parts (few x.1) (list_all (λ (y : ℕ × Row). few y.1) xs) h in
-    few_head (eqb opcode x.0) opcode x xs r parts.0 (few_at opcode xs r parts.1) e
+all_few : (events : Bool) → list_all (each_row (λ k n r. few r) events) the_interfaces ≡ true
+all_few false = refl
+all_few true = refl
 
 -- ---- the values
 
@@ -96,4 +62,4 @@ short_by false kinds values id opcode e f are short = omega (arith, leb-true (le
 pub short_row : (events : Bool) (interface : KnownInterface) (r : ℕ × Row) (id : ℕ) (values : List Value) → row_at r.0 (table events interface) ≡ Some r.1 → AreOf r.1.kinds values → (list_any is_text r.1.kinds ≡ true → size (message id r.0 values) ≤ 1048576) →
     size (message id r.0 values) ≤ 1048576
 short_row events interface r id values row are short =
-    short_by (list_any is_text r.1.kinds) r.1.kinds values id r.0 refl (few_at r.0 (table events interface) r.1 (all_few events interface) row) are short
+    short_by (list_any is_text r.1.kinds) r.1.kinds values id r.0 refl (of_each_row (λ k n r. few r) events (all_few events) interface r.0 r.1 row) are short

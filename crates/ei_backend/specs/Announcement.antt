@@ -25,7 +25,7 @@ side_of (announced.Other side version name) = side
 abbrev pub announced_as : ℕ → Announcement → ObjectView
 announced_as id a = record { id = id; interface = interface_of a; version = version_of a; client_side = side_of a }
 
--- the interface, if it is one of the thirteen
+-- the interface, if it is one of the protocol
 abbrev pub known_in : Interface → Option KnownInterface
 known_in (Known k) = Some k
 known_in (Other n) = None

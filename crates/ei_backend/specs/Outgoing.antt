@@ -1,5 +1,5 @@
 -- What waits to be sent, and how it goes out.
-use Rattle.std.specs.Prelude.{◌≡◌, ℕ, zero, suc, ◌+◌, ◌≤◌, max, List, [], ◌++◌, map, length, take, drop, vec_len, vec_capacity}
+use Rattle.std.specs.Prelude.{◌≡◌, ℕ, zero, suc, ◌+◌, ◌≤◌, ◌<◌, max, List, [], ◌++◌, map, length, take, drop, vec_len, vec_capacity}
 use Rattle.std.specs.Prelude.{Option, Some, Result, Ok, Err, IsOk, OnOk, OnErr}
 use Rattle.std.specs.Global.{Vec}
 use Rattle.std.specs.List.{flat_map}
@@ -93,12 +93,12 @@ unsent_after n waiting = record { bytes = drop n waiting.bytes; handles = kept_b
 abbrev pub sent_front : ℕ → Piece → Piece → Piece
 sent_front n waiting held = with_more (take n waiting.bytes) (beside n waiting.handles) held
 
--- a refusal came after some of the bytes, and the rest waits
+-- a refusal came after some of the bytes, but not after the last of them, and the rest waits
 abbrev pub StopsAfter : Piece → Result (Unit {0}) FlushError → Piece → Type 0
 StopsAfter old (Ok _) new = new ≡ nothing
-StopsAfter old (Err e) new = (n : ℕ) × (n ≤ length old.bytes) × (new ≡ unsent_after n old)
+StopsAfter old (Err e) new = (n : ℕ) × (n < length old.bytes) × (new ≡ unsent_after n old)
 
--- where a sink told what it held, it has all that waited behind that; after a refusal the front of it, and the rest waits
+-- where a sink told what it held, it has all that waited behind that; after a refusal the front of it, without the last byte, and the rest waits
 abbrev pub Flushes : Piece → Piece → Result (Unit {0}) FlushError → Piece → Option Piece → Type 0
 Flushes held old (Ok _) new taken = taken ≡ Some (with_more old.bytes old.handles held)
-Flushes held old (Err e) new taken = (n : ℕ) × (n ≤ length old.bytes) × (taken ≡ Some (sent_front n old held)) × (new ≡ unsent_after n old)
+Flushes held old (Err e) new taken = (n : ℕ) × (n < length old.bytes) × (taken ≡ Some (sent_front n old held)) × (new ≡ unsent_after n old)

@@ -13,7 +13,7 @@ use std::rc::RcStr;
 /// What an object was announced as, and at which end. It has 16 bytes: what both forms have stands at one place in them.
 #[derive(Drop)]
 pub(crate) enum Announcement {
-    /// One of the thirteen interfaces.
+    /// One of the interfaces of the protocol.
     Known {
         client_side: bool,
         interface: KnownInterface,
@@ -58,7 +58,7 @@ impl Announcement {
         }
     }
 
-    /// The interface, if it is one of the thirteen.
+    /// The interface, if it is one of the protocol.
     #[inline(always)]
     pub(crate) fn known(&self) -> Option<KnownInterface>
         ensures { result ≡ known_in (interface_of self.now) }
@@ -91,7 +91,7 @@ impl Announcement {
         }
     }
 
-    /// Whether the interface is the same: one of the thirteen, or another of that name.
+    /// Whether the interface is the same: one of the protocol, or another of that name.
     pub(crate) fn is_same_interface(&self, other: &Announcement) -> bool
         ensures { IsTrue result ↔ (interface_of self.now ≡ interface_of other.now) }
     {
@@ -110,7 +110,7 @@ impl Announcement {
         }
     }
 
-    /// The same for another object. It takes no memory, and fails only where the name isn't one of the thirteen, and has
+    /// The same for another object. It takes no memory, and fails only where the name isn't a known one, and has
     /// as many owners as can be counted.
     pub(crate) fn share(&self) -> Result<Announcement, AllocError>
         ensures interface { IfOk result (λ a. interface_of a ≡ interface_of self.now) }

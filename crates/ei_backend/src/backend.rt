@@ -14,7 +14,7 @@ ghost use Rattle.ei_backend.specs.Object.{interface_view, HasFixedName};
 ghost use Rattle.ei_backend.specs.Table.{Announced, new_table, first_object, first_server_id, found, accept, own, own_end, own_start, own_limit};
 ghost use Rattle.ei_backend.specs.Outside.{Piece, source_view};
 ghost use Rattle.ei_backend.specs.Lent.{LentSource, LentSinkWants};
-ghost use Rattle.ei_backend.specs.Outgoing.{StopsAfter, Flushes, HasRoomFor};
+ghost use Rattle.ei_backend.specs.Outgoing.{nothing, StopsAfter, Flushes, HasRoomFor};
 ghost use Rattle.ei_backend.specs.Backend.{new_backend, ReadsOn, next, Answers, Brings, Shortens, sent, sent_new, with_object, with_room};
 ghost use Rattle.ei_backend.specs.Backend.{body_read, Says, removed, closed_of, unsent_of, with_unsent};
 ghost use Rattle.ei_spec.specs.declared.limits.TheConstants.{MOST_MESSAGE_BYTES, MOST_PIECE_BYTES};
@@ -123,7 +123,7 @@ impl Backend {
     }
 
     /// Puts all that waits to be sent into the sink, all handles with the first bytes. After a refusal the
-    /// rest waits.
+    /// rest waits, at least one byte: where all went out the answer is no fault.
     ///
     /// `WriteFault` where the sink failed, `NoMemory` where it wants memory. Where nothing waits the sink
     /// isn't asked.
@@ -160,7 +160,7 @@ impl Backend {
     }
 
     /// Makes room for so many more bytes and handles to be sent, and for so many own objects, as far as there are
-    /// own ids: sends and new objects within it take no memory, where the names are among the thirteen.
+    /// own ids: sends and new objects within it take no memory, where the names are known.
     ///
     /// `NoMemory`, and then there is no more room than before.
     pub fn reserve(&mut self, bytes: usize, handles: usize, objects: usize) -> Result<(), NoMemory>
@@ -335,6 +335,13 @@ impl Backend {
         ensures { result.now ≡ self.now.unsent_handles }
     {
         self.outgoing.handles()
+    }
+
+    /// Forgets what waits to be sent, which its caller took. Our own call.
+    pub fn clear_unsent(&mut self)
+        ensures { self.new ≡ with_unsent nothing self.old }
+    {
+        self.outgoing.cut_back((0, 0));
     }
 
     /// Whether the endpoint reads no more.

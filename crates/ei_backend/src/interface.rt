@@ -16,18 +16,18 @@ use std::rc::RcStr;
 
 /// The interface of an object, by its name.
 ///
-/// Objects of a server are all of known interfaces. A name that isn't one of the thirteen comes with the
+/// Objects of a server are all of known interfaces. A name that isn't known comes with the
 /// `interface` event of a device, at a client.
 #[derive(Debug, Drop)]
 pub enum InterfaceName {
-    /// One of the thirteen interfaces of the protocol.
+    /// One of the interfaces of the protocol.
     Known(KnownInterface),
     /// Another name, shared by the objects that bear it.
     Other(RcStr<Global>),
 }
 
 impl InterfaceName {
-    /// The interface that the name stands for: `Known` exactly for the thirteen names.
+    /// The interface that the name stands for: `Known` exactly for the names of the protocol.
     ///
     /// `NoMemory` only for another name.
     pub fn of(alloc: Global, name: &str) -> Result<InterfaceName, NoMemory>
@@ -50,14 +50,14 @@ impl InterfaceName {
         }
     }
 
-    /// Whether it is one of the thirteen.
+    /// Whether it is one of the protocol.
     fn is_known(&self) -> bool
         ensures { result ≡ is_known (interface_view self.now) }
     {
         matches!(self, InterfaceName::Known(_))
     }
 
-    /// Whether it is the same interface: one of the thirteen, or another of that name.
+    /// Whether it is the same interface: one of the protocol, or another of that name.
     fn is_same(&self, other: &InterfaceName) -> bool
         ensures { IsTrue result ↔ (interface_view self.now ≡ interface_view other.now) }
     {

@@ -1,4 +1,4 @@
-//! The thirteen kinds of proxies, which both ends have.
+//! The kinds of proxies, which both ends have.
 
 ghost use Rattle.std.specs.Prelude.{◌≡◌, ℕ};
 ghost use Rattle.ei_spec.specs.Interface.{name_of, server_version};
@@ -48,6 +48,7 @@ pub fn shown_name(interface: KnownInterface) -> &'static str
         KnownInterface::Keyboard => "Keyboard",
         KnownInterface::Touchscreen => "Touchscreen",
         KnownInterface::Text => "Text",
+        KnownInterface::Gesture => "Gesture",
     }
 }
 
@@ -373,5 +374,30 @@ impl Kind for Text {
 
     fn wire_name() -> &'static str {
         Text::NAME
+    }
+}
+
+/// The kind of `ei_x_gesture`.
+#[derive(Drop)]
+pub struct Gesture;
+
+impl Kind for Gesture {
+    ghost use Rattle.std.specs.Prelude.{refl};
+    ghost use Rattle.ei_spec.specs.declared.interface.KnownInterface.TheVariants as known;
+
+    ghost KNOWN = { known.Gesture };
+
+    ghost VERSION = { 1 };
+
+    ghost listed = { refl };
+
+    const KNOWN: KnownInterface = KnownInterface::Gesture;
+
+    const NAME: &'static str = "ei_x_gesture";
+
+    const VERSION: u32 = 1;
+
+    fn wire_name() -> &'static str {
+        Gesture::NAME
     }
 }

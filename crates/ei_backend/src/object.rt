@@ -29,7 +29,7 @@ use std::marker::Model;
 
 /// An object of one endpoint: an id, and what it was announced as. A plain value.
 ///
-/// A clone takes no memory. It fails only where the name isn't one of the thirteen, and has as many owners as
+/// A clone takes no memory. It fails only where the name isn't a known one, and has as many owners as
 /// can be counted.
 #[derive(Drop)]
 pub struct Object {
@@ -59,7 +59,7 @@ impl Object {
         }
     }
 
-    /// An object of one of the thirteen interfaces.
+    /// An object of a known interface.
     #[inline(always)]
     pub(crate) fn known(
         id: u64,
@@ -93,7 +93,7 @@ impl Object {
         self.announced.name()
     }
 
-    /// The interface, if it is one of the thirteen.
+    /// The interface, if it is one of the protocol.
     #[inline(always)]
     pub fn known_interface(&self) -> Option<KnownInterface>
         ensures { result ≡ known_in self.now.interface }
@@ -115,7 +115,7 @@ impl Object {
         self.announced.client_side()
     }
 
-    /// A copy of an object of one of the thirteen interfaces, which can't fail.
+    /// A copy of an object of a known interface, which can't fail.
     pub fn copy(&self) -> Object
         requires { HasFixedName self.now.interface }
         ensures { result ≡ self.now }
@@ -135,7 +135,7 @@ impl Object {
         Object::known(self.id, interface, self.version(), self.client_side())
     }
 
-    /// A copy, if the interface is one of the thirteen. It takes no memory.
+    /// A copy, if the interface is known. It takes no memory.
     #[inline(always)]
     pub(crate) fn known_copy(&self) -> Option<Object>
         ensures { IfSome result (λ o. o ≡ self.now) }

@@ -126,7 +126,8 @@ impl Outgoing {
         }
     }
 
-    /// Puts all that waits into the sink, all handles with the first bytes. After a refusal the rest waits.
+    /// Puts all that waits into the sink, all handles with the first bytes. After a refusal the rest waits,
+    /// which is at least a byte.
     pub(crate) fn flush<K: Sink>(&mut self, sink: &mut K) -> Result<(), FlushError>
         ensures stops { StopsAfter self.old.waiting result self.new.waiting }
         ensures took { (held : Piece) → K.taken sink.old ≡ Some held → Flushes held self.old.waiting result self.new.waiting (K.taken sink.new) }
@@ -256,8 +257,8 @@ fn put_all<K: Sink>(
     bytes: &[u8],
     handles: &[Handle],
 ) -> (usize, Result<(), FlushError>)
-    ensures within { result.0 ≤ length bytes.now }
     ensures ok { OnOk result.1 (result.0 ≡ length bytes.now) }
+    ensures left { OnErr result.1 (result.0 < length bytes.now) }
     ensures took { (held : Piece) → K.taken sink.old ≡ Some held
         → K.taken sink.new ≡ Some (with_more (take result.0 bytes.now) (beside result.0 handles.now) held) }
     ensures nothing { bytes.now ≡ [] → IsOk result.1 }

@@ -219,7 +219,7 @@ impl Table {
     }
 
     /// Makes room for so many more own objects, as far as there are own ids: to make them takes no memory, where
-    /// their names are among the thirteen.
+    /// their names are known.
     pub(crate) fn reserve(&mut self, objects: usize) -> Result<(), NoMemory>
         ensures ok { OnOk result (self.new ≡ with_places objects self.old) }
         ensures err { OnErr result (self.new ≡ self.old) }
@@ -230,7 +230,7 @@ impl Table {
         Ok(())
     }
 
-    /// Own ids below this are made without want of memory, where their names are among the thirteen.
+    /// Own ids below this are made without want of memory, where their names are known.
     pub(crate) fn room(&self) -> u64
         ensures { result ≡ self.now.room }
     {

@@ -3,13 +3,13 @@ use Rattle.std.proofs.Common.{◌≡◌, ℕ, Bool, true, false, cond, List, Opt
 use Rattle.ei_spec.specs.declared.interface.KnownInterface.{KnownInterface}
 use Rattle.ei_spec.specs.Interface.{Interface, ObjectView, bytes_of, known_of, named, named_as}
 use Rattle.ei_spec.specs.Reading.{Fault}
+use Rattle.ei_spec.proofs.NameLaws.{called}
 use Rattle.ei_wire.specs.declared.error.ParseError.{ParseError}
 use Rattle.ei_wire.specs.Gives.{Gives}
-use Rattle.ei_wire.proofs.InterfaceNames.{found}
 use Rattle.ei_backend.specs.Table.{TableView, accept}
 
 name_at : (n : List ℕ) (o : Option KnownInterface) → known_of n ≡ o → bytes_of (named_as n o) ≡ n
-name_at n (Some k) is = sym (found n k is)
+name_at n (Some k) is = sym (called n k is)
 name_at n None is = refl
 
 pub name_again : (n : List ℕ) → bytes_of (named n) ≡ n

@@ -18,6 +18,7 @@ use Rattle.ei_client.specs.Button as button
 use Rattle.ei_client.specs.Keyboard as keyboard
 use Rattle.ei_client.specs.Touchscreen as touchscreen
 use Rattle.ei_client.specs.Text as text
+use Rattle.ei_client.specs.Gesture as gesture
 
 -- the object as one of the interface
 abbrev pub as_one_of : KnownInterface → ObjectView → ObjectView
@@ -37,6 +38,7 @@ target_of (event.Button proxy m) = as_one_of known.Button proxy
 target_of (event.Keyboard proxy m) = as_one_of known.Keyboard proxy
 target_of (event.Touchscreen proxy m) = as_one_of known.Touchscreen proxy
 target_of (event.Text proxy m) = as_one_of known.Text proxy
+target_of (event.Gesture proxy m) = as_one_of known.Gesture proxy
 
 -- the opcode
 abbrev pub opcode_of : Event → ℕ
@@ -52,6 +54,7 @@ opcode_of (event.Button proxy m) = button.opcode_of m
 opcode_of (event.Keyboard proxy m) = keyboard.opcode_of m
 opcode_of (event.Touchscreen proxy m) = touchscreen.opcode_of m
 opcode_of (event.Text proxy m) = text.opcode_of m
+opcode_of (event.Gesture proxy m) = gesture.opcode_of m
 
 -- the arguments
 abbrev pub values_of : Event → List Value
@@ -67,6 +70,7 @@ values_of (event.Button proxy m) = button.values_of m
 values_of (event.Keyboard proxy m) = keyboard.values_of m
 values_of (event.Touchscreen proxy m) = touchscreen.values_of m
 values_of (event.Text proxy m) = text.values_of m
+values_of (event.Gesture proxy m) = gesture.values_of m
 
 -- the object that the event announces
 abbrev pub announced_of : Event → Option ObjectView

@@ -10,6 +10,7 @@ use crate::button::{self, Button};
 use crate::callback::{self, Callback};
 use crate::connection::{self, Connection};
 use crate::device::{self, Device};
+use crate::gesture::{self, Gesture};
 use crate::handshake::{self, Handshake};
 use crate::keyboard::{self, Keyboard};
 use crate::message::Message;
@@ -39,6 +40,7 @@ pub enum Event {
     Keyboard(Keyboard, keyboard::Event),
     Touchscreen(Touchscreen, touchscreen::Event),
     Text(Text, text::Event),
+    Gesture(Gesture, gesture::Event),
 }
 
 /// Hands the interfaces that bear input, each with its file, to the macro that a call names, behind any others.
@@ -52,6 +54,7 @@ macro_rules! inputs {
             Button button,
             Keyboard keyboard,
             Touchscreen touchscreen,
+            Gesture gesture,
         }
     };
 }

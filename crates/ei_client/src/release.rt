@@ -49,6 +49,10 @@ impl Release for kinds::Text {
     ghost row = { refl };
 }
 
+impl Release for kinds::Gesture {
+    ghost row = { refl };
+}
+
 impl<K: Release> Proxy<K> {
     /// Tells the server that the client is done with the object. It stays until the server takes it away.
     ///

@@ -20,3 +20,4 @@ pub mod ReadingAll
 pub mod Talking
 pub mod EndedConnection
 pub mod DroppedHandle
+pub mod Alike

@@ -14,11 +14,12 @@ ghost use Rattle.ei_spec.specs.Piece.{Piece};
 ghost use Rattle.ei_spec.specs.Message.{all_bytes};
 ghost use Rattle.ei_backend.specs.Table.{found};
 ghost use Rattle.ei_backend.specs.Backend.{BackendView, Waits, Refused, Gone, Message, next, unsent_of, sent, sent_new, removed, after_row};
+ghost use Rattle.ei_backend.specs.Endpoint.{endpoint_of};
 ghost use Rattle.ei_ends.specs.Sent.{other, Sent, Got, Took, Missed, New, new_of, row_of, raw_of};
 ghost use Rattle.ei_ends.specs.Announced.{next_own};
 ghost use Rattle.ei_ends.specs.Agree.{oldest, handles_sent, handles_got, IsTaken, Agree, AreTimes, KeepsHandles, AllEqual, NeedNoHandles, all_got};
 ghost use Rattle.ei_ends.specs.Way.{End, alive, onto};
-ghost use Rattle.ei_ends.specs.Steps.{called, with_sent, after_call, after_calls, after_read, after_reads, with_taken, stored};
+ghost use Rattle.ei_ends.specs.Steps.{called, with_backend, with_sent, after_call, after_calls, after_read, after_reads, with_taken, stored};
 ghost use Rattle.ei_ends.specs.Steps.{behind, no_piece, flushed, delivered, closed_end, ringed, roomy, IsPiece, handed, left_over};
 ghost use Rattle.ei_ends.specs.Joined.{new_end, Joined, IsCallOf, AgreeSoFar, AllDelivered, AreCalls, AreListedCalls, ArePlain, IsSame};
 ghost use Rattle.ei_spec.specs.declared.limits.TheConstants.{MOST_UNREAD_HANDLES};
@@ -51,6 +52,8 @@ pub fn steps()
         Joined events x y to_y to_x → Joined events x (ringed capacity y) to_y to_x }
     ensures room { (events : Bool) (x y : End) (to_y to_x : Piece) (bytes handles objects : ℕ) →
         Joined events x y to_y to_x → Joined events x (roomy bytes handles objects y) to_y to_x }
+    ensures alike { (events : Bool) (x y : End) (to_y to_x : Piece) (b : BackendView) → Joined events x y to_y to_x →
+        endpoint_of b ≡ endpoint_of y.backend → Joined events x (with_backend b y) to_y to_x }
 {}
 
 /// A call of each kind of row keeps two ends joined, be its target alive or not.

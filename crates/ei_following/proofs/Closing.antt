@@ -6,7 +6,7 @@ use Rattle.std.proofs.lemmas.Bool.Decides.{nat_tests}
 use Rattle.ei_spec.specs.declared.interface.KnownInterface.{KnownInterface}
 use Rattle.ei_spec.specs.Groups as Groups
 use Rattle.ei_spec.specs.Groups.{group, frames_made, with_frame, timed, seen, Input as Waiting, Frame as Framing, Other, Free, Timed, Framed, Plain as Given}
-use Rattle.ei_types.specs.Inputs.{Input}
+use Rattle.ei_input.specs.declared.input_event.InputEvent.{InputEvent}
 use Rattle.ei_reported.specs.Said.{Said, Told, Resumed, Paused, StartEmulating, StopEmulating, Frame, DeviceTells, DeviceGoes, Modifies, Goes}
 use Rattle.ei_reported.specs.Standing.{Offer, seat_of, device_pending, device_typed, device_added, interface, holder}
 use Rattle.ei_reported.specs.Reported.{Device, Report, Plain, device_of, slots, item, tells, telling, serial, refusal, goes_freely, modifying}
@@ -27,11 +27,11 @@ use Rattle.ei_following.proofs.Devices.{device_of_is, without_of_is}
 
 -- ---- what a frame gives
 
-seen_timed : (see : ℕ → Device) (d t : ℕ) (xs : List Input) (more : List (Groups.Given ℕ Input Plain)) → map (seen see) (map (λ x. Timed d x t) xs ++ more) ≡ map (λ x. Timed (see d) x t) xs ++ map (seen see) more
+seen_timed : (see : ℕ → Device) (d t : ℕ) (xs : List InputEvent) (more : List (Groups.Given ℕ InputEvent Plain)) → map (seen see) (map (λ x. Timed d x t) xs ++ more) ≡ map (λ x. Timed (see d) x t) xs ++ map (seen see) more
 seen_timed see d t [] more = refl
 seen_timed see d t (x ∷ xs) more = ap (λ r. Timed (see d) x t ∷ r) (seen_timed see d t xs more)
 
-seen_group : (see : ℕ → Device) (d n t : ℕ) (xs : List Input) → map (seen see) (with_frame xs d n t) ≡ group_given (see d) xs n t
+seen_group : (see : ℕ → Device) (d n t : ℕ) (xs : List InputEvent) → map (seen see) (with_frame xs d n t) ≡ group_given (see d) xs n t
 unfolding with_frame timed
 seen_group see d n t [] = refl
 seen_group see d n t (x ∷ xs) = seen_timed see d t (x ∷ xs) (Framed d n t ∷ [])
@@ -40,7 +40,7 @@ seen_group see d n t (x ∷ xs) = seen_timed see d t (x ∷ xs) (Framed d n t �
 pub told_group : (start : ℕ) (before : List Said) (d n t : ℕ) (x : DeviceCore) → IsDeviceAt start before d (Some x) → group_told start before d n t ≡ group_given (key_of d x) x.waiting n t
 told_group start before d n t x i = seen_group (device_of before) d n t (group d (slots start before))
     ∙ ap (λ (k : Device). group_given k (group d (slots start before)) n t) (device_of_is before d x i.seat)
-    ∙ ap (λ (xs : List Input). group_given (key_of d x) xs n t) (sym i.waiting)
+    ∙ ap (λ (xs : List InputEvent). group_given (key_of d x) xs n t) (sym i.waiting)
 
 -- ---- the clock
 
@@ -49,7 +49,7 @@ reading_at [] later t = refl
 reading_at (r ∷ rs) later t = reading_at rs later t
 
 -- the reading that the made frame takes, where something waits
-group_at : (k : Device) (n t : ℕ) (xs : List Input) (readings later : List ℕ) → group_given k xs n (slice_index ((readings ++ used_by xs t) ++ later) (length readings)) ≡ group_given k xs n t
+group_at : (k : Device) (n t : ℕ) (xs : List InputEvent) (readings later : List ℕ) → group_given k xs n (slice_index ((readings ++ used_by xs t) ++ later) (length readings)) ≡ group_given k xs n t
 group_at k n t [] readings later = refl
 group_at k n t (x ∷ xs) readings later = ap (group_given k (x ∷ xs) n) (reading_at readings later t)
 
@@ -63,7 +63,7 @@ plus_none n = omega arith
 some_made : (n : ℕ) → ◌≡◌ {A = ℕ} (cond (eqb (suc n) 0) 0 1) 1
 some_made n = grind (arith, nat_tests)
 
-readings_used : (readings : List ℕ) (t : ℕ) (xs : List Input) → length (readings ++ used_by xs t) ≡ length readings + cond (eqb (length xs) 0) 0 1
+readings_used : (readings : List ℕ) (t : ℕ) (xs : List InputEvent) → length (readings ++ used_by xs t) ≡ length readings + cond (eqb (length xs) 0) 0 1
 readings_used readings t [] = ap length (nil_right readings) ∙ sym (plus_none (length readings))
 readings_used readings t (x ∷ xs) = more_readings readings t ∙ ap (λ (n : ℕ). length readings + n) (sym (some_made (length xs)))
 
@@ -79,7 +79,7 @@ took_closing start before readings c new m d n time x y f u i e s seats devices 
     devices = devices;
     interfaces = interfaces;
     serial = sn ∙ sym s;
-    frames = readings_used readings time x.waiting ∙ ap (λ (xs : List Input). length readings + cond (eqb (length xs) 0) 0 1) i.waiting
+    frames = readings_used readings time x.waiting ∙ ap (λ (xs : List InputEvent). length readings + cond (eqb (length xs) 0) 0 1) i.waiting
         ∙ ap (λ (k : ℕ). k + cond (eqb (length (group d (slots start before))) 0) 0 1) f.frames ∙ sym (frames_other start before m d (y (device_of before d)) e);
   };
   queue = λ later. q ∙ ap (λ (r : List Report). c.queue ++ r) (sym (tells_other start ((readings ++ used_by x.waiting time) ++ later) before m d (y (device_of before d)) e

@@ -3,7 +3,7 @@ use Rattle.std.proofs.Common.{◌≡◌, ◌+◌, ℕ, Bool, true, false, not, c
 use Rattle.std.specs.Prelude.{unwrap_or, map}
 use Rattle.std.proofs.lemmas.Bool.{eqb-true}
 use Rattle.ei_spec.specs.Groups.{group, frames_made, with_frame, seen, Input as Waiting, Other, Free, Plain as Given}
-use Rattle.ei_types.specs.Inputs.{Input}
+use Rattle.ei_input.specs.declared.input_event.InputEvent.{InputEvent}
 use Rattle.ei_reported.specs.Said.{Said, DeviceComes, DeviceHasType, DeviceGets, DeviceDone, Inputs}
 use Rattle.ei_reported.specs.Standing.{Offer, offer, seat_added, seat_of, device_pending, device_typed, device_added, interface, holder}
 use Rattle.ei_reported.specs.Reported.{Device, Report, device_of, waiting, slots, item, tells, serial, DeviceAdded}
@@ -205,13 +205,13 @@ device_of_is before d x h = ap (λ (o : Option ℕ). record { seat = unwrap_or o
 -- where nothing waits, no frame is made, and none is told
 pub none_told : (start : ℕ) (before : List Said) (d n t : ℕ) → group d (slots start before) ≡ [] → group_told start before d n t ≡ []
 unfolding with_frame
-none_told start before d n t h = ap (λ (xs : List Input). map (seen (device_of before)) (with_frame xs d n t)) h
+none_told start before d n t h = ap (λ (xs : List InputEvent). map (seen (device_of before)) (with_frame xs d n t)) h
 
 plus_none : (n : ℕ) → n + 0 ≡ n
 plus_none n = omega arith
 
 pub none_made : (start : ℕ) (before : List Said) (d : ℕ) → group d (slots start before) ≡ [] → frames_made (slots start before) + cond (eqb (length (group d (slots start before))) 0) 0 1 ≡ frames_made (slots start before)
-none_made start before d h = ap (λ (xs : List Input). frames_made (slots start before) + cond (eqb (length xs) 0) 0 1) h ∙ plus_none (frames_made (slots start before))
+none_made start before d h = ap (λ (xs : List InputEvent). frames_made (slots start before) + cond (eqb (length xs) 0) 0 1) h ∙ plus_none (frames_made (slots start before))
 
 done_in_time : (start : ℕ) (before : List Said) (readings : List ℕ) (c : Core) (d : ℕ) (x : DeviceCore) → Follows start before readings c → NewIdsDiffer (DeviceDone d ∷ before) →
     IsDeviceAt start before d (Some x) → x.added ≡ false → x.typed ≡ true → TookOne start before (DeviceDone d) readings [] c (queues (put_device c d (record x { added = true })) (Given (DeviceAdded (key_of d x)) ∷ []))
@@ -288,7 +288,7 @@ device_done_one start before readings c d f u = by (device_in c d) refl
 
 -- ---- an input
 
-input_waits : (start : ℕ) (before : List Said) (readings : List ℕ) (c : Core) (id d : ℕ) (x : Input) (o : Option DeviceCore) → Follows start before readings c → NewIdsDiffer (Inputs id x ∷ before) →
+input_waits : (start : ℕ) (before : List Said) (readings : List ℕ) (c : Core) (id d : ℕ) (x : InputEvent) (o : Option DeviceCore) → Follows start before readings c → NewIdsDiffer (Inputs id x ∷ before) →
     holder before id ≡ Some d → device_in c d ≡ o → TookOne start before (Inputs id x) readings [] c (waits_on c d x o)
 input_waits start before readings c id d x None f u h e =
     let clash : true ≡ false = sym (holder_added before id d h) ∙ (f.devices d).added ∙ ap added_device e in absurd cc
@@ -304,7 +304,7 @@ input_waits start before readings c id d x (Some y) f u h e =
       added = (s d).added ∙ i.added;
       typed = λ a. (s d).typed ∙ i.typed a;
       seat = (s d).seat ∙ i.seat;
-      waiting = ap (λ (xs : List Input). xs ++ x ∷ []) i.waiting ∙ sym (waits_input start before id d d x h ∙ hit d (group d (slots start before) ++ (x ∷ [])) (group d (slots start before)));
+      waiting = ap (λ (xs : List InputEvent). xs ++ x ∷ []) i.waiting ∙ sym (waits_input start before id d d x h ∙ hit d (group d (slots start before) ++ (x ∷ [])) (group d (slots start before)));
     })
     (λ q no. device_still start before (Inputs id x) q (c.devices q) (f.devices q) (s q)
     (waits_input start before id d q x h ∙ miss d q (group q (slots start before) ++ (x ∷ [])) (group q (slots start before)) no)))
@@ -313,7 +313,7 @@ input_waits start before readings c id d x (Some y) f u h e =
     (frames_input start before (Inputs id x) d x it)
     (λ times. sym (nil_right c.queue) ∙ ap (λ (r : List Report). c.queue ++ r) (sym (tells_input start times before (Inputs id x) d x it)))
 
-pub input_one : (start : ℕ) (before : List Said) (readings : List ℕ) (c : Core) (id : ℕ) (x : Input) → Follows start before readings c → NewIdsDiffer (Inputs id x ∷ before) →
+pub input_one : (start : ℕ) (before : List Said) (readings : List ℕ) (c : Core) (id : ℕ) (x : InputEvent) → Follows start before readings c → NewIdsDiffer (Inputs id x ∷ before) →
     TookOne start before (Inputs id x) readings [] c (input_comes c x (holder_in c id))
 input_one start before readings c id x f u = by (holder_in c id) (sym (holder_is start before readings c id f))
   where

@@ -1,5 +1,5 @@
 pub mod Sending
 pub mod Room
-pub mod VersionLemmas
+pub mod GivenVersion
 pub mod SettledLaws
 pub mod Keeping

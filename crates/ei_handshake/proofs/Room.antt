@@ -1,7 +1,7 @@
 -- The room that the events of a finish take, and what is sent within it.
 use Rattle.std.proofs.Common.{◌≡◌, ◌<◌, ◌≤◌, ℕ, ◌+◌, true, [], ◌∷◌, Option, Some, None, Result, Ok, Err, refl, sym, ap, ◌∙◌, subst, arith, inl, inr}
-use Rattle.std.specs.Prelude.{codes, IsOk, IfErr, IsErrOf}
-use Rattle.std.proofs.lemmas.Bool.{cases_lt}
+use Rattle.std.specs.Prelude.{codes, leb, IsOk, IfErr, IsErrOf}
+use Rattle.std.proofs.lemmas.Bool.{cases_lt, leb-true}
 use Rattle.std.proofs.lemmas.List.{length-append}
 use Rattle.ei_spec.specs.declared.interface.KnownInterface.{KnownInterface}
 use Rattle.ei_spec.specs.declared.interface.KnownInterface.TheVariants as known
@@ -10,6 +10,7 @@ use Rattle.ei_spec.specs.Interface.{Known, ObjectView, name_of}
 use Rattle.ei_spec.specs.Piece.{Piece}
 use Rattle.ei_spec.specs.Value.{Word, Long, Letters}
 use Rattle.ei_spec.specs.Message.{Raw, message, size, bytes_of, all_bytes}
+use Rattle.ei_spec.proofs.EachInterface.{of_each}
 use Rattle.ei_wire.specs.declared.error.SendError.{SendError}
 use Rattle.ei_wire.specs.declared.error.SendError.TheVariants as send_error
 use Rattle.ei_types.specs.Errors.{error_of_send}
@@ -23,6 +24,7 @@ use Rattle.ei_backend.specs.Sends.{SendsText, SendsNew}
 use Rattle.ei_backend.proofs.GoingOut.{message_length}
 use Rattle.ei_server.specs.Handshake.{event}
 use Rattle.ei_session.specs.Replies.{settled_event}
+use Rattle.ei_handshake.specs.declared.server.TheConstants.{MOST_EVENT_BYTES, CONNECTION_BYTES, MOST_SETTLED_BYTES, MOST_FINISH_BYTES}
 use Rattle.ei_handshake.specs.Versions.{VersionMap}
 use Rattle.ei_handshake.specs.Handshaker.{HandshakerView, RefusesFinish, event_if, has_required, kept_events, sends, hands_over}
 use Rattle.ei_handshake.specs.declared.server.EisHandshakeResp.{EisHandshakeResp}
@@ -33,39 +35,27 @@ use Rattle.ei_handshake.proofs.Sending.{sent_one}
 pub less_spare : (a b : ℕ) (waiting : Piece) (room : Room) → HasSpare a 0 waiting room → b ≤ a → HasSpare b 0 waiting room
 less_spare a b waiting room h le = record { spare_bytes = omega (arith, h.spare_bytes); spare_handles = h.spare_handles }
 
--- a version's event has at most 44 bytes
-few_bytes : (i : KnownInterface) (id v : ℕ) → size (message id 1 (Letters (name_of i) ∷ Word v ∷ [])) ≤ 44
-few_bytes known.Handshake id v = omega arith
-few_bytes known.Connection id v = omega arith
-few_bytes known.Callback id v = omega arith
-few_bytes known.Pingpong id v = omega arith
-few_bytes known.Seat id v = omega arith
-few_bytes known.Device id v = omega arith
-few_bytes known.Pointer id v = omega arith
-few_bytes known.PointerAbsolute id v = omega arith
-few_bytes known.Scroll id v = omega arith
-few_bytes known.Button id v = omega arith
-few_bytes known.Keyboard id v = omega arith
-few_bytes known.Touchscreen id v = omega arith
-few_bytes known.Text id v = omega arith
+-- a version's event is short
+few_bytes : (i : KnownInterface) (id v : ℕ) → size (message id 1 (Letters (name_of i) ∷ Word v ∷ [])) ≤ MOST_EVENT_BYTES
+few_bytes i id v = leb-true _ MOST_EVENT_BYTES (of_each (λ (k : KnownInterface). leb (size (message id 1 (Letters (name_of k) ∷ Word v ∷ []))) MOST_EVENT_BYTES) refl i)
 
-spent_one : (b : BackendView) (m : Raw) (n : ℕ) → size m ≤ 44 → HasSpare (n + 44) 0 (unsent_of b) b.room → HasSpare n 0 (unsent_of (sends b (m ∷ []))) b.room
+spent_one : (b : BackendView) (m : Raw) (n : ℕ) → size m ≤ MOST_EVENT_BYTES → HasSpare (n + MOST_EVENT_BYTES) 0 (unsent_of b) b.room → HasSpare n 0 (unsent_of (sends b (m ∷ []))) b.room
 spent_one b m n few h = record {
   spare_bytes = omega (arith, h.spare_bytes, length-append b.unsent (all_bytes (m ∷ [])), length-append (bytes_of m) [], message_length m, few);
   spare_handles = h.spare_handles;
 }
 
-spent_none : (b : BackendView) (n : ℕ) → HasSpare (n + 44) 0 (unsent_of b) b.room → HasSpare n 0 (unsent_of (sends b [])) b.room
+spent_none : (b : BackendView) (n : ℕ) → HasSpare (n + MOST_EVENT_BYTES) 0 (unsent_of b) b.room → HasSpare n 0 (unsent_of (sends b [])) b.room
 spent_none b n h = record { spare_bytes = omega (arith, h.spare_bytes, length-append b.unsent []); spare_handles = h.spare_handles }
 
-spent_event : (b : BackendView) (handshake : ℕ) (i : KnownInterface) (o : Option ℕ) (n : ℕ) → HasSpare (n + 44) 0 (unsent_of b) b.room →
+spent_event : (b : BackendView) (handshake : ℕ) (i : KnownInterface) (o : Option ℕ) (n : ℕ) → HasSpare (n + MOST_EVENT_BYTES) 0 (unsent_of b) b.room →
     HasSpare n 0 (unsent_of (sends b (event_if handshake i o))) b.room
 spent_event b handshake i None n h = spent_none b n h
 spent_event b handshake i (Some v) n h = spent_one b (settled_event handshake i v) n (few_bytes i handshake v) h
 
--- an event, or none, leaves the room but for 44 bytes
+-- an event, or none, leaves the room but for the most bytes of one
 pub spent : (b new : BackendView) (handshake : ℕ) (i : KnownInterface) (o : Option ℕ) (n : ℕ) → new ≡ sends b (event_if handshake i o) →
-    HasSpare (n + 44) 0 (unsent_of b) b.room → HasSpare n 0 (unsent_of new) new.room
+    HasSpare (n + MOST_EVENT_BYTES) 0 (unsent_of b) b.room → HasSpare n 0 (unsent_of new) new.room
 spent b new handshake i o n is h = subst (λ (x : BackendView). HasSpare n 0 (unsent_of x) x.room) (sym is) (spent_event b handshake i o n h)
 
 -- ---- what is sent within it
@@ -77,12 +67,12 @@ is_sent (Err send_error.NoMemory) memory long ids = absurd (memory refl)
 is_sent (Err send_error.MessageTooLong) memory long ids = absurd (long refl)
 is_sent (Err send_error.IdsExhausted) memory long ids = absurd (ids refl)
 
-fits : (b : BackendView) (m : Raw) → size m ≤ 44 → HasSpare 44 0 (unsent_of b) b.room → HasSpare (size m) 0 (unsent_of b) b.room
-fits b m few h = less_spare 44 (size m) (unsent_of b) b.room h few
+fits : (b : BackendView) (m : Raw) → size m ≤ MOST_EVENT_BYTES → HasSpare MOST_EVENT_BYTES 0 (unsent_of b) b.room → HasSpare (size m) 0 (unsent_of b) b.room
+fits b m few h = less_spare MOST_EVENT_BYTES (size m) (unsent_of b) b.room h few
 
 -- the event of a version is sent
 pub event_is_sent : (i : KnownInterface) (target : ObjectView) (v : ℕ) (b new : BackendView) (r : Result (Unit {0}) SendError) →
-    SendsText (event (codes "interface_version")) target (Letters (name_of i) ∷ Word v ∷ []) b new r → HasSpare 44 0 (unsent_of b) b.room → IsOk r
+    SendsText (event (codes "interface_version")) target (Letters (name_of i) ∷ Word v ∷ []) b new r → HasSpare MOST_EVENT_BYTES 0 (unsent_of b) b.room → IsOk r
 event_is_sent i target v b new r s h =
     let few = few_bytes i target.id v in
     is_sent r (s.room (fits b (message target.id 1 (Letters (name_of i) ∷ Word v ∷ [])) few h))
@@ -97,7 +87,7 @@ Connects target serial b new r = SendsNew (λ p. p) (event (codes "connection"))
 
 -- within the room it is refused only where no own id is left
 pub only_ids : (e : SendError) (target : ObjectView) (serial : ℕ) (b new : BackendView) (r : Result ObjectView SendError) → r ≡ Err e → Connects target serial b new r →
-    HasSpare 32 0 (unsent_of b) b.room → (b.table.next_own < own_end b.table → b.table.next_own < b.table.room) → (e ≡ send_error.IdsExhausted) × (own_end b.table ≤ b.table.next_own)
+    HasSpare CONNECTION_BYTES 0 (unsent_of b) b.room → (b.table.next_own < own_end b.table → b.table.next_own < b.table.room) → (e ≡ send_error.IdsExhausted) × (own_end b.table ≤ b.table.next_own)
 only_ids send_error.IdsExhausted target serial b new r is s h ids = (refl, s.exhausted.0 is)
 only_ids send_error.MessageTooLong target serial b new r is s h ids = absurd (s.not_long is)
 only_ids send_error.NoMemory target serial b new r is s h ids =
@@ -122,19 +112,19 @@ handed_over b target serial =
 
 -- ---- a finish
 
-roomy_at : (b : BackendView) → HasSpare 560 0 (unsent_of (with_room 560 0 1 b)) (with_room 560 0 1 b).room
+roomy_at : (b : BackendView) → HasSpare MOST_FINISH_BYTES 0 (unsent_of (with_room MOST_FINISH_BYTES 0 1 b)) (with_room MOST_FINISH_BYTES 0 1 b).room
 roomy_at b = record { spare_bytes = omega arith; spare_handles = omega arith }
 
 -- room was made for it
-pub has_room : (b roomy : BackendView) → roomy ≡ with_room 560 0 1 b → HasSpare 560 0 (unsent_of roomy) roomy.room
-has_room b roomy made = subst (λ (x : BackendView). HasSpare 560 0 (unsent_of x) x.room) (sym made) (roomy_at b)
+pub has_room : (b roomy : BackendView) → roomy ≡ with_room MOST_FINISH_BYTES 0 1 b → HasSpare MOST_FINISH_BYTES 0 (unsent_of roomy) roomy.room
+has_room b roomy made = subst (λ (x : BackendView). HasSpare MOST_FINISH_BYTES 0 (unsent_of x) x.room) (sym made) (roomy_at b)
 
 -- and the events of the versions were sent within it
-module _ (b roomy sent : BackendView) (handshake : ObjectView) (versions : VersionMap) (made : roomy ≡ with_room 560 0 1 b) (told : sent ≡ sends roomy (kept_events handshake.id versions)) where
-  sent_is : sent ≡ sends (with_room 560 0 1 b) (kept_events handshake.id versions)
+module _ (b roomy sent : BackendView) (handshake : ObjectView) (versions : VersionMap) (made : roomy ≡ with_room MOST_FINISH_BYTES 0 1 b) (told : sent ≡ sends roomy (kept_events handshake.id versions)) where
+  sent_is : sent ≡ sends (with_room MOST_FINISH_BYTES 0 1 b) (kept_events handshake.id versions)
   sent_is = told ∙ ap (λ (x : BackendView). sends x (kept_events handshake.id versions)) made
 
-  place_at : (with_room 560 0 1 b).table.next_own < own_end (with_room 560 0 1 b).table → (with_room 560 0 1 b).table.next_own < (with_room 560 0 1 b).table.room
+  place_at : (with_room MOST_FINISH_BYTES 0 1 b).table.next_own < own_end (with_room MOST_FINISH_BYTES 0 1 b).table → (with_room MOST_FINISH_BYTES 0 1 b).table.next_own < (with_room MOST_FINISH_BYTES 0 1 b).table.room
   place_at lt = omega (arith, lt)
 
   has_place : sent.table.next_own < own_end sent.table → sent.table.next_own < sent.table.room
@@ -154,15 +144,15 @@ module _ (b roomy sent : BackendView) (handshake : ObjectView) (versions : Versi
 
   -- the connection isn't sent where no own id is left, and only there
   pub refused : (e : SendError) (serial : ℕ) (new : BackendView) (r : Result ObjectView SendError) → r ≡ Err e → Connects handshake serial sent new r →
-      ((n : ℕ) → HasSpare (n + 528) 0 (unsent_of roomy) roomy.room → HasSpare n 0 (unsent_of sent) sent.room) → (e ≡ send_error.IdsExhausted) × (own_end b.table ≤ b.table.next_own)
+      ((n : ℕ) → HasSpare (n + MOST_SETTLED_BYTES) 0 (unsent_of roomy) roomy.room → HasSpare n 0 (unsent_of sent) sent.room) → (e ≡ send_error.IdsExhausted) × (own_end b.table ≤ b.table.next_own)
   refused e serial new r is s spare =
-      let only = only_ids e handshake serial sent new r is s (spare 32 (has_room b roomy made)) has_place in
+      let only = only_ids e handshake serial sent new r is s (spare CONNECTION_BYTES (has_room b roomy made)) has_place in
       (only.0, no_id only.1)
 
   -- so is the finish
   pub refuses : (h new : HandshakerView) (at : BackendView) (e : SendError) (serial : ℕ) (r : Result ObjectView SendError) (x : Error) (result : Result EisHandshakeResp Error) →
       h.versions ≡ versions → has_required h.versions ≡ true → new ≡ h → at ≡ sent → r ≡ Err e → Connects handshake serial sent at r →
-      ((n : ℕ) → HasSpare (n + 528) 0 (unsent_of roomy) roomy.room → HasSpare n 0 (unsent_of sent) sent.room) → result ≡ Err x → x ≡ error_of_send e →
+      ((n : ℕ) → HasSpare (n + MOST_SETTLED_BYTES) 0 (unsent_of roomy) roomy.room → HasSpare n 0 (unsent_of sent) sent.room) → result ≡ Err x → x ≡ error_of_send e →
       IfErr result (λ y. RefusesFinish y handshake.id h b new at)
   refuses h new at e serial r x result v complete same kept is s spare result_is x_is =
       let only = refused e serial at r is s spare in

@@ -9,7 +9,8 @@ use Rattle.ei_spec.specs.declared.interface.KnownInterface.{KnownInterface}
 use Rattle.ei_spec.specs.Value.{Value, handles_of}
 use Rattle.ei_spec.specs.Message.{Raw, message, bytes_of, all_bytes}
 use Rattle.ei_backend.specs.Backend.{BackendView, sent}
-use Rattle.ei_types.specs.Twelve.{versions}
+use Rattle.ei_spec.specs.declared.limits.TheConstants.{SETTLED_INTERFACES}
+use Rattle.ei_types.specs.Settled.{versions}
 use Rattle.ei_session.specs.Replies.{settled_event, settled_events}
 use Rattle.ei_handshake.specs.Handshaker.{sends, event_if}
 
@@ -63,8 +64,8 @@ settled_pairs_all handshake settled = refl
 pub sends_more : (b c : BackendView) (x y : List Raw) → c ≡ sends b x → sends c y ≡ sends b (x ++ y)
 sends_more b c x y e = ap (λ (d : BackendView). sends d y) e ∙ sends-append b x y
 
--- the events of all twelve
-pub settled_pairs_whole : (handshake : ℕ) (settled : KnownInterface → Option ℕ) (pairs : List (KnownInterface × ℕ)) (n : ℕ) → pairs ≡ versions → 12 ≤ n → settled_pairs handshake settled (take n pairs) ≡ settled_events handshake settled
+-- the events of all settled interfaces
+pub settled_pairs_whole : (handshake : ℕ) (settled : KnownInterface → Option ℕ) (pairs : List (KnownInterface × ℕ)) (n : ℕ) → pairs ≡ versions → SETTLED_INTERFACES ≤ n → settled_pairs handshake settled (take n pairs) ≡ settled_events handshake settled
 settled_pairs_whole handshake settled pairs n is le =
     let all : take n versions ≡ versions = take_all n versions le in
     ap (λ (x : List (KnownInterface × ℕ)). settled_pairs handshake settled (take n x)) is ∙ ap (settled_pairs handshake settled) all ∙ settled_pairs_all handshake settled

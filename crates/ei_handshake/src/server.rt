@@ -1,6 +1,6 @@
 //! The server's handshake.
 
-ghost use Rattle.std.specs.Prelude.{◌≡◌, ◌+◌, ◌*◌, ℕ, Some, None, IsSome, IfOk, OnOk, OnErr, IfErr, is_some, true, false, [], ◌∷◌};
+ghost use Rattle.std.specs.Prelude.{◌≡◌, ◌+◌, ℕ, Some, None, IsSome, IfOk, OnOk, OnErr, IfErr, is_some, true, false, [], ◌∷◌};
 ghost use Rattle.std.specs.Option.{ForSome};
 ghost use Rattle.ei_backend.specs.Table.{found};
 ghost use Rattle.ei_backend.specs.Backend.{unsent_of, with_room};
@@ -14,6 +14,7 @@ use crate::versions::Versions;
 use ei_backend::HasBackend;
 use ei_server::{Connection, Context, Handshake, Request, handshake};
 use ei_spec::KnownInterface;
+use ei_spec::limits::{MOST_NAME_BYTES, SETTLED_INTERFACES};
 use ei_types::{ContextType, Error, HandshakeError, known_interfaces};
 use ei_wire::{EiText, NoMemory};
 use std::alloc::Global;
@@ -33,12 +34,28 @@ pub struct EisHandshakeResp {
     pub negotiated_interfaces: Versions,
 }
 
-/// How many bytes the event of a version has at most.
-const MOST_EVENT_BYTES: usize = 44;
+/// The bytes of a header; of a number; and of an id.
+const HEADER_BYTES: usize = 16;
 
-/// How many bytes the events have at most that answer a finish: one for each of the twelve interfaces, and
-/// the connection's.
-const MOST_FINISH_BYTES: usize = 12 * MOST_EVENT_BYTES + 32;
+const WORD_BYTES: usize = 4;
+
+const LONG_BYTES: usize = 8;
+
+/// The most bytes of an interface's name as an argument: its length, and the name with a closing byte, padded to whole words.
+const MOST_NAME_ARGUMENT_BYTES: usize = WORD_BYTES
+    + (MOST_NAME_BYTES + WORD_BYTES) / WORD_BYTES * WORD_BYTES;
+
+/// The most bytes of the event that tells a version: the name and the version.
+const MOST_EVENT_BYTES: usize = HEADER_BYTES + MOST_NAME_ARGUMENT_BYTES + WORD_BYTES;
+
+/// The bytes of the event that hands the connection over: its serial, its id and its version.
+const CONNECTION_BYTES: usize = HEADER_BYTES + WORD_BYTES + LONG_BYTES + WORD_BYTES;
+
+/// The most bytes of the events that tell the versions.
+const MOST_SETTLED_BYTES: usize = SETTLED_INTERFACES * MOST_EVENT_BYTES;
+
+/// The most bytes of the events that answer a finish.
+const MOST_FINISH_BYTES: usize = MOST_SETTLED_BYTES + CONNECTION_BYTES;
 
 /// The server's side of a handshake: what the client told so far.
 #[derive(Drop)]
@@ -281,9 +298,9 @@ fn send_if_kept(
 
 /// Tells the client the versions that both ends have, in the order of the list.
 fn send_kept(handshake: &Handshake, ctx: &mut Context, versions: &Versions)
-    requires { HasSpare (12 * MOST_EVENT_BYTES) 0 (unsent_of ctx.old) ctx.old.room }
+    requires { HasSpare MOST_SETTLED_BYTES 0 (unsent_of ctx.old) ctx.old.room }
     ensures sends { ctx.new ≡ sends ctx.old (kept_events handshake.now.id versions.now) }
-    ensures spare { (n : ℕ) → HasSpare (n + 12 * MOST_EVENT_BYTES) 0 (unsent_of ctx.old) ctx.old.room → HasSpare n 0 (unsent_of ctx.new) ctx.new.room }
+    ensures spare { (n : ℕ) → HasSpare (n + MOST_SETTLED_BYTES) 0 (unsent_of ctx.old) ctx.old.room → HasSpare n 0 (unsent_of ctx.new) ctx.new.room }
 {
     let interfaces = known_interfaces();
     for (interface, _) in &interfaces {

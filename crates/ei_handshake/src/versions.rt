@@ -1,22 +1,23 @@
 //! The versions that a handshake settles.
 
-ghost use Rattle.std.specs.Prelude.{◌≡◌, ◌<◌, is_some};
+ghost use Rattle.std.specs.Prelude.{◌≡◌, is_some};
 ghost use Rattle.std.specs.FinMap as finite;
 ghost use Rattle.ei_spec.specs.Interface.{name_of};
-ghost use Rattle.ei_handshake.specs.Versions.{place_of};
 
 use ei_spec::KnownInterface;
+use ei_spec::limits::INTERFACES;
 use std::marker::Model;
 
 /// Names of interfaces, each with a version. Contracts see a map from the names' bytes.
 #[derive(Drop)]
 pub struct Versions {
     /// A place for each interface.
-    versions: [Option<u32>; 13],
+    versions: [Option<u32>; INTERFACES],
 }
 
 impl Model for Versions {
     ghost use Rattle.std.specs.Prelude.{◌≡◌, length};
+    ghost use Rattle.ei_spec.specs.declared.limits.TheConstants.{INTERFACES};
     ghost use Rattle.ei_handshake.specs.Versions.{VersionMap, version_code, by_name};
 
     ghost Value = { VersionMap };
@@ -25,7 +26,7 @@ impl Model for Versions {
 
     ghost view = { λ v. by_name v.versions };
 
-    ghost invariant = { λ v. length v.versions ≡ 13 };
+    ghost invariant = { λ v. length v.versions ≡ INTERFACES };
 }
 
 impl Versions {
@@ -34,7 +35,7 @@ impl Versions {
         ensures { result ≡ finite.empty }
     {
         Versions {
-            versions: [None; 13],
+            versions: [None; INTERFACES],
         }
     }
 
@@ -44,7 +45,7 @@ impl Versions {
     {
         let versions = &self.versions;
         match KnownInterface::from_name(name) {
-            Some(interface) => versions[place(interface)],
+            Some(interface) => versions[interface.place()],
             None => None,
         }
     }
@@ -53,7 +54,7 @@ impl Versions {
     pub fn version(&self, interface: KnownInterface) -> Option<u32>
         ensures { result ≡ finite.get self.now (name_of interface) }
     {
-        self.versions[place(interface)]
+        self.versions[interface.place()]
     }
 
     /// Whether the name is there.
@@ -70,7 +71,7 @@ impl Versions {
         let versions = &self.versions;
         KnownInterface::ALL
             .iter()
-            .filter(|interface| versions[place(**interface)].is_some())
+            .filter(|interface| versions[interface.place()].is_some())
             .count()
     }
 
@@ -78,28 +79,6 @@ impl Versions {
     pub(crate) fn insert(&mut self, interface: KnownInterface, version: u32)
         ensures { self.new ≡ finite.insert self.old (name_of interface) version }
     {
-        self.versions[place(interface)] = Some(version);
-    }
-}
-
-/// Where an interface's version stands.
-fn place(interface: KnownInterface) -> usize
-    ensures place { result ≡ place_of interface }
-    ensures within { result < 13 }
-{
-    match interface {
-        KnownInterface::Handshake => 0,
-        KnownInterface::Connection => 1,
-        KnownInterface::Callback => 2,
-        KnownInterface::Pingpong => 3,
-        KnownInterface::Seat => 4,
-        KnownInterface::Device => 5,
-        KnownInterface::Pointer => 6,
-        KnownInterface::PointerAbsolute => 7,
-        KnownInterface::Scroll => 8,
-        KnownInterface::Button => 9,
-        KnownInterface::Keyboard => 10,
-        KnownInterface::Touchscreen => 11,
-        KnownInterface::Text => 12,
+        self.versions[interface.place()] = Some(version);
     }
 }

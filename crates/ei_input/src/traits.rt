@@ -2,10 +2,7 @@
 
 ghost use Rattle.std.specs.Prelude.{◌≡◌, ℕ};
 
-use crate::inputs::{
-    Button, KeyboardKey, PointerMotion, PointerMotionAbsolute, ScrollCancel, ScrollDelta,
-    ScrollDiscrete, ScrollStop, TextKeysym, TextUtf8, TouchCancel, TouchDown, TouchMotion, TouchUp,
-};
+use crate::input_event::*;
 
 /// What is about a device, which it names by its key.
 pub trait DeviceEvent<D> {
@@ -244,6 +241,38 @@ impl<D> DeviceEvent<D> for TextUtf8<D> {
 }
 
 impl<D> EventTime<D> for TextUtf8<D> {
+    ghost time_of = { λ r. r.time };
+
+    fn time(&self) -> u64 {
+        self.time
+    }
+}
+
+impl<D> DeviceEvent<D> for GestureSwipe<D> {
+    ghost device_of = { λ r. r.device };
+
+    fn device(&self) -> &D {
+        &self.device
+    }
+}
+
+impl<D> EventTime<D> for GestureSwipe<D> {
+    ghost time_of = { λ r. r.time };
+
+    fn time(&self) -> u64 {
+        self.time
+    }
+}
+
+impl<D> DeviceEvent<D> for GesturePinch<D> {
+    ghost device_of = { λ r. r.device };
+
+    fn device(&self) -> &D {
+        &self.device
+    }
+}
+
+impl<D> EventTime<D> for GesturePinch<D> {
     ghost time_of = { λ r. r.time };
 
     fn time(&self) -> u64 {

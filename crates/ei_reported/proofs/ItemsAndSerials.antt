@@ -7,7 +7,7 @@ use Rattle.ei_spec.specs.Groups.{Other, Free}
 use Rattle.ei_types.specs.declared.error.EventError.{EventError}
 use Rattle.ei_types.specs.declared.error.EventError.TheVariants as error
 use Rattle.ei_types.specs.declared.enums.DisconnectReason.{DisconnectReason}
-use Rattle.ei_types.specs.Inputs.{Input}
+use Rattle.ei_input.specs.declared.input_event.InputEvent.{InputEvent}
 use Rattle.ei_spec.specs.FromValues.{first}
 use Rattle.ei_reported.specs.Said.{Told, Said, Disconnects, SeatDone, SeatGoes, DeviceDone, DeviceTells, DeviceGoes}
 use Rattle.ei_reported.specs.Said.{Inputs, Modifies, Goes}
@@ -61,11 +61,11 @@ item_device_tells before device n told = item_is before (DeviceTells device n to
 pub item_device_goes : (before : List Said) (device n : ℕ) → item before (DeviceGoes device n) ≡ cond (device_added before device) (Some (Other device (DeviceRemoved (device_of before device)))) None
 item_device_goes before device n = item_is before (DeviceGoes device n)
 
-heard : (input : Input) (o : Option ℕ) → by_refusal (unless (is_some o) error.DeviceEventBeforeDone) (waiting input o) ≡ waiting input o
+heard : (input : InputEvent) (o : Option ℕ) → by_refusal (unless (is_some o) error.DeviceEventBeforeDone) (waiting input o) ≡ waiting input o
 heard input None = refl
 heard input (Some d) = refl
 
-pub item_input : (before : List Said) (id : ℕ) (input : Input) → item before (Inputs id input) ≡ waiting input (holder before id)
+pub item_input : (before : List Said) (id : ℕ) (input : InputEvent) → item before (Inputs id input) ≡ waiting input (holder before id)
 item_input before id input = item_is before (Inputs id input) ∙ heard input (holder before id)
 
 heard_modifiers : (before : List Said) (n p l q g : ℕ) (o : Option ℕ) → by_refusal (unless (is_some o) error.DeviceEventBeforeDone) (modifying before n p l q g o) ≡ modifying before n p l q g o

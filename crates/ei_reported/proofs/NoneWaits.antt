@@ -5,7 +5,7 @@ use Rattle.ei_spec.specs.History.{since, each}
 use Rattle.ei_spec.specs.Groups.{Input as Waiting, Other, Free, group}
 use Rattle.ei_spec.proofs.GroupsLaws.{waits, group_more}
 use Rattle.ei_types.specs.declared.error.EventError.{EventError}
-use Rattle.ei_types.specs.Inputs.{Input}
+use Rattle.ei_input.specs.declared.input_event.InputEvent.{InputEvent}
 use Rattle.ei_reported.specs.Said.{Told, Resumed, Paused, StartEmulating, StopEmulating, Frame}
 use Rattle.ei_reported.specs.Said.{Said, SeatGoes, DeviceDone, DeviceTells, DeviceGoes, Inputs, Modifies}
 use Rattle.ei_reported.specs.Standing.{seat_added, device_done, device_goes, device_pending, device_typed, device_added, holder}
@@ -25,7 +25,7 @@ both_none false = refl
 abbrev waits_none : ℕ → Option Giving → Type 0
 waits_none d it = waits d [] it ≡ []
 
-no_input : (before : List Said) (d : ℕ) (x : Input) (e : ℕ) → device_added before d ≡ false → device_added before e ≡ true → (b : Bool) → eqb e d ≡ b → waits_none d (Some (Waiting e x))
+no_input : (before : List Said) (d : ℕ) (x : InputEvent) (e : ℕ) → device_added before d ≡ false → device_added before e ≡ true → (b : Bool) → eqb e d ≡ b → waits_none d (Some (Waiting e x))
 no_input before d x e h k true q = absurd (absurd_both (device_added before d) (sym (ap (device_added before) (eqb-true e d q)) ∙ k) h)
   where
     absurd_both : (b : Bool) → b ≡ true → b ≡ false → ⊥
@@ -86,7 +86,7 @@ gone_now false p false a h k = absurd (by a h k)
     by true h k = absurd cc
     by false h k = absurd cc
 
-goes_closes : (before : List Said) (m : Said) (d : ℕ) (xs : List Input) → device_added before d ≡ true → device_goes d m ≡ true → waits d xs (item before m) ≡ []
+goes_closes : (before : List Said) (m : Said) (d : ℕ) (xs : List InputEvent) → device_added before d ≡ true → device_goes d m ≡ true → waits d xs (item before m) ≡ []
 unfolding item
 goes_closes before (DeviceGoes e n) d xs k g =
     let there : device_added before e ≡ true = ap (device_added before) (eqb-true e d g) ∙ k in
@@ -111,7 +111,7 @@ waits_nothing start before m device e = group_by start before m device None e
 pub waits_free : (start : ℕ) (before : List Said) (m : Said) (y : Plain) (device : ℕ) → item before m ≡ Some (Free y) → group device (slots start (m ∷ before)) ≡ group device (slots start before)
 waits_free start before m y device e = group_by start before m device (Some (Free y)) e
 
-pub waits_input : (start : ℕ) (before : List Said) (id d device : ℕ) (x : Input) → holder before id ≡ Some d →
+pub waits_input : (start : ℕ) (before : List Said) (id d device : ℕ) (x : InputEvent) → holder before id ≡ Some d →
     group device (slots start (Inputs id x ∷ before)) ≡ cond (eqb d device) (group device (slots start before) ++ (x ∷ [])) (group device (slots start before))
 waits_input start before id d device x h = group_by start before (Inputs id x) device (Some (Waiting d x)) (item_input before id x ∙ ap (waiting x) h)
 
@@ -119,7 +119,7 @@ pub waits_modifiers : (start : ℕ) (before : List Said) (id d device serial dep
     group device (slots start (Modifies id serial depressed locked latched layout ∷ before)) ≡ cond (eqb d device) [] (group device (slots start before))
 waits_modifiers start before id d device s p l q g h = group_by start before (Modifies id s p l q g) device (modifying before s p l q g (Some d)) (item_modifiers before id s p l q g ∙ ap (modifying before s p l q g) h)
 
-told_closes : (before : List Said) (d serial device : ℕ) (xs : List Input) (told : Told) → waits device xs (Some (telling (device_of before d) serial told)) ≡ cond (eqb d device) [] xs
+told_closes : (before : List Said) (d serial device : ℕ) (xs : List InputEvent) (told : Told) → waits device xs (Some (telling (device_of before d) serial told)) ≡ cond (eqb d device) [] xs
 told_closes before d serial device xs Resumed = refl
 told_closes before d serial device xs Paused = refl
 told_closes before d serial device xs (StartEmulating n) = refl

@@ -9,7 +9,7 @@ use Rattle.ei_spec.specs.Groups.{frames_made, grouped, with_frame}
 use Rattle.ei_spec.proofs.HistoryLaws.{said_now, said_before, each_more, joined_more, joined_prefix}
 use Rattle.ei_spec.proofs.GroupsLaws.{waits, group_more, frames_made_more, made_by, grouped_more, gives_later}
 use Rattle.ei_types.specs.declared.error.EventError.{EventError}
-use Rattle.ei_types.specs.Inputs.{Input}
+use Rattle.ei_input.specs.declared.input_event.InputEvent.{InputEvent}
 use Rattle.ei_reported.specs.Event.{Event}
 use Rattle.ei_reported.specs.Said.{Said, said}
 use Rattle.ei_reported.specs.Reported.{Device, device_of, Plain, Report, Giving, refusal, item, keeps, serial, slot, slots, tells, reported}
@@ -54,7 +54,7 @@ pub tells_nothing : (start : ℕ) (readings : List ℕ) (before : List Said) (m 
 unfolding gives
 tells_nothing start readings before m e = tells_by start readings before m None e
 
-pub tells_input : (start : ℕ) (readings : List ℕ) (before : List Said) (m : Said) (d : ℕ) (x : Input) → item before m ≡ Some (Waiting d x) → tells start readings before m ≡ []
+pub tells_input : (start : ℕ) (readings : List ℕ) (before : List Said) (m : Said) (d : ℕ) (x : InputEvent) → item before m ≡ Some (Waiting d x) → tells start readings before m ≡ []
 unfolding gives
 tells_input start readings before m d x e = tells_by start readings before m (Some (Waiting d x)) e
 
@@ -94,7 +94,7 @@ frames_by start before m o e =
     ∙ ap (λ (x : Option Giving). frames_made (slots start before) + made_by (λ d. group d (slots start before)) x) e
 
 -- 1 for a group of some inputs
-one_for_some : (xs : List Input) → ◌≡◌ {A = ℕ} (elim xs [ [] ↦ 0 | _ ∷ _ ↦ 1 ]) (cond (eqb (length xs) 0) 0 1)
+one_for_some : (xs : List InputEvent) → ◌≡◌ {A = ℕ} (elim xs [ [] ↦ 0 | _ ∷ _ ↦ 1 ]) (cond (eqb (length xs) 0) 0 1)
 one_for_some [] = refl
 one_for_some (x ∷ xs) = let e : eqb (length (x ∷ xs)) 0 ≡ false = grind (arith, nat_tests) in rw e refl
 
@@ -103,7 +103,7 @@ pub frames_other : (start : ℕ) (before : List Said) (m : Said) (d : ℕ) (y : 
 frames_other start before m d y e =
     frames_by start before m (Some (Other d y)) e ∙ ap (λ (n : ℕ). frames_made (slots start before) + n) (one_for_some (group d (slots start before)))
 
-pub frames_input : (start : ℕ) (before : List Said) (m : Said) (d : ℕ) (x : Input) → item before m ≡ Some (Waiting d x) → frames_made (slots start (m ∷ before)) ≡ frames_made (slots start before)
+pub frames_input : (start : ℕ) (before : List Said) (m : Said) (d : ℕ) (x : InputEvent) → item before m ≡ Some (Waiting d x) → frames_made (slots start (m ∷ before)) ≡ frames_made (slots start before)
 frames_input start before m d x e = let h = frames_by start before m (Some (Waiting d x)) e in omega (arith, h)
 
 pub frames_frame : (start : ℕ) (before : List Said) (m : Said) (d s t : ℕ) → item before m ≡ Some (Framing d s t) → frames_made (slots start (m ∷ before)) ≡ frames_made (slots start before)

@@ -10,9 +10,9 @@ use Rattle.ei_types.specs.declared.enums.KeyState.{KeyState}
 use Rattle.ei_types.specs.declared.enums.KeyState.TheVariants as key_state
 use Rattle.ei_types.specs.Enums.{IsReason, disconnect_reason_number, button_state_number, key_state_number}
 use Rattle.ei_types.proofs.EnumNumbers.{reason_again}
-use Rattle.ei_types.specs.Inputs.{Button, KeyboardKey, TextKeysym}
+use Rattle.ei_input.specs.Inputs.{button_of, key_of}
 use Rattle.ei_reported.specs.Event.{event}
-use Rattle.ei_reported.specs.Said.{Disconnects, Inputs, said}
+use Rattle.ei_reported.specs.Said.{Disconnects, said}
 
 pub disconnected : (id last_serial : ℕ) (why : DisconnectReason) (t : List ℕ) → IsReason why →
     said (event known.Connection (codes "disconnected") id (Word last_serial ∷ Word (disconnect_reason_number why) ∷ Letters t ∷ [])) ≡ Disconnects last_serial why (Some t)
@@ -24,17 +24,10 @@ pub without_text : (id last_serial : ℕ) (why : DisconnectReason) → IsReason 
 unfolding said
 without_text id s why is = ap (λ (r : DisconnectReason). Disconnects s r None) (reason_again why is)
 
-pub button : (id code : ℕ) (state : ButtonState) → said (event known.Button (codes "button") id (Word code ∷ Word (button_state_number state) ∷ [])) ≡ Inputs id (Button code state)
-unfolding said
-button id code button_state.Released = refl
-button id code button_state.Press = refl
+pub button_again : (state : ButtonState) → button_of (button_state_number state) ≡ state
+button_again button_state.Released = refl
+button_again button_state.Press = refl
 
-pub key : (id code : ℕ) (state : KeyState) → said (event known.Keyboard (codes "key") id (Word code ∷ Word (key_state_number state) ∷ [])) ≡ Inputs id (KeyboardKey code state)
-unfolding said
-key id code key_state.Released = refl
-key id code key_state.Press = refl
-
-pub keysym : (id sym : ℕ) (state : KeyState) → said (event known.Text (codes "keysym") id (Word sym ∷ Word (key_state_number state) ∷ [])) ≡ Inputs id (TextKeysym sym state)
-unfolding said
-keysym id sym key_state.Released = refl
-keysym id sym key_state.Press = refl
+pub key_again : (state : KeyState) → key_of (key_state_number state) ≡ state
+key_again key_state.Released = refl
+key_again key_state.Press = refl

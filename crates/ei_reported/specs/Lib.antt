@@ -11,4 +11,4 @@ pub use Rattle.ei_spec.specs.History
 pub use Rattle.ei_spec.specs.Value
 pub use Rattle.ei_types.specs.Capability
 pub use Rattle.ei_types.specs.Enums
-pub use Rattle.ei_types.specs.Inputs
+pub use Rattle.ei_input.specs.Inputs

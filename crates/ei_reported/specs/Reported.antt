@@ -6,7 +6,7 @@ use Rattle.ei_types.specs.declared.enums.DisconnectReason.{DisconnectReason}
 use Rattle.ei_types.specs.declared.error.EventError.{EventError}
 use Rattle.ei_types.specs.declared.error.EventError.TheVariants as event
 use Rattle.ei_types.specs.Capability.{capability_named}
-use Rattle.ei_types.specs.Inputs.{Input}
+use Rattle.ei_input.specs.declared.input_event.InputEvent.{InputEvent}
 use Rattle.ei_spec.specs.FromValues.{first}
 use Rattle.ei_spec.specs.History.{last_said, each, joined}
 use Rattle.ei_spec.specs.Groups.{Item, Input as Waiting, Frame as Framing, Other, Free, Given, seen, Slot, gives}
@@ -40,11 +40,11 @@ pub data Plain : Type 0 where
 
 -- an event as the user is given it: an input with its time, a frame, or another
 abbrev pub Report : Type 0
-Report = Given Device Input Plain
+Report = Given Device InputEvent Plain
 
 -- what an event gives, before inputs are grouped
 abbrev pub Giving : Type 0
-Giving = Item Input Plain
+Giving = Item InputEvent Plain
 
 -- ---- why an event is refused
 
@@ -93,7 +93,7 @@ telling device serial StopEmulating = Other device.id (DeviceStopEmulating devic
 telling device serial (Frame time) = Framing device.id serial time
 
 -- an input of the device that has the interface
-abbrev pub waiting : Input → Option ℕ → Option Giving
+abbrev pub waiting : InputEvent → Option ℕ → Option Giving
 waiting input None = None
 waiting input (Some device) = Some (Waiting device input)
 
@@ -137,11 +137,11 @@ serial start before = unwrap_or (last_said keeps before) start
 -- ---- the whole
 
 -- what is given at a position, with the serial there, its own included
-unfoldable pub slot : ℕ → List Said → Said → Slot Input Plain
+unfoldable pub slot : ℕ → List Said → Said → Slot InputEvent Plain
 slot start before m = record { item = item before m; serial = serial start (m ∷ before) }
 
 -- what is given at each position
-abbrev pub slots : ℕ → List Said → List (Slot Input Plain)
+abbrev pub slots : ℕ → List Said → List (Slot InputEvent Plain)
 slots start before = each (slot start) before
 
 -- what a position gives to the user: what the groups of inputs give there, each device with its seat

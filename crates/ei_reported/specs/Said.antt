@@ -7,7 +7,8 @@ use Rattle.ei_types.specs.declared.enums.DisconnectReason.{DisconnectReason}
 use Rattle.ei_types.specs.Enums.{reason_of}
 use Rattle.ei_spec.specs.Value.{Value, Word, Long, Letters, Null}
 use Rattle.ei_spec.specs.FromValues.{first, none, whatever, one, two, new}
-use Rattle.ei_types.specs.Inputs.{Input, input_by}
+use Rattle.ei_input.specs.declared.input_event.InputEvent.{InputEvent}
+use Rattle.ei_input.specs.Inputs.{input_by}
 use Rattle.ei_reported.specs.Event.{Event, called}
 
 -- what a device tells once it is added
@@ -41,7 +42,7 @@ pub data Said : Type 0 where
   DeviceGoes : (device serial : ℕ) → Said
   -- an interface of a device: its keymap, an input, its modifiers, it goes
   Maps : (id : ℕ) → Said
-  Inputs : (id : ℕ) → (input : Input) → Said
+  Inputs : (id : ℕ) → (input : InputEvent) → Said
   Modifies : (id serial depressed locked latched group : ℕ) → Said
   Goes : (interface : KnownInterface) → (id serial : ℕ) → Said
 

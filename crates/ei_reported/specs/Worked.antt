@@ -75,8 +75,8 @@ typed_device =
     ∷ [])
 
 -- an added device of a pointer, a keyboard, a text and a button
-abbrev pub device_of_four : List Event
-device_of_four =
+abbrev pub device_of_some : List Event
+device_of_some =
     typed_device ++
     (event known.Device (codes "interface") 102 (Long 103 ∷ Letters (codes "ei_pointer") ∷ Word 1 ∷ [])
     ∷ event known.Device (codes "interface") 102 (Long 104 ∷ Letters (codes "ei_keyboard") ∷ Word 1 ∷ [])
@@ -85,9 +85,9 @@ device_of_four =
     ∷ event known.Device (codes "done") 102 []
     ∷ [])
 
--- an added device of all seven interfaces
-abbrev pub device_of_seven : List Event
-device_of_seven =
+-- an added device of all interfaces
+abbrev pub device_of_all : List Event
+device_of_all =
     typed_device ++
     (event known.Device (codes "interface") 102 (Long 200 ∷ Letters (codes "ei_pointer") ∷ Word 1 ∷ [])
     ∷ event known.Device (codes "interface") 102 (Long 201 ∷ Letters (codes "ei_pointer_absolute") ∷ Word 1 ∷ [])
@@ -96,6 +96,7 @@ device_of_seven =
     ∷ event known.Device (codes "interface") 102 (Long 204 ∷ Letters (codes "ei_keyboard") ∷ Word 1 ∷ [])
     ∷ event known.Device (codes "interface") 102 (Long 205 ∷ Letters (codes "ei_touchscreen") ∷ Word 1 ∷ [])
     ∷ event known.Device (codes "interface") 102 (Long 206 ∷ Letters (codes "ei_text") ∷ Word 1 ∷ [])
+    ∷ event known.Device (codes "interface") 102 (Long 207 ∷ Letters (codes "ei_x_gesture") ∷ Word 1 ∷ [])
     ∷ event known.Device (codes "done") 102 []
     ∷ [])
 

@@ -4,7 +4,7 @@ use Rattle.ei_spec.specs.declared.interface.KnownInterface.TheVariants as known
 use Rattle.ei_spec.specs.declared.handle.Handle.{Handle}
 use Rattle.ei_spec.specs.Value.{Word, Long, Signed, Letters, Null, Fd}
 use Rattle.ei_reported.specs.Event.{Event, event}
-use Rattle.ei_reported.specs.Worked.{added_seat, pending_device, typed_device, device_of_four, device_of_seven, device_of_button}
+use Rattle.ei_reported.specs.Worked.{added_seat, pending_device, typed_device, device_of_some, device_of_all, device_of_button}
 
 -- a device of a button, and the ends of interfaces that no device has: of a button, and of a text
 abbrev pub strangers_gone : List Event
@@ -63,7 +63,7 @@ seat_destroyed =
 -- an added seat goes, while inputs wait on its device
 abbrev pub seat_removed_its_device_stays : List Event
 seat_removed_its_device_stays =
-    device_of_four ++
+    device_of_some ++
     (event known.Pointer (codes "motion_relative") 103 (Word 1 ∷ Word 2 ∷ [])
     ∷ event known.Seat (codes "destroyed") 101 (Word 8 ∷ [])
     ∷ event known.Pointer (codes "motion_relative") 103 (Word 1 ∷ Word 2 ∷ [])
@@ -102,7 +102,7 @@ device_before_done =
 -- what is refused of a device once it is added
 abbrev pub device_after_done : Handle → List Event
 device_after_done h =
-    device_of_four ++
+    device_of_some ++
     (event known.Device (codes "name") 102 (Letters (codes "x") ∷ [])
     ∷ event known.Device (codes "device_type") 102 (Word 2 ∷ [])
     ∷ event known.Device (codes "dimensions") 102 (Word 1 ∷ Word 2 ∷ [])
@@ -156,7 +156,7 @@ last_of_a_name =
 -- inputs are grouped by frames, and by frames that are made before other events of their device
 abbrev pub groups : List Event
 groups =
-    device_of_four ++
+    device_of_some ++
     (event known.Pointer (codes "motion_relative") 103 (Word 1 ∷ Word 2 ∷ [])
     ∷ event known.Keyboard (codes "key") 104 (Word 30 ∷ Word 1 ∷ [])
     ∷ event known.Device (codes "frame") 102 (Word 7 ∷ Long 11 ∷ [])
@@ -176,10 +176,10 @@ groups =
     ∷ event known.Pointer (codes "motion_relative") 103 (Word 1 ∷ Word 2 ∷ [])
     ∷ [])
 
--- all fourteen inputs, and the frame of a device
+-- all inputs, and the frame of a device
 abbrev pub all_inputs : List Event
 all_inputs =
-    device_of_seven ++
+    device_of_all ++
     (event known.Pointer (codes "motion_relative") 200 (Word 1 ∷ Word 2 ∷ [])
     ∷ event known.PointerAbsolute (codes "motion_absolute") 201 (Word 3 ∷ Word 4 ∷ [])
     ∷ event known.Scroll (codes "scroll") 202 (Word 5 ∷ Word 6 ∷ [])
@@ -194,13 +194,15 @@ all_inputs =
     ∷ event known.Touchscreen (codes "cancel") 205 (Word 9 ∷ [])
     ∷ event known.Text (codes "keysym") 206 (Word 97 ∷ Word 1 ∷ [])
     ∷ event known.Text (codes "utf8") 206 (Letters (codes "abc") ∷ [])
+    ∷ event known.Gesture (codes "swipe") 207 (Word 3 ∷ Word 5 ∷ Word 6 ∷ [])
+    ∷ event known.Gesture (codes "pinch") 207 (Word 7 ∷ [])
     ∷ event known.Device (codes "frame") 102 (Word 3 ∷ Long 77 ∷ [])
     ∷ [])
 
--- all seven interfaces go, and go again
+-- all interfaces of a device go, and go again
 abbrev pub all_gone : List Event
 all_gone =
-    device_of_seven ++
+    device_of_all ++
     (event known.Pointer (codes "destroyed") 200 (Word 50 ∷ [])
     ∷ event known.PointerAbsolute (codes "destroyed") 201 (Word 51 ∷ [])
     ∷ event known.Scroll (codes "destroyed") 202 (Word 52 ∷ [])
@@ -208,6 +210,7 @@ all_gone =
     ∷ event known.Keyboard (codes "destroyed") 204 (Word 54 ∷ [])
     ∷ event known.Touchscreen (codes "destroyed") 205 (Word 55 ∷ [])
     ∷ event known.Text (codes "destroyed") 206 (Word 56 ∷ [])
+    ∷ event known.Gesture (codes "destroyed") 207 (Word 57 ∷ [])
     ∷ event known.Pointer (codes "destroyed") 200 (Word 70 ∷ [])
     ∷ event known.PointerAbsolute (codes "destroyed") 201 (Word 71 ∷ [])
     ∷ event known.Scroll (codes "destroyed") 202 (Word 72 ∷ [])
@@ -215,6 +218,7 @@ all_gone =
     ∷ event known.Keyboard (codes "destroyed") 204 (Word 74 ∷ [])
     ∷ event known.Touchscreen (codes "destroyed") 205 (Word 75 ∷ [])
     ∷ event known.Text (codes "destroyed") 206 (Word 76 ∷ [])
+    ∷ event known.Gesture (codes "destroyed") 207 (Word 77 ∷ [])
     ∷ event known.Pointer (codes "motion_relative") 200 (Word 1 ∷ Word 2 ∷ [])
     ∷ [])
 
@@ -235,7 +239,7 @@ unknown =
 -- emulation starts and stops; inputs of interfaces that no device has
 abbrev pub emulation : List Event
 emulation =
-    device_of_four ++
+    device_of_some ++
     (event known.Device (codes "start_emulating") 102 (Word 7 ∷ Word 1 ∷ [])
     ∷ event known.Keyboard (codes "key") 104 (Word 30 ∷ Word 1 ∷ [])
     ∷ event known.Device (codes "stop_emulating") 102 (Word 8 ∷ [])
@@ -255,7 +259,7 @@ emulation =
 -- events that come too late, and a second device without a type
 abbrev pub late_events : List Event
 late_events =
-    device_of_four ++
+    device_of_some ++
     (event known.Device (codes "interface") 102 (Long 171 ∷ Letters (codes "ei_pointer") ∷ Word 1 ∷ [])
     ∷ event known.Pointer (codes "motion_relative") 103 (Word 1 ∷ Word 2 ∷ [])
     ∷ event known.Device (codes "frame") 102 (Word 3 ∷ Long 8 ∷ [])
@@ -270,7 +274,7 @@ late_events =
 -- two devices of one seat, each with its own inputs
 abbrev pub two_devices : List Event
 two_devices =
-    device_of_four ++
+    device_of_some ++
     (event known.Seat (codes "device") 101 (Long 180 ∷ Word 1 ∷ [])
     ∷ event known.Device (codes "device_type") 180 (Word 2 ∷ [])
     ∷ event known.Device (codes "interface") 180 (Long 181 ∷ Letters (codes "ei_pointer") ∷ Word 1 ∷ [])

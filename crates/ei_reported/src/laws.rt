@@ -3,7 +3,7 @@
 ghost use Rattle.std.specs.Prelude.{◌≡◌, ◌≤◌, ℕ, ◌+◌, List, [], ◌∷◌, ◌++◌, ◌==◌, Some, None, false, true};
 ghost use Rattle.std.specs.Prelude.{unwrap_or, length, map, slice_index, if◌then◌else◌};
 ghost use Rattle.ei_types.specs.declared.error.EventError.{EventError};
-ghost use Rattle.ei_types.specs.Inputs.{Input};
+ghost use Rattle.ei_input.specs.declared.input_event.InputEvent.{InputEvent};
 ghost use Rattle.ei_spec.specs.Groups.{Input as Waiting, Frame, Other, Free, Plain, seen};
 ghost use Rattle.ei_spec.specs.Groups.{gives, group, grouped, frames_made};
 ghost use Rattle.ei_reported.specs.Event.{Event};
@@ -54,7 +54,7 @@ pub fn refused_events()
 pub fn given_by_item()
     ensures nothing { (start : ℕ) (readings : List ℕ) (before : List Said) (m : Said) → item before m ≡ None →
         tells start readings before m ≡ [] }
-    ensures input { (start : ℕ) (readings : List ℕ) (before : List Said) (m : Said) (d : ℕ) (x : Input) →
+    ensures input { (start : ℕ) (readings : List ℕ) (before : List Said) (m : Said) (d : ℕ) (x : InputEvent) →
         item before m ≡ Some (Waiting d x) → tells start readings before m ≡ [] }
     ensures frame { (start : ℕ) (readings : List ℕ) (before : List Said) (m : Said) (d s t : ℕ) →
         item before m ≡ Some (Frame d s t) → tells start readings before m ≡ group_told start before d s t }
@@ -78,7 +78,7 @@ pub fn frames_after()
         item before m ≡ Some (Other d y) →
         frames_made (slots start (m ∷ before)) ≡
         frames_made (slots start before) + (if length (group d (slots start before)) == 0 then 0 else 1) }
-    ensures input { (start : ℕ) (before : List Said) (m : Said) (d : ℕ) (x : Input) →
+    ensures input { (start : ℕ) (before : List Said) (m : Said) (d : ℕ) (x : InputEvent) →
         item before m ≡ Some (Waiting d x) →
         frames_made (slots start (m ∷ before)) ≡ frames_made (slots start before) }
     ensures frame { (start : ℕ) (before : List Said) (m : Said) (d s t : ℕ) → item before m ≡ Some (Frame d s t) →
@@ -91,7 +91,7 @@ pub fn frames_after()
 
 /// The inputs that wait on each device, after an event of each kind.
 pub fn waiting_after()
-    ensures input { (start : ℕ) (before : List Said) (id d device : ℕ) (x : Input) → holder before id ≡ Some d →
+    ensures input { (start : ℕ) (before : List Said) (id d device : ℕ) (x : InputEvent) → holder before id ≡ Some d →
         group device (slots start (Inputs id x ∷ before)) ≡
         (if d == device then group device (slots start before) ++ (x ∷ []) else group device (slots start before)) }
     ensures modifiers { (start : ℕ) (before : List Said) (id d device serial depressed locked latched layout : ℕ) →

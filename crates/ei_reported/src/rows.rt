@@ -14,9 +14,9 @@ ghost use Rattle.ei_types.specs.declared.enums.KeyState.{KeyState};
 ghost use Rattle.ei_types.specs.Enums.{IsReason, disconnect_reason_number, button_state_number, key_state_number};
 ghost use Rattle.ei_types.specs.declared.error.EventError.TheVariants as error;
 ghost use Rattle.ei_types.specs.Capability.{capability_named};
-ghost use Rattle.ei_types.specs.Inputs.{Input, PointerMotion, PointerMotionAbsolute, Button, ScrollDelta, ScrollStop};
-ghost use Rattle.ei_types.specs.Inputs.{ScrollCancel, ScrollDiscrete, KeyboardKey, TouchDown, TouchMotion, TouchUp};
-ghost use Rattle.ei_types.specs.Inputs.{TouchCancel, TextKeysym, TextUtf8};
+ghost use Rattle.ei_input.specs.declared.input_event.InputEvent.TheVariants as input_event;
+ghost use Rattle.ei_input.specs.declared.input_event.InputEvent.{InputEvent};
+ghost use Rattle.ei_input.specs.Inputs.{float, floats, touching};
 ghost use Rattle.ei_reported.specs.Event.{event};
 ghost use Rattle.ei_reported.specs.Said.{Told, Resumed, Paused, StartEmulating, StopEmulating, Frame};
 ghost use Rattle.ei_reported.specs.Said.{Said, Shakes, Aside, Disconnects, SeatComes, SeatHasName, SeatHas, SeatDone};
@@ -112,6 +112,8 @@ pub fn interface_events()
         said (event known.Touchscreen (codes "destroyed") id (Word serial ∷ [])) ≡ Goes known.Touchscreen id serial }
     ensures text { (id serial : ℕ) →
         said (event known.Text (codes "destroyed") id (Word serial ∷ [])) ≡ Goes known.Text id serial }
+    ensures gesture { (id serial : ℕ) →
+        said (event known.Gesture (codes "destroyed") id (Word serial ∷ [])) ≡ Goes known.Gesture id serial }
     ensures keymap { (id type size : ℕ) (h : Handle) →
         said (event known.Keyboard (codes "keymap") id (Word type ∷ Word size ∷ Fd h ∷ [])) ≡ Maps id }
     ensures modifiers { (id serial depressed locked latched layout : ℕ) →
@@ -123,42 +125,51 @@ pub fn interface_events()
 /// The inputs.
 pub fn input_events()
     ensures motion_relative { (id x y : ℕ) →
-        said (event known.Pointer (codes "motion_relative") id (Word x ∷ Word y ∷ [])) ≡ Inputs id (PointerMotion x y) }
+        said (event known.Pointer (codes "motion_relative") id (Word x ∷ Word y ∷ [])) ≡
+        Inputs id (floats input_event.PointerMotion x y) }
     ensures motion_absolute { (id x y : ℕ) →
         said (event known.PointerAbsolute (codes "motion_absolute") id (Word x ∷ Word y ∷ [])) ≡
-        Inputs id (PointerMotionAbsolute x y) }
+        Inputs id (floats input_event.PointerMotionAbsolute x y) }
     ensures scroll { (id x y : ℕ) →
-        said (event known.Scroll (codes "scroll") id (Word x ∷ Word y ∷ [])) ≡ Inputs id (ScrollDelta x y) }
+        said (event known.Scroll (codes "scroll") id (Word x ∷ Word y ∷ [])) ≡
+        Inputs id (floats input_event.ScrollDelta x y) }
     ensures scroll_discrete { (id : ℕ) (x y : ℤ) →
         said (event known.Scroll (codes "scroll_discrete") id (Signed x ∷ Signed y ∷ [])) ≡
-        Inputs id (ScrollDiscrete x y) }
+        Inputs id (input_event.ScrollDiscrete x y) }
     ensures scroll_stop { (id x y : ℕ) →
         said (event known.Scroll (codes "scroll_stop") id (Word x ∷ Word y ∷ Word 0 ∷ [])) ≡
-        Inputs id (ScrollStop (not (x == 0)) (not (y == 0))) }
+        Inputs id (input_event.ScrollStop (not (x == 0)) (not (y == 0))) }
     ensures scroll_cancel { (id x y n : ℕ) → n == 0 ≡ false →
         said (event known.Scroll (codes "scroll_stop") id (Word x ∷ Word y ∷ Word n ∷ [])) ≡
-        Inputs id (ScrollCancel (not (x == 0)) (not (y == 0))) }
+        Inputs id (input_event.ScrollCancel (not (x == 0)) (not (y == 0))) }
     ensures button { (id code : ℕ) (state : ButtonState) →
         said (event known.Button (codes "button") id (Word code ∷ Word (button_state_number state) ∷ [])) ≡
-        Inputs id (Button code state) }
+        Inputs id (input_event.Button code state) }
     ensures key { (id key : ℕ) (state : KeyState) →
         said (event known.Keyboard (codes "key") id (Word key ∷ Word (key_state_number state) ∷ [])) ≡
-        Inputs id (KeyboardKey key state) }
+        Inputs id (input_event.KeyboardKey key state) }
     ensures down { (id touch x y : ℕ) →
         said (event known.Touchscreen (codes "down") id (Word touch ∷ Word x ∷ Word y ∷ [])) ≡
-        Inputs id (TouchDown touch x y) }
+        Inputs id (touching input_event.TouchDown touch x y) }
     ensures motion { (id touch x y : ℕ) →
         said (event known.Touchscreen (codes "motion") id (Word touch ∷ Word x ∷ Word y ∷ [])) ≡
-        Inputs id (TouchMotion touch x y) }
+        Inputs id (touching input_event.TouchMotion touch x y) }
     ensures up { (id touch : ℕ) →
-        said (event known.Touchscreen (codes "up") id (Word touch ∷ [])) ≡ Inputs id (TouchUp touch) }
+        said (event known.Touchscreen (codes "up") id (Word touch ∷ [])) ≡ Inputs id (input_event.TouchUp touch) }
     ensures cancel { (id touch : ℕ) →
-        said (event known.Touchscreen (codes "cancel") id (Word touch ∷ [])) ≡ Inputs id (TouchCancel touch) }
+        said (event known.Touchscreen (codes "cancel") id (Word touch ∷ [])) ≡
+        Inputs id (input_event.TouchCancel touch) }
     ensures keysym { (id keysym : ℕ) (state : KeyState) →
         said (event known.Text (codes "keysym") id (Word keysym ∷ Word (key_state_number state) ∷ [])) ≡
-        Inputs id (TextKeysym keysym state) }
+        Inputs id (input_event.TextKeysym keysym state) }
     ensures utf8 { (id : ℕ) (t : List ℕ) →
-        said (event known.Text (codes "utf8") id (Letters t ∷ [])) ≡ Inputs id (TextUtf8 t) }
+        said (event known.Text (codes "utf8") id (Letters t ∷ [])) ≡ Inputs id (input_event.TextUtf8 t) }
+    ensures swipe { (id fingers x y : ℕ) →
+        said (event known.Gesture (codes "swipe") id (Word fingers ∷ Word x ∷ Word y ∷ [])) ≡
+        Inputs id (touching input_event.GestureSwipe fingers x y) }
+    ensures pinch { (id scale : ℕ) →
+        said (event known.Gesture (codes "pinch") id (Word scale ∷ [])) ≡
+        Inputs id (input_event.GesturePinch (float scale)) }
 {}
 
 /// Why what is said is refused, by its kind; the tests come in this order.
@@ -197,7 +208,7 @@ pub fn refusals()
     // of an interface
     ensures keymap { (before : List Said) (id : ℕ) → refusal before (Maps id) ≡
         (if is_in_setup before id then None else Some error.DeviceSetupEventAfterDone) }
-    ensures input { (before : List Said) (id : ℕ) (input : Input) → refusal before (Inputs id input) ≡
+    ensures input { (before : List Said) (id : ℕ) (input : InputEvent) → refusal before (Inputs id input) ≡
         (if is_some (holder before id) then None else Some error.DeviceEventBeforeDone) }
     ensures modifiers { (before : List Said) (id serial depressed locked latched layout : ℕ) →
         refusal before (Modifies id serial depressed locked latched layout) ≡
@@ -224,7 +235,7 @@ pub fn items()
     ensures device_goes { (before : List Said) (device serial : ℕ) → item before (DeviceGoes device serial) ≡
         (if device_added before device
         then Some (Other device (DeviceRemoved (device_of before device))) else None) }
-    ensures input { (before : List Said) (id : ℕ) (input : Input) →
+    ensures input { (before : List Said) (id : ℕ) (input : InputEvent) →
         item before (Inputs id input) ≡ waiting input (holder before id) }
     ensures modifiers { (before : List Said) (id serial depressed locked latched layout : ℕ) →
         item before (Modifies id serial depressed locked latched layout) ≡

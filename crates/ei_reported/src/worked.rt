@@ -8,9 +8,8 @@ ghost use Rattle.ei_types.specs.declared.enums.ButtonState.TheVariants as button
 ghost use Rattle.ei_types.specs.declared.enums.KeyState.TheVariants as key_state;
 ghost use Rattle.ei_types.specs.declared.enums.DisconnectReason.TheVariants as reason;
 ghost use Rattle.ei_types.specs.declared.error.EventError.TheVariants as error;
-ghost use Rattle.ei_types.specs.Inputs.{PointerMotion, PointerMotionAbsolute, Button, ScrollDelta, ScrollStop};
-ghost use Rattle.ei_types.specs.Inputs.{ScrollCancel, ScrollDiscrete, KeyboardKey, TouchDown, TouchMotion, TouchUp};
-ghost use Rattle.ei_types.specs.Inputs.{TouchCancel, TextKeysym, TextUtf8};
+ghost use Rattle.ei_input.specs.declared.input_event.InputEvent.TheVariants as input_event;
+ghost use Rattle.ei_input.specs.Inputs.{float, floats, touching};
 ghost use Rattle.ei_reported.specs.Reported.{Disconnected, SeatAdded, SeatRemoved, DeviceAdded, DeviceRemoved};
 ghost use Rattle.ei_reported.specs.Reported.{DevicePaused, DeviceResumed, KeyboardModifiers, DeviceStartEmulating};
 ghost use Rattle.ei_reported.specs.Reported.{DeviceStopEmulating};
@@ -30,7 +29,7 @@ pub fn a_device()
 pub fn two_seats()
     ensures told { told lists.two_seats ≡ Plain (SeatAdded 101) ∷ Plain (SeatAdded 111)
         ∷ Plain (DeviceAdded (device_of 111 112)) ∷ Plain (DeviceAdded (device 102))
-        ∷ Plain (DevicePaused (device_of 111 112) 6) ∷ Timed (device_of 111 112) (ScrollDelta 3 4) 9
+        ∷ Plain (DevicePaused (device_of 111 112) 6) ∷ Timed (device_of 111 112) (floats input_event.ScrollDelta 3 4) 9
         ∷ Framed (device_of 111 112) 7 9 ∷ Plain (SeatRemoved 111) ∷ Plain (DeviceRemoved (device_of 111 112)) ∷ [] }
     ensures refused { refused lists.two_seats ≡ fails 16 error.SeatEventBeforeDone ∷ [] }
     ensures serial { serial_after lists.two_seats ≡ 12 }
@@ -81,7 +80,8 @@ pub fn seat_destroyed()
 /// An added seat goes, while inputs wait on its device.
 pub fn seat_removed_its_device_stays()
     ensures told { told lists.seat_removed_its_device_stays ≡ seat_and_device ++ (Plain (SeatRemoved 101)
-        ∷ Timed (device 102) (PointerMotion 1 2) 50 ∷ Timed (device 102) (PointerMotion 1 2) 50
+        ∷ Timed (device 102) (floats input_event.PointerMotion 1 2) 50
+        ∷ Timed (device 102) (floats input_event.PointerMotion 1 2) 50
         ∷ Framed (device 102) 9 50 ∷ []) }
     ensures refused { refused lists.seat_removed_its_device_stays ≡ fails 12 error.SeatEventBeforeDone ∷ [] }
     ensures serial { serial_after lists.seat_removed_its_device_stays ≡ 9 }
@@ -137,39 +137,47 @@ pub fn last_of_a_name()
 
 /// Inputs are grouped by frames, and by frames that are made before other events of their device.
 pub fn groups()
-    ensures told { told lists.groups ≡ seat_and_device ++ (Timed (device 102) (PointerMotion 1 2) 11
-        ∷ Timed (device 102) (KeyboardKey 30 key_state.Press) 11 ∷ Framed (device 102) 7 11
-        ∷ Timed (device 102) (PointerMotion 1 2) 1000 ∷ Framed (device 102) 9 1000
-        ∷ Plain (DeviceResumed (device 102) 9) ∷ Timed (device 102) (KeyboardKey 30 key_state.Press) 2000
+    ensures told { told lists.groups ≡ seat_and_device ++ (Timed (device 102) (floats input_event.PointerMotion 1 2) 11
+        ∷ Timed (device 102) (input_event.KeyboardKey 30 key_state.Press) 11 ∷ Framed (device 102) 7 11
+        ∷ Timed (device 102) (floats input_event.PointerMotion 1 2) 1000 ∷ Framed (device 102) 9 1000
+        ∷ Plain (DeviceResumed (device 102) 9) ∷ Timed (device 102) (input_event.KeyboardKey 30 key_state.Press) 2000
         ∷ Framed (device 102) 10 2000 ∷ Plain (KeyboardModifiers (device 102) 10 1 3 2 4)
-        ∷ Timed (device 102) (PointerMotion 1 2) 0 ∷ Framed (device 102) 22 0
+        ∷ Timed (device 102) (floats input_event.PointerMotion 1 2) 0 ∷ Framed (device 102) 22 0
         ∷ Plain (DevicePaused (device 102) 22) ∷ Plain (Disconnected 1 reason.Disconnected None)
-        ∷ Plain (SeatRemoved 101) ∷ Timed (device 102) (PointerMotion 1 2) 0 ∷ Framed (device 102) 40 0
+        ∷ Plain (SeatRemoved 101) ∷ Timed (device 102) (floats input_event.PointerMotion 1 2) 0
+        ∷ Framed (device 102) 40 0
         ∷ Plain (DeviceRemoved (device 102)) ∷ []) }
     ensures refused { refused lists.groups ≡ all_fail error.DeviceEventBeforeDone (19 ∷ 25 ∷ []) }
     ensures serial { serial_after lists.groups ≡ 40 }
 {}
 
-/// All fourteen inputs, and the frame of a device.
+/// All inputs, and the frame of a device.
 pub fn all_inputs()
-    ensures told { told lists.all_inputs ≡ seat_and_device ++ (Timed (device 102) (PointerMotion 1 2) 77
-        ∷ Timed (device 102) (PointerMotionAbsolute 3 4) 77 ∷ Timed (device 102) (ScrollDelta 5 6) 77
-        ∷ Timed (device 102) (ScrollDiscrete (negsuc 119) (pos 120)) 77
-        ∷ Timed (device 102) (ScrollStop true false) 77 ∷ Timed (device 102) (ScrollCancel false true) 77
-        ∷ Timed (device 102) (Button 272 button_state.Press) 77
-        ∷ Timed (device 102) (KeyboardKey 30 key_state.Released) 77 ∷ Timed (device 102) (TouchDown 1 2 3) 77
-        ∷ Timed (device 102) (TouchMotion 1 2 4) 77 ∷ Timed (device 102) (TouchUp 1) 77
-        ∷ Timed (device 102) (TouchCancel 9) 77 ∷ Timed (device 102) (TextKeysym 97 key_state.Press) 77
-        ∷ Timed (device 102) (TextUtf8 (codes "abc")) 77 ∷ Framed (device 102) 3 77 ∷ []) }
+    ensures told { told lists.all_inputs ≡
+        seat_and_device ++ (Timed (device 102) (floats input_event.PointerMotion 1 2) 77
+        ∷ Timed (device 102) (floats input_event.PointerMotionAbsolute 3 4) 77
+        ∷ Timed (device 102) (floats input_event.ScrollDelta 5 6) 77
+        ∷ Timed (device 102) (input_event.ScrollDiscrete (negsuc 119) (pos 120)) 77
+        ∷ Timed (device 102) (input_event.ScrollStop true false) 77
+        ∷ Timed (device 102) (input_event.ScrollCancel false true) 77
+        ∷ Timed (device 102) (input_event.Button 272 button_state.Press) 77
+        ∷ Timed (device 102) (input_event.KeyboardKey 30 key_state.Released) 77
+        ∷ Timed (device 102) (touching input_event.TouchDown 1 2 3) 77
+        ∷ Timed (device 102) (touching input_event.TouchMotion 1 2 4) 77 ∷ Timed (device 102) (input_event.TouchUp 1) 77
+        ∷ Timed (device 102) (input_event.TouchCancel 9) 77
+        ∷ Timed (device 102) (input_event.TextKeysym 97 key_state.Press) 77
+        ∷ Timed (device 102) (input_event.TextUtf8 (codes "abc")) 77
+        ∷ Timed (device 102) (touching input_event.GestureSwipe 3 5 6) 77
+        ∷ Timed (device 102) (input_event.GesturePinch (float 7)) 77 ∷ Framed (device 102) 3 77 ∷ []) }
     ensures refused { refused lists.all_inputs ≡ [] }
     ensures serial { serial_after lists.all_inputs ≡ 3 }
 {}
 
-/// All seven interfaces go, and go again.
+/// All interfaces of a device go, and go again.
 pub fn all_gone()
     ensures told { told lists.all_gone ≡ seat_and_device }
     ensures refused { refused lists.all_gone ≡
-        all_fail error.DeviceEventBeforeDone (19 ∷ 20 ∷ 21 ∷ 22 ∷ 24 ∷ 26 ∷ []) }
+        all_fail error.DeviceEventBeforeDone (21 ∷ 22 ∷ 23 ∷ 24 ∷ 26 ∷ 28 ∷ 29 ∷ []) }
     ensures serial { serial_after lists.all_gone ≡ 76 }
 {}
 
@@ -183,7 +191,7 @@ pub fn unknown()
 /// Emulation starts and stops; inputs of interfaces that no device has.
 pub fn emulation()
     ensures told { told lists.emulation ≡ seat_and_device ++ (Plain (DeviceStartEmulating (device 102) 7 1)
-        ∷ Timed (device 102) (KeyboardKey 30 key_state.Press) 1000 ∷ Framed (device 102) 8 1000
+        ∷ Timed (device 102) (input_event.KeyboardKey 30 key_state.Press) 1000 ∷ Framed (device 102) 8 1000
         ∷ Plain (DeviceStopEmulating (device 102) 8) ∷ []) }
     ensures refused { refused lists.emulation ≡
         all_fail error.DeviceEventBeforeDone (12 ∷ 13 ∷ 14 ∷ 15 ∷ 16 ∷ 17 ∷ 18 ∷ 19 ∷ 20 ∷ 21 ∷ 22 ∷ []) }
@@ -192,7 +200,8 @@ pub fn emulation()
 
 /// Events that come too late, and a second device without a type.
 pub fn late_events()
-    ensures told { told lists.late_events ≡ seat_and_device ++ (Timed (device 102) (PointerMotion 1 2) 8
+    ensures told { told lists.late_events ≡
+        seat_and_device ++ (Timed (device 102) (floats input_event.PointerMotion 1 2) 8
         ∷ Framed (device 102) 3 8 ∷ []) }
     ensures refused { refused lists.late_events ≡ fails 9 error.DeviceSetupEventAfterDone
         ∷ fails 12 error.DeviceSetupEventAfterDone ∷ fails 13 error.DeviceSetupEventAfterDone
@@ -204,8 +213,8 @@ pub fn late_events()
 /// Two devices of one seat, each with its own inputs.
 pub fn two_devices()
     ensures told { told lists.two_devices ≡ seat_and_device ++ (Plain (DeviceAdded (device 180))
-        ∷ Timed (device 180) (PointerMotion 9 9) 5 ∷ Framed (device 180) 3 5
-        ∷ Timed (device 102) (PointerMotion 1 2) 1000 ∷ Framed (device 102) 4 1000
+        ∷ Timed (device 180) (floats input_event.PointerMotion 9 9) 5 ∷ Framed (device 180) 3 5
+        ∷ Timed (device 102) (floats input_event.PointerMotion 1 2) 1000 ∷ Framed (device 102) 4 1000
         ∷ Plain (DeviceResumed (device 102) 4) ∷ []) }
     ensures refused { refused lists.two_devices ≡ [] }
     ensures serial { serial_after lists.two_devices ≡ 4 }

@@ -27,19 +27,8 @@ granted_is (Some s) given wanted e = let same : s.capabilities ≡ given = cc in
 -- a device that gets a keyboard has its object
 at_head : (e : Endpoint) (v : KnownInterface → ℕ) (i : KnownInterface) (is : List KnownInterface) →
     (has_keyboard is ≡ true → IsSome (object_of known.Keyboard (objects_of (record e { next_own = e.next_own + 1 }) v is))) → has_keyboard (i ∷ is) ≡ true → IsSome (object_of known.Keyboard (objects_of e v (i ∷ is)))
-at_head e v known.Handshake is rest h = rest h
-at_head e v known.Connection is rest h = rest h
-at_head e v known.Callback is rest h = rest h
-at_head e v known.Pingpong is rest h = rest h
-at_head e v known.Seat is rest h = rest h
-at_head e v known.Device is rest h = rest h
-at_head e v known.Pointer is rest h = rest h
-at_head e v known.PointerAbsolute is rest h = rest h
-at_head e v known.Scroll is rest h = rest h
-at_head e v known.Button is rest h = rest h
 at_head e v known.Keyboard is rest h = refl
-at_head e v known.Touchscreen is rest h = rest h
-at_head e v known.Text is rest h = rest h
+at_head e v i is rest h = rest h
 
 keyboard_found : (e : Endpoint) (v : KnownInterface → ℕ) (is : List KnownInterface) → has_keyboard is ≡ true → IsSome (object_of known.Keyboard (objects_of e v is))
 keyboard_found e v [] h = absurd cc

@@ -1,15 +1,15 @@
 -- Interfaces that are announced one after another.
 use Rattle.std.proofs.Common.{◌≡◌, ℕ, ◌+◌, ◌<◌, ◌≤◌, Bool, true, false, List, [], ◌∷◌, ◌++◌, length, take, drop, get_or, Some, None, refl, sym, ap}
 use Rattle.std.proofs.Common.{◌∙◌, append_assoc, arith}
-use Rattle.std.specs.Prelude.{if◌then◌else◌, ◌&&◌}
-use Rattle.std.specs.List.{flat_map, cons_option}
+use Rattle.std.specs.Prelude.{if◌then◌else◌, ◌&&◌, map}
+use Rattle.std.specs.List.{flat_map, filter_map, cons_option}
 use Rattle.std.proofs.lemmas.List.{take_more, take_all, take-append-drop, append-nil, length-append}
 use Rattle.std.proofs.lemmas.Grind.{flat_map-append}
 use Rattle.ei_spec.specs.declared.interface.KnownInterface.{KnownInterface}
 use Rattle.ei_spec.specs.Interface.{ObjectView}
 use Rattle.ei_types.specs.declared.capability.DeviceCapability.{DeviceCapability}
 use Rattle.ei_types.specs.declared.capability.DeviceCapabilities.{DeviceCapabilities}
-use Rattle.ei_types.specs.Capability.{capability_list, bits_of, has_bit}
+use Rattle.ei_types.specs.Capability.{capability_list, bit_of, interface_of, bits_of, has_bit}
 use Rattle.ei_backend.specs.Endpoint.{Endpoint}
 use Rattle.ei_session.specs.Events.{interface_event}
 use Rattle.ei_request.specs.Sending.{announces, next_object}
@@ -59,12 +59,14 @@ one_chosen : (b : Bool) (x : KnownInterface) (xs ys : List KnownInterface) → x
 one_chosen true x xs ys e = ap (λ (zs : List KnownInterface). x ∷ zs) e
 one_chosen false x xs ys e = e
 
+-- of any capabilities, by their bits and their interfaces
+chosen_among : (given wanted : DeviceCapabilities) (ones : List DeviceCapability) →
+    so_far given wanted ones ≡ filter_map (λ (c : ℕ × KnownInterface). if has_bit (bits_of given) c.0 && has_bit (bits_of wanted) c.0 then Some c.1 else None) (map (λ one. (bit_of one, interface_of one)) ones)
+chosen_among given wanted [] = refl
+chosen_among given wanted (one ∷ ones) = one_chosen (has_bit (bits_of given) (bit_of one) && has_bit (bits_of wanted) (bit_of one)) (interface_of one) _ _ (chosen_among given wanted ones)
+
 all_chosen : (given wanted : DeviceCapabilities) → so_far given wanted capability_list ≡ granted given wanted
-all_chosen given wanted =
-    one_chosen (has_bit (bits_of given) 1 && has_bit (bits_of wanted) 1) _ _ _ (one_chosen (has_bit (bits_of given) 2 && has_bit (bits_of wanted) 2) _ _ _
-    (one_chosen (has_bit (bits_of given) 4 && has_bit (bits_of wanted) 4) _ _ _ (one_chosen (has_bit (bits_of given) 8 && has_bit (bits_of wanted) 8) _ _ _
-    (one_chosen (has_bit (bits_of given) 16 && has_bit (bits_of wanted) 16) _ _ _ (one_chosen (has_bit (bits_of given) 32 && has_bit (bits_of wanted) 32) _ _ _
-    (one_chosen (has_bit (bits_of given) 64 && has_bit (bits_of wanted) 64) _ _ _ refl))))))
+all_chosen given wanted = chosen_among given wanted capability_list
 
 pub so_far_all : (given wanted : DeviceCapabilities) (n : ℕ) → length capability_list ≤ n → so_far given wanted (take n capability_list) ≡ granted given wanted
 so_far_all given wanted n le = ap (so_far given wanted) (take_all n capability_list le) ∙ all_chosen given wanted

@@ -35,11 +35,11 @@ offers_more seat mask settled all i d lt =
     ∙ filter_map-append (offer_of seat mask settled) (take i all) (get_or all i d ∷ [])
     ∙ ap (λ (x : List Raw). offers seat mask settled (take i all) ++ x) (one_offer seat mask settled (get_or all i d) _ refl)
 
--- the events of all seven
+-- the events of all of them
 pub offers_all : (seat mask : ℕ) (settled : KnownInterface → Bool) → offers seat mask settled capability_list ≡ capability_events seat mask settled
 unfolding capability_events
 offers_all seat mask settled = refl
 
--- the events of all the capabilities of a list that is the seven
+-- and of a list that has all of them
 pub offers_whole : (seat mask : ℕ) (settled : KnownInterface → Bool) (n : ℕ) → length capability_list ≤ n → offers seat mask settled (take n capability_list) ≡ capability_events seat mask settled
 offers_whole seat mask settled n le = ap (offers seat mask settled) (take_all n capability_list le) ∙ offers_all seat mask settled

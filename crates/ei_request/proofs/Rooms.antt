@@ -1,13 +1,14 @@
 -- How many bytes messages have.
-use Rattle.std.proofs.Common.{◌≡◌, ℕ, ◌+◌, ◌≤◌, List, [], ◌∷◌, length, Option, Some, None, Result, Ok, Err, refl, ap, subst, arith}
+use Rattle.std.proofs.Common.{◌≡◌, ℕ, ◌+◌, ◌≤◌, leb, List, [], ◌∷◌, length, Option, Some, None, Result, Ok, Err, refl, ap, subst, arith}
 use Rattle.std.specs.Prelude.{OnOk, IfOk}
+use Rattle.std.proofs.lemmas.Bool.{leb-true}
 use Rattle.std.proofs.lemmas.List.{append-nil, length-append}
 use Rattle.ei_spec.specs.declared.interface.KnownInterface.{KnownInterface}
-use Rattle.ei_spec.specs.declared.interface.KnownInterface.TheVariants as known
 use Rattle.ei_spec.specs.Interface.{name_of}
 use Rattle.ei_spec.specs.Message.{message, size}
 use Rattle.ei_spec.specs.Reading.{or_null}
 use Rattle.ei_spec.specs.Value.{Value, Word, Long, Letters, handles_of, written}
+use Rattle.ei_spec.proofs.EachInterface.{of_each}
 use Rattle.ei_backend.specs.Backend.{BackendView, unsent_of}
 use Rattle.ei_backend.specs.Outgoing.{HasRoomFor}
 use Rattle.ei_request.specs.Costs.{Fits, plain}
@@ -25,35 +26,11 @@ held_at Q (Err y) x e q = absurd cc
 
 -- the event of an interface
 pub few_interface : (one : KnownInterface) (id k v : ℕ) → size (message id 5 (Long k ∷ Letters (name_of one) ∷ Word v ∷ [])) ≤ MOST_INTERFACE_BYTES
-few_interface known.Handshake id k v = omega arith
-few_interface known.Connection id k v = omega arith
-few_interface known.Callback id k v = omega arith
-few_interface known.Pingpong id k v = omega arith
-few_interface known.Seat id k v = omega arith
-few_interface known.Device id k v = omega arith
-few_interface known.Pointer id k v = omega arith
-few_interface known.PointerAbsolute id k v = omega arith
-few_interface known.Scroll id k v = omega arith
-few_interface known.Button id k v = omega arith
-few_interface known.Keyboard id k v = omega arith
-few_interface known.Touchscreen id k v = omega arith
-few_interface known.Text id k v = omega arith
+few_interface one id k v = leb-true _ _ (of_each (λ (i : KnownInterface). leb (size (message id 5 (Long k ∷ Letters (name_of i) ∷ Word v ∷ []))) MOST_INTERFACE_BYTES) refl one)
 
 -- and of a capability
 pub few_capability : (one : KnownInterface) (id k : ℕ) → size (message id 2 (Long k ∷ Letters (name_of one) ∷ [])) ≤ MOST_CAPABILITY_BYTES
-few_capability known.Handshake id k = omega arith
-few_capability known.Connection id k = omega arith
-few_capability known.Callback id k = omega arith
-few_capability known.Pingpong id k = omega arith
-few_capability known.Seat id k = omega arith
-few_capability known.Device id k = omega arith
-few_capability known.Pointer id k = omega arith
-few_capability known.PointerAbsolute id k = omega arith
-few_capability known.Scroll id k = omega arith
-few_capability known.Button id k = omega arith
-few_capability known.Keyboard id k = omega arith
-few_capability known.Touchscreen id k = omega arith
-few_capability known.Text id k = omega arith
+few_capability one id k = leb-true _ _ (of_each (λ (i : KnownInterface). leb (size (message id 2 (Long k ∷ Letters (name_of i) ∷ []))) MOST_CAPABILITY_BYTES) refl one)
 
 -- the message of a text
 pub text_size : (id opcode : ℕ) (t : List ℕ) → size (message id opcode (Letters t ∷ [])) ≡ NAME_BYTES + length (written (Letters t))

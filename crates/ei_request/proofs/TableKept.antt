@@ -3,12 +3,10 @@ use Rattle.std.proofs.Common.{◌≡◌, ◌≤◌, ◌+◌, ℕ, Bool, true, fa
 use Rattle.std.specs.Prelude.{find, not}
 use Rattle.std.specs.List.{filter}
 use Rattle.ei_keyed.specs.Keyed.{keyed, with_value, without_key, RiseWithin}
-use Rattle.ei_request.specs.Held.{DeviceView, is_of_seat, has_interface, changed_first, without_first, without_interface, has_touch, takes_input}
+use Rattle.ei_request.specs.Held.{DeviceView, is_of_seat, has_interface, changed_first, without_first, without_interface, has_touch, takes_input, emptied}
 use Rattle.ei_request.specs.DeviceTable.{values, number_of, with_first, own_ids, numbered, ids_of, Forgets, ForgetsDevice, stays, IsTable}
-use Rattle.ei_input.specs.declared.input_event.InputEvent.{InputEvent as Input}
-use Rattle.ei_input.specs.declared.input_event.InputEvent.TheVariants.{PointerMotion, PointerMotionAbsolute, Button, ScrollDelta, ScrollStop, ScrollCancel}
-use Rattle.ei_input.specs.declared.input_event.InputEvent.TheVariants.{ScrollDiscrete, KeyboardKey}
-use Rattle.ei_input.specs.declared.input_event.InputEvent.TheVariants.{TouchDown, TouchMotion, TouchUp, TouchCancel, TextKeysym, TextUtf8}
+use Rattle.ei_input.specs.declared.input_event.InputEvent.{InputEvent}
+use Rattle.ei_input.specs.declared.input_event.InputEvent.TheVariants.{TouchMotion, TouchUp, TouchCancel}
 use Rattle.ei_request.proofs.NumberedDevices.{rises_written, rises_value, rises_without, rises_filter, rises_push}
 use Rattle.ei_request.proofs.DeviceIds.{ids_push, ids_written, ids_with, ids_before, ids_after, ids_gone, all_taken, id_taken, own_without, ids_stay}
 
@@ -25,25 +23,20 @@ same_where : (b : Bool) (old new : DeviceView) → own_ids new ≡ own_ids old �
 same_where true old new e = e
 same_where false old new e = refl
 
-input_ids : (i : Input) (d : DeviceView) → own_ids (takes_input i d) ≡ own_ids d
+input_ids : (i : InputEvent) (d : DeviceView) → own_ids (takes_input i d) ≡ own_ids d
 input_ids (TouchMotion touch x y) d = same_where (has_touch touch d) d _ refl
 input_ids (TouchUp touch) d = same_where (has_touch touch d) d _ refl
 input_ids (TouchCancel touch) d = same_where (has_touch touch d) d _ refl
-input_ids (TouchDown touch x y) d = refl
-input_ids (PointerMotion x y) d = refl
-input_ids (PointerMotionAbsolute x y) d = refl
-input_ids (Button button state) d = refl
-input_ids (ScrollDelta x y) d = refl
-input_ids (ScrollStop x y) d = refl
-input_ids (ScrollCancel x y) d = refl
-input_ids (ScrollDiscrete x y) d = refl
-input_ids (KeyboardKey key state) d = refl
-input_ids (TextKeysym keysym state) d = refl
-input_ids (TextUtf8 text) d = refl
+input_ids i d = refl
 
-pub heard_ids : {E : Type 0} (r : Result (Unit {0}) E) (i : Input) (d w : DeviceView) → OnOk r (w ≡ takes_input i d) → OnErr r (w ≡ d) → own_ids w ≡ own_ids d
+pub heard_ids : {E : Type 0} (r : Result (Unit {0}) E) (i : InputEvent) (d w : DeviceView) → OnOk r (w ≡ takes_input i d) → OnErr r (w ≡ d) → own_ids w ≡ own_ids d
 heard_ids (Ok u) i d w ok err = ap own_ids ok ∙ input_ids i d
 heard_ids (Err e) i d w ok err = ap own_ids err
+
+-- what waits is handed out, or nothing happens
+pub framed_ids : {E : Type 0} (r : Result (Unit {0}) E) (d w : DeviceView) → OnOk r (w ≡ emptied d) → OnErr r (w ≡ d) → own_ids w ≡ own_ids d
+framed_ids (Ok u) d w ok err = ap own_ids ok
+framed_ids (Err e) d w ok err = ap own_ids err
 
 -- an interface leaves its device
 pub table_given_up : (hs : List (ℕ × DeviceView)) (ids new : List (ℕ × ℕ)) (next n id : ℕ) (exact forgotten after : Bool) (d w : DeviceView) → IsTable hs ids next exact → keyed n hs ≡ Some d → w ≡ without_interface id d →

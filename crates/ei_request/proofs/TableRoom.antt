@@ -5,6 +5,7 @@ use Rattle.std.specs.List.{filter_map, cons_option}
 use Rattle.std.proofs.lemmas.List.{length-map}
 use Rattle.ei_spec.specs.Interface.{ObjectView}
 use Rattle.ei_spec.specs.declared.interface.KnownInterface.{KnownInterface}
+use Rattle.ei_spec.specs.declared.limits.TheConstants.{CAPABILITIES}
 use Rattle.ei_types.specs.declared.capability.DeviceCapabilities.{DeviceCapabilities}
 use Rattle.ei_types.specs.Capability.{capabilities, has_bit, bits_of}
 use Rattle.ei_backend.specs.Endpoint.{Endpoint}
@@ -20,19 +21,19 @@ fewer : {X Y : Type 0} (f : X → Option Y) (xs : List X) → length (filter_map
 fewer f [] = omega arith
 fewer f (x ∷ xs) = let le = one_more (f x) (filter_map f xs) (length xs) (fewer f xs) in omega (arith, le)
 
-granted_few : (given wanted : DeviceCapabilities) → length (granted given wanted) ≤ 7
+granted_few : (given wanted : DeviceCapabilities) → length (granted given wanted) ≤ CAPABILITIES
 granted_few given wanted =
     let one : ℕ × KnownInterface → Option KnownInterface = λ c. if has_bit (bits_of given) c.0 && has_bit (bits_of wanted) c.0 then Some c.1 else None in
-    let seven : length capabilities ≡ 7 = refl in
+    let all : length capabilities ≡ CAPABILITIES = refl in
     let le : length (granted given wanted) ≤ length capabilities = fewer one capabilities in
-    omega (arith, le, seven)
+    omega (arith, le, all)
 
 objects_length : (e : Endpoint) (v : KnownInterface → ℕ) (is : List KnownInterface) → length (objects_of e v is) ≡ length is
 objects_length e v [] = refl
 objects_length e v (i ∷ is) = ap suc (objects_length (record e { next_own = e.next_own + 1 }) v is)
 
 -- there is room for a device with the interfaces that it was granted
-pub has_room : (t : TableView) (d : DeviceView) (given wanted : DeviceCapabilities) (e : Endpoint) (v : KnownInterface → ℕ) → HasRoom 8 t → d.interfaces ≡ objects_of e v (granted given wanted) → HasRoom (length (own_ids d)) t
+pub has_room : (t : TableView) (d : DeviceView) (given wanted : DeviceCapabilities) (e : Endpoint) (v : KnownInterface → ℕ) → HasRoom (CAPABILITIES + 1) t → d.interfaces ≡ objects_of e v (granted given wanted) → HasRoom (length (own_ids d)) t
 has_room t d given wanted e v h is =
     let few = granted_few given wanted in
     let n : length d.interfaces ≡ length (granted given wanted) = ap length is ∙ objects_length e v (granted given wanted) in

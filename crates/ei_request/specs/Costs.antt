@@ -1,10 +1,11 @@
 -- What events cost, and what room is left for them.
 use Rattle.std.specs.Prelude.{◌≡◌, ℕ, ◌+◌, ◌*◌, ◌<◌, ◌≤◌, List, length, Option}
 use Rattle.ei_spec.specs.declared.interface.KnownInterface.{KnownInterface}
+use Rattle.ei_spec.specs.declared.limits.TheConstants.{CAPABILITIES}
 use Rattle.ei_backend.specs.Backend.{BackendView}
 use Rattle.ei_backend.specs.Table.{own_end}
 use Rattle.ei_request.specs.Making.{name_text, item_room, setup_room}
-use Rattle.ei_request.specs.declared.costs.TheConstants.{CAPABILITIES, ANNOUNCED_BYTES, NAME_BYTES, MOST_CAPABILITY_BYTES, TYPE_BYTES}
+use Rattle.ei_request.specs.declared.costs.TheConstants.{ANNOUNCED_BYTES, NAME_BYTES, MOST_CAPABILITY_BYTES, TYPE_BYTES}
 use Rattle.ei_request.specs.declared.costs.TheConstants.{MOST_INTERFACE_BYTES, DONE_BYTES, DESTROYED_BYTES}
 use Rattle.ei_request.specs.declared.making.DeviceSetup.{DeviceSetup}
 

@@ -7,8 +7,7 @@ use Rattle.ei_server.specs.declared.device.Request.{Request as Device}
 use Rattle.ei_server.specs.declared.device.Request.TheVariants as device
 use Rattle.ei_types.specs.declared.capability.DeviceCapabilities.{DeviceCapabilities}
 use Rattle.ei_types.specs.declared.error.Error.{Error}
-use Rattle.ei_input.specs.declared.input_event.InputEvent.{InputEvent as Input}
-use Rattle.ei_request.specs.Coded.{input_in_code}
+use Rattle.ei_input.specs.declared.input_event.InputEvent.{InputEvent}
 use Rattle.ei_session.specs.Meaning.{Meaning, Shakes, Syncs, Disconnects, Pongs, ReleasesSeat, Binds, RequestsDevice, Closes, Starts, Stops, Frames}
 use Rattle.ei_session.specs.Meaning.{Readies, Releases, Inputs}
 use Rattle.ei_backend.specs.Outside.{ReadsClock}
@@ -48,11 +47,11 @@ gives_up c id (Some d) = record c {
 }
 
 -- the device that has the interface takes an input, if one has it
-abbrev pub hears : ConnectionView → ℕ → Input → ConnectionView
+abbrev pub hears : ConnectionView → ℕ → InputEvent → ConnectionView
 hears c id i = record c { devices = changed_first (has_interface id) (takes_input i) c.devices }
 
 -- what a request to an interface of a device does: an input is taken, and else the interface is given up
-abbrev pub obeys : ConnectionView → ℕ → Option Input → ConnectionView
+abbrev pub obeys : ConnectionView → ℕ → Option InputEvent → ConnectionView
 obeys c id None = gives_up c id (find (has_interface id) c.devices)
 obeys c id (Some i) = hears c id i
 
@@ -137,7 +136,7 @@ handled c id (Stops serial) time = closes c id time (stop_of serial) (device_in 
 handled c id (Frames serial sent) time = hands_out c id serial sent (device_in c id)
 handled c id Readies time = closes c id time ready_of (device_in c id)
 handled c id Releases time = record c { handle = obeys c.handle id None }
-handled c id (Inputs i) time = record c { handle = obeys c.handle id (Some (input_in_code i)) }
+handled c id (Inputs i) time = record c { handle = obeys c.handle id (Some i) }
 
 -- whether the request closes an open group of the device
 abbrev pub closes_group : Meaning → Bool

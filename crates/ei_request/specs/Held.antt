@@ -7,12 +7,12 @@ use Rattle.ei_backend.specs.Codes.{object_code}
 use Rattle.ei_types.specs.declared.capability.DeviceCapabilities.{DeviceCapabilities}
 use Rattle.ei_types.specs.contracts.capability.DeviceCapabilities as capabilities
 use Rattle.ei_request.specs.Keys.{DeviceKey, device_key_code, same_device}
-use Rattle.ei_input.specs.declared.input_event.InputEvent.{InputEvent as Input}
+use Rattle.ei_input.specs.declared.input_event.InputEvent.{InputEvent}
 use Rattle.ei_input.specs.declared.input_event.InputEvent.TheVariants.{TouchDown, TouchMotion, TouchUp, TouchCancel}
 use Rattle.ei_input.specs.contracts.input_event.InputEvent as input
 use Rattle.ei_request.specs.declared.event.EisRequest.{EisRequest}
 use Rattle.ei_request.specs.declared.event.EisRequest.TheVariants as asked
-use Rattle.ei_request.specs.Timed.{timed}
+use Rattle.ei_request.specs.Event.{timed}
 
 -- ---- what is held
 
@@ -31,11 +31,11 @@ pub record DeviceView : Type 0 where
   pub device : DeviceKey
   pub name : Option (List ℕ)
   pub interfaces : List ObjectView
-  pub waiting : List Input
+  pub waiting : List InputEvent
   pub touches : List ℕ
 
 abbrev pub device_code : Coded DeviceView
-device_code = code_by (DeviceKey × (Option (List ℕ) × (List ObjectView × (List Input × List ℕ))))
+device_code = code_by (DeviceKey × (Option (List ℕ) × (List ObjectView × (List InputEvent × List ℕ))))
     (coded× device_key_code (coded× (coded_option (coded_list coded_ℕ)) (coded× (coded_list object_code) (coded× (coded_list input.the_row.coded)
     (coded_list coded_ℕ)))))
     (λ d. (d.device, (d.name, (d.interfaces, (d.waiting, d.touches))))) (λ p. record {
@@ -96,7 +96,7 @@ abbrev pub released : SeatView → SeatView
 released s = record s { released = true }
 
 -- a device with one more input waiting
-abbrev pub with_input : Input → DeviceView → DeviceView
+abbrev pub with_input : InputEvent → DeviceView → DeviceView
 with_input i d = record d { waiting = d.waiting ++ i ∷ [] }
 
 -- a device on which nothing waits
@@ -120,7 +120,7 @@ abbrev pub untouched : DeviceView → DeviceView
 untouched d = record d { touches = [] }
 
 -- a device after an input: it waits, and a touch goes down or ends; one that moves or ends a touch counts where the touch is down
-abbrev pub takes_input : Input → DeviceView → DeviceView
+abbrev pub takes_input : InputEvent → DeviceView → DeviceView
 takes_input (TouchDown touch x y) d = with_input (TouchDown touch x y) (with_touch touch d)
 takes_input (TouchMotion touch x y) d = if has_touch touch d then with_input (TouchMotion touch x y) d else d
 takes_input (TouchUp touch) d = if has_touch touch d then with_input (TouchUp touch) (without_touch touch d) else d
@@ -130,7 +130,7 @@ takes_input i d = with_input i d
 -- ---- what is handed out
 
 -- the requests that a group becomes: each input with the time, and the frame behind them; none where nothing waits
-abbrev pub group_requests : DeviceKey → List Input → ℕ → ℕ → List EisRequest
+abbrev pub group_requests : DeviceKey → List InputEvent → ℕ → ℕ → List EisRequest
 group_requests device [] serial time = []
 group_requests device (i ∷ is) serial time = map (timed device time) (i ∷ is) ++ asked.Frame (record {
   device = device;
@@ -145,7 +145,7 @@ group_of None serial time = []
 group_of (Some d) serial time = group_requests d.device d.waiting serial time
 
 -- what waits on the device, if there is one
-abbrev pub waiting_of : Option DeviceView → List Input
+abbrev pub waiting_of : Option DeviceView → List InputEvent
 waiting_of None = []
 waiting_of (Some d) = d.waiting
 

@@ -1,6 +1,4 @@
 pub mod Keys
-pub mod Coded
-pub mod Timed
 pub mod Typed
 pub mod Event
 pub mod Held

@@ -10,11 +10,10 @@ use Rattle.ei_types.specs.declared.error.Error.TheVariants as error
 use Rattle.ei_types.specs.declared.error.RequestError.{RequestError}
 use Rattle.ei_types.specs.declared.error.RequestError.TheVariants as request_error
 use Rattle.ei_session.specs.Meaning.{Meaning, Shakes, Syncs, Binds, RequestsDevice, Inputs}
-use Rattle.ei_input.specs.declared.input_event.InputEvent.{InputEvent as Input}
+use Rattle.ei_input.specs.declared.input_event.InputEvent.{InputEvent}
 use Rattle.ei_input.specs.declared.input_event.InputEvent.TheVariants.{TouchDown, TouchCancel, TextUtf8}
 use Rattle.ei_request.specs.declared.input_error.InputError.{InputError}
 use Rattle.ei_request.specs.declared.input_error.InputError.TheVariants as input_error
-use Rattle.ei_request.specs.Coded.{input_in_code}
 use Rattle.ei_request.specs.Held.{SeatView, DeviceView, is_seat, has_interface}
 use Rattle.ei_request.specs.Connection.{ConnectionView}
 
@@ -45,7 +44,7 @@ press_refusal touch touches =
 
 -- a touch that may not go down; one that an old touchscreen cancels; and a text of
 -- no bytes, or of more than may be
-abbrev pub input_refusal : ℕ → Input → Option DeviceView → Option Reason
+abbrev pub input_refusal : ℕ → InputEvent → Option DeviceView → Option Reason
 input_refusal version i None = None
 input_refusal version (TouchDown touch x y) (Some d) = press_refusal touch d.touches
 input_refusal version (TouchCancel touch) (Some d) = if nat_lt version 2 then Some (BadVersion (name_of known.Touchscreen) version) else None
@@ -54,7 +53,7 @@ input_refusal version (TextUtf8 letters) (Some d) = if (length letters == 0) || 
 input_refusal version i (Some d) = None
 
 -- the same of a request to an interface of a device: it is an input, or else the release, which is never refused
-abbrev pub asked_refusal : ℕ → Option Input → Option DeviceView → Option Reason
+abbrev pub asked_refusal : ℕ → Option InputEvent → Option DeviceView → Option Reason
 asked_refusal version None d = None
 asked_refusal version (Some i) d = input_refusal version i d
 
@@ -68,12 +67,12 @@ refusal c id version (Shakes shake) = Some OfHandshake
 refusal c id version (Syncs callback v) = sync_refusal v
 refusal c id version (Binds mask) = mask_refusal mask (find (is_seat id) c.seats)
 refusal c id version (RequestsDevice mask) = mask_refusal mask (find (is_seat id) c.seats)
-refusal c id version (Inputs i) = asked_refusal version (Some (input_in_code i)) (find (has_interface id) c.devices)
+refusal c id version (Inputs i) = asked_refusal version (Some i) (find (has_interface id) c.devices)
 refusal c id version other = None
 
--- an error is want of memory, or it tells the reason, where there is one
+-- an error tells the reason, where there is one; where there is none it is want of memory
 abbrev pub Tells : Option Reason → Error → Type 0
-Tells reason error.NoMemory = Unit {0}
+Tells reason error.NoMemory = reason ≡ None
 Tells reason e = IsSome reason × (reason_of e ≡ reason)
 
 -- the reason that an input's error tells of an interface of that version
@@ -84,7 +83,7 @@ input_reason version input_error.DuplicatedTouchDown = Some (Bad request_error.D
 input_reason version input_error.InvalidTextLength = Some (Bad request_error.InvalidTextLength)
 input_reason version input_error.NoMemory = None
 
--- an input's error is want of memory, or it tells the reason, where there is one
+-- an input's error tells the reason, where there is one; where there is none it is want of memory
 abbrev pub TellsOfInput : ℕ → Option Reason → InputError → Type 0
-TellsOfInput version reason input_error.NoMemory = Unit {0}
+TellsOfInput version reason input_error.NoMemory = reason ≡ None
 TellsOfInput version reason e = IsSome reason × (input_reason version e ≡ reason)

@@ -4,12 +4,13 @@ use Rattle.std.specs.FinMap as map
 use Rattle.ei_spec.specs.declared.interface.KnownInterface.{KnownInterface}
 use Rattle.ei_spec.specs.declared.interface.KnownInterface.TheVariants as known
 use Rattle.ei_spec.specs.Interface.{Known, ObjectView}
-use Rattle.ei_spec.specs.Message.{Raw, bytes_of, all_bytes}
+use Rattle.ei_spec.specs.Message.{Raw, bytes_of, all_bytes, size}
 use Rattle.ei_spec.specs.Reading.{or_null}
 use Rattle.ei_spec.specs.Value.{Word, Long, Letters}
 use Rattle.ei_wire.specs.declared.error.SendError.{SendError}
 use Rattle.ei_wire.specs.declared.error.SendError.TheVariants as send_error
-use Rattle.ei_backend.specs.Backend.{BackendView, removed}
+use Rattle.ei_backend.specs.Backend.{BackendView, removed, unsent_of}
+use Rattle.ei_backend.specs.Outgoing.{HasSpare}
 use Rattle.ei_backend.specs.Endpoint.{Endpoint}
 use Rattle.ei_session.specs.Arguments.{event}
 use Rattle.ei_session.specs.Events.{callback_event, destroyed_event}
@@ -20,6 +21,10 @@ pub record AllOrNothing {A V : Type 0} (result : Result A SendError) (old sent n
   pub ok : OnOk result (new ≡ sent)
   pub err : OnErr result (new ≡ old)
   pub only : IfErr result (λ e. e ≡ send_error.NoMemory)
+
+-- so much more may wait that this message does without want of memory, which has no handle
+abbrev pub HasRoomOf : Raw → BackendView → Type 0
+HasRoomOf m b = HasSpare (size m) 0 (unsent_of b) b.room
 
 -- ---- single events
 

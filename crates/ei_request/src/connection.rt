@@ -19,7 +19,7 @@ ghost use Rattle.ei_backend.specs.Table.{own_end};
 ghost use Rattle.ei_backend.specs.Endpoint.{endpoint_of};
 ghost use Rattle.ei_request.specs.Held.{is_seat, is_device, is_of_key, has_interface, untouched, changed_first, group_of, waiting_of};
 ghost use Rattle.ei_request.specs.Connection.{new_connection, next_serial, holds_device, Unchanged};
-ghost use Rattle.ei_request.specs.Sending.{AllOrNothing, disconnected_event, no_object_event, says};
+ghost use Rattle.ei_request.specs.Sending.{AllOrNothing, HasRoomOf, disconnected_event, no_object_event, says};
 ghost use Rattle.ei_request.specs.Removing.{RemovesDevice, RemovesSeat, Disconnects};
 ghost use Rattle.ei_request.specs.Making.{new_seat, AddsSeat, AddsDevice, HasLongName, LacksIds, HasLongText};
 ghost use Rattle.ei_request.specs.Making.{granted_to, has_keyboard, new_device, NeedsKeyboard};
@@ -34,19 +34,19 @@ use crate::device::Device;
 use crate::device_table::{DeviceTable, Sought};
 use crate::event::Queue;
 use crate::held::{HeldDevice, HeldSeat};
-use crate::input::Input;
 use crate::input_error::InputError;
 use crate::making::{self, Allowed, DeviceSetup};
 use crate::seat::Seat;
 use crate::{holding, seats, sending};
 use ei_backend::{HasBackend, Interface, Object, Sink};
 use ei_handshake::{EisHandshakeResp, Versions};
+use ei_input::input_event::InputEvent;
 use ei_server::{Callback, Connection as Proxy, Context};
 use ei_spec::KnownInterface;
 use ei_spec::limits::MOST_MESSAGE_BYTES;
 use ei_types::{ContextType, DeviceCapabilities, DeviceCapability, DeviceType, DisconnectReason};
 use ei_wire::{EiText, FlushError, SendError};
-use std::alloc::Global;
+use std::alloc::{AllocError, Global};
 use std::marker::Model;
 
 /// The connection of a server after the handshake. It owns the context, and holds the seats and the devices.
@@ -185,7 +185,7 @@ impl Connection {
     }
 
     /// Puts all that waits to be sent into the sink, all handles with the first bytes. After a refusal the
-    /// rest waits.
+    /// rest waits, at least one byte: where all went out the answer is no fault.
     ///
     /// `WriteFault` where the sink failed, `NoMemory` where it wants memory. Where nothing waits the sink
     /// isn't asked.
@@ -211,10 +211,12 @@ impl Connection {
     /// Tells the client that no object has the id. The event bears the last serial. (The protocol: it answers a message
     /// to an object that isn't there.)
     ///
-    /// `NoMemory`: nothing is sent.
+    /// `NoMemory`, and never where there is room for the event: nothing is sent.
     pub fn invalid_object(&mut self, invalid_id: u64) -> Result<(), SendError>
-        ensures { AllOrNothing result self.old
+        ensures sends { AllOrNothing result self.old
             (record self.old { ctx = says self.old.ctx (no_object_event self.old.proxy.id self.old.last_serial invalid_id) }) self.new }
+        ensures room { HasRoomOf (no_object_event self.old.proxy.id self.old.last_serial invalid_id) self.old.ctx
+            → IsErrOf result send_error.NoMemory → ⊥ }
     {
         self.proxy
             .invalid_object(&mut self.context, self.last_serial, invalid_id)
@@ -510,7 +512,7 @@ impl Connection {
         &mut self,
         id: u64,
         version: u32,
-        asked: Option<Input>,
+        asked: Option<InputEvent>,
     ) -> Result<(), InputError>
         ensures accepted { OnOk result (asked_refusal version asked (find (has_interface id) self.old.devices) ≡ None) }
         ensures ok { OnOk result (self.new ≡ obeys self.old id asked) }
@@ -546,6 +548,25 @@ impl Connection {
         ensures { result ≡ length (waiting_of (find (is_device id) self.now.devices)) }
     {
         self.devices.waiting(id)
+    }
+
+    /// Makes room for what waits on the device of that id, with a frame, and hands it out.
+    ///
+    /// `AllocError`: nothing is handed out.
+    #[inline(never)]
+    pub(crate) fn frame(
+        &mut self,
+        queue: &mut Queue,
+        id: u64,
+        serial: u32,
+        time: u64,
+    ) -> Result<(), AllocError>
+        ensures queue { OnOk result (queue.new.items ≡ queue.old.items ++ group_of (find (is_device id) self.old.devices) serial time) }
+        ensures ok { OnOk result (self.new ≡ emptied_at self.old id) }
+        ensures same { OnErr result (queue.new.items ≡ queue.old.items) }
+        ensures err { OnErr result (self.new ≡ self.old) }
+    {
+        self.devices.frame(queue, id, serial, time)
     }
 
     /// Hands out what waits on the device of that id, with a frame. There is room for it.

@@ -7,7 +7,7 @@ ghost use Rattle.ei_backend.specs.Lent.{LentClock};
 ghost use Rattle.std.specs.Option.{option_map};
 ghost use Rattle.ei_request.specs.Connection.{new_connection};
 ghost use Rattle.ei_input.specs.Queue.{first_of, rest_of};
-ghost use Rattle.ei_request.specs.Typed.{connection_meaning, seat_meaning, device_meaning};
+ghost use Rattle.ei_request.specs.Typed.{meaning_of, connection_meaning, seat_meaning, device_meaning};
 ghost use Rattle.ei_request.specs.Held.{is_seat, has_interface};
 ghost use Rattle.ei_request.specs.Refusing.{asked_refusal, mask_refusal, Tells};
 ghost use Rattle.ei_request.specs.Handling.{Handles, HandlesTo, obeys, hands_out, closes_group, queued_of, Times, device_in, set_of};
@@ -15,11 +15,11 @@ ghost use Rattle.ei_request.specs.Lending.{LendsHandle};
 
 use crate::connection::Connection;
 use crate::device::Device;
-use crate::event::{self, EisRequest, Queue};
-use crate::input::{self, Input};
+use crate::event::{self, EisRequest, Queue, input_of};
 use crate::seat::Seat;
 use ei_backend::{Clock, Interface, MessageEnum};
 use ei_handshake::EisHandshakeResp;
+use ei_input::input_event::InputEvent;
 use ei_server::{Context, Request, connection, device, seat};
 use ei_types::{DeviceCapabilities, Error, RequestError};
 use ei_wire::NoMemory;
@@ -119,26 +119,36 @@ impl EisRequestConverter {
     {
         let id = request.object().id();
         let version = request.object().version();
-        let asked = match request {
-            Request::Handshake(_target, _request) => return Err(Error::UnexpectedHandshakeEvent),
-            Request::Connection(_target, request) => return self.handle_connection(request),
-            Request::Pingpong(_target, _request) => return Ok(()),
-            Request::Seat(_target, request) => return self.handle_seat(id, request),
-            Request::Device(_target, request) => return self.handle_device(clock, id, request),
-            Request::Pointer(_target, request) => input::of_pointer(request),
-            Request::PointerAbsolute(_target, request) => input::of_pointer_absolute(request),
-            Request::Scroll(_target, request) => input::of_scroll(request),
-            Request::Button(_target, request) => input::of_button(request),
-            Request::Keyboard(_target, request) => input::of_keyboard(request),
-            Request::Touchscreen(_target, request) => input::of_touchscreen(request),
-            Request::Text(_target, request) => input::of_text(request),
-        };
-        self.obey(id, version, asked)
+        self.handle_at(clock, id, version, request)
+    }
+
+    /// The same, of a request to the object of that id and version.
+    #[inline(always)]
+    fn handle_at<C: Clock>(
+        &mut self,
+        clock: &mut C,
+        id: u64,
+        version: u32,
+        request: Request,
+    ) -> Result<(), Error>
+        ensures handles { HandlesTo self.old id version (meaning_of request)
+            (C.readings clock.old) result (C.readings clock.new) self.new }
+        ensures kept { OnErr result (clock.new ≡ clock.old) }
+        ensures clock { LentClock C.later clock.old clock.new }
+    {
+        match request {
+            Request::Handshake(_target, _request) => Err(Error::UnexpectedHandshakeEvent),
+            Request::Connection(_target, request) => self.handle_connection(request),
+            Request::Pingpong(_target, _request) => Ok(()),
+            Request::Seat(_target, request) => self.handle_seat(id, request),
+            Request::Device(_target, request) => self.handle_device(clock, id, request),
+            request => self.obey(id, version, input_of(request)),
+        }
     }
 
     /// A request to an interface of a device: an input, or else the release.
     #[inline(always)]
-    fn obey(&mut self, id: u64, version: u32, asked: Option<Input>) -> Result<(), Error>
+    fn obey(&mut self, id: u64, version: u32, asked: Option<InputEvent>) -> Result<(), Error>
         ensures accepted { OnOk result (asked_refusal version asked (find (has_interface id) self.old.handle.devices) ≡ None) }
         ensures ok { OnOk result (self.new ≡ record self.old { handle = obeys self.old.handle id asked }) }
         ensures why { IfErr result (Tells (asked_refusal version asked (find (has_interface id) self.old.handle.devices))) }
@@ -153,7 +163,8 @@ impl EisRequestConverter {
     /// A request to the connection.
     #[inline(never)]
     fn handle_connection(&mut self, request: connection::Request) -> Result<(), Error>
-        ensures { (id version : ℕ) (told : Option (List ℕ)) → HandlesTo self.old id version (connection_meaning request) told result told self.new }
+        ensures { (id version : ℕ) (told : Option (List ℕ)) →
+            HandlesTo self.old id version (connection_meaning request) told result told self.new }
     {
         match request {
             connection::Request::Sync { callback } => {
@@ -174,7 +185,8 @@ impl EisRequestConverter {
     /// A request to the seat of that id.
     #[inline(never)]
     fn handle_seat(&mut self, id: u64, request: seat::Request) -> Result<(), Error>
-        ensures { (version : ℕ) (told : Option (List ℕ)) → HandlesTo self.old id version (seat_meaning request) told result told self.new }
+        ensures { (version : ℕ) (told : Option (List ℕ)) →
+            HandlesTo self.old id version (seat_meaning request) told result told self.new }
     {
         match request {
             seat::Request::Release => self.handle.release_seat(id)?,
@@ -225,7 +237,8 @@ impl EisRequestConverter {
         id: u64,
         request: device::Request,
     ) -> Result<(), Error>
-        ensures handles { (version : ℕ) → HandlesTo self.old id version (device_meaning request) (C.readings clock.old) result (C.readings clock.new) self.new }
+        ensures handles { (version : ℕ) → HandlesTo self.old id version (device_meaning request)
+            (C.readings clock.old) result (C.readings clock.new) self.new }
         ensures kept { OnErr result (clock.new ≡ clock.old) }
         ensures clock { LentClock C.later clock.old clock.new }
     {
@@ -248,7 +261,8 @@ impl EisRequestConverter {
         request: device::Request,
     ) -> Result<(), Error>
         requires { closes_group (device_meaning request) ≡ true }
-        ensures handles { (version : ℕ) → HandlesTo self.old id version (device_meaning request) (C.readings clock.old) result (C.readings clock.new) self.new }
+        ensures handles { (version : ℕ) → HandlesTo self.old id version (device_meaning request)
+            (C.readings clock.old) result (C.readings clock.new) self.new }
         ensures kept { OnErr result (clock.new ≡ clock.old) }
         ensures later { C.later clock.old clock.new }
     {
@@ -266,14 +280,13 @@ impl EisRequestConverter {
     }
 
     /// Hands out what waits on the device of that id with a frame, if it is held.
+    #[inline(always)]
     fn frame(&mut self, id: u64, serial: u32, time: u64) -> Result<(), Error>
         ensures ok { OnOk result (self.new ≡ hands_out self.old id serial time (device_in self.old id)) }
         ensures err { OnErr result (self.new ≡ self.old) }
         ensures only { IfErr result (λ e. e ≡ error.NoMemory) }
     {
-        let waiting = self.handle.waiting(id);
-        self.queue.reserve_group(waiting)?;
-        self.handle.hand_out(&mut self.queue, id, serial, time);
+        self.handle.frame(&mut self.queue, id, serial, time)?;
         Ok(())
     }
 }

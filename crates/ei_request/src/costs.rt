@@ -1,5 +1,7 @@
 //! How many bytes the events have by which seats and devices come and go.
 
+use ei_spec::limits::{CAPABILITIES, MOST_NAME_BYTES};
+
 /// How many bytes the header of a message has.
 const HEADER_BYTES: usize = 16;
 
@@ -9,12 +11,10 @@ pub(crate) const WORD_BYTES: usize = 4;
 /// How many bytes a number of 64 bits has, as an id.
 const LONG_BYTES: usize = 8;
 
-/// How many bytes the longest name of a device's interface has as an argument: its length, and its text with the zeros
-/// behind it.
-const MOST_INTERFACE_NAME_BYTES: usize = WORD_BYTES + 20;
-
-/// How many capabilities there are.
-pub(crate) const CAPABILITIES: usize = 7;
+/// How many bytes the longest name of an interface has as an argument: its length, and its text with a zero behind it, in
+/// whole words.
+const MOST_INTERFACE_NAME_BYTES: usize = WORD_BYTES
+    + (MOST_NAME_BYTES / WORD_BYTES + 1) * WORD_BYTES;
 
 /// How many bytes the event has that announces a seat or a device: its id and its version.
 pub(crate) const ANNOUNCED_BYTES: usize = HEADER_BYTES + LONG_BYTES + WORD_BYTES;

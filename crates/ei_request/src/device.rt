@@ -1,6 +1,6 @@
 //! Devices.
 
-ghost use Rattle.std.specs.Prelude.{◌≡◌, ⊤, IfErr, IsTrue, OnOk, OnErr, Some, find, is_some, true};
+ghost use Rattle.std.specs.Prelude.{◌≡◌, ⊤, IfErr, IsErrOf, IsTrue, OnOk, OnErr, Some, find, is_some, true};
 ghost use Rattle.std.specs.Option.{option_copied, option_map};
 ghost use Rattle.std.specs.Hash as fed;
 ghost use Rattle.std.specs.Cmp.{partial_equiv_from_equiv};
@@ -11,8 +11,8 @@ ghost use Rattle.ei_wire.specs.declared.error.SendError.TheVariants as send_erro
 ghost use Rattle.ei_types.specs.Capability.{interface_of};
 ghost use Rattle.ei_session.specs.Events.{resumed_event};
 ghost use Rattle.ei_request.specs.Held.{is_of_key, untouched, changed_first};
-ghost use Rattle.ei_request.specs.Connection.{holds_device, Unchanged};
-ghost use Rattle.ei_request.specs.Sending.{AllOrNothing, tells, paused_event, start_emulating_event, stop_emulating_event, frame_event};
+ghost use Rattle.ei_request.specs.Connection.{holds_device, next_serial, Unchanged};
+ghost use Rattle.ei_request.specs.Sending.{AllOrNothing, HasRoomOf, tells, paused_event, start_emulating_event, stop_emulating_event, frame_event};
 ghost use Rattle.ei_request.specs.Removing.{RemovesDevice};
 ghost use Rattle.ei_request.specs.Reading.{name_in, interface_in};
 ghost use Rattle.ei_request.specs.Keys.{same_device, same_device_equiv, device_text};
@@ -21,7 +21,7 @@ use crate::connection::Connection;
 use crate::seat::Seat;
 use ei_backend::Interface;
 use ei_server::{
-    Button, Device as Proxy, Keyboard, Pointer, PointerAbsolute, Scroll, Text, Touchscreen,
+    Button, Device as Proxy, Gesture, Keyboard, Pointer, PointerAbsolute, Scroll, Text, Touchscreen,
 };
 use ei_types::DeviceCapability;
 use ei_wire::SendError;
@@ -99,7 +99,7 @@ impl Device {
     }
 }
 
-/// The proxies of the seven interfaces that a device may have. It promises nothing more than the trait of all proxies.
+/// The proxies of the interfaces that a device may have. It promises nothing more than the trait of all proxies.
 pub trait DeviceInterface: ei_server::Interface {}
 
 impl DeviceInterface for Pointer {}
@@ -115,6 +115,8 @@ impl DeviceInterface for Keyboard {}
 impl DeviceInterface for Touchscreen {}
 
 impl DeviceInterface for Text {}
+
+impl DeviceInterface for Gesture {}
 
 // What the connection tells of it.
 impl Device {
@@ -159,10 +161,12 @@ impl Device {
 
     /// Tells the client that the device takes input. The event has the next serial. The connection holds the device.
     ///
-    /// `NoMemory`: nothing is sent.
+    /// `NoMemory`, and never where there is room for the event: nothing is sent.
     pub fn resumed(&self, conn: &mut Connection) -> Result<(), SendError>
         requires held { holds_device conn.old self.now ≡ true }
-        ensures { AllOrNothing result conn.old (tells conn.old (resumed_event self.now.proxy.id)) conn.new }
+        ensures sends { AllOrNothing result conn.old (tells conn.old (resumed_event self.now.proxy.id)) conn.new }
+        ensures room { HasRoomOf (resumed_event self.now.proxy.id (next_serial conn.old.last_serial)) conn.old.ctx
+            → IsErrOf result send_error.NoMemory → ⊥ }
     {
         tell!(conn, serial => self.proxy.resumed(conn.context_mut(), serial))
     }
@@ -170,13 +174,15 @@ impl Device {
     /// Tells the client that the device takes no input. No touch of it is down any more; what waits stays. The event
     /// has the next serial. The connection holds the device.
     ///
-    /// `NoMemory`: nothing is sent.
+    /// `NoMemory`, and never where there is room for the event: nothing is sent.
     pub fn paused(&self, conn: &mut Connection) -> Result<(), SendError>
         requires held { holds_device conn.old self.now ≡ true }
-        ensures { AllOrNothing result conn.old (record (tells conn.old (paused_event self.now.proxy.id)) {
+        ensures sends { AllOrNothing result conn.old (record (tells conn.old (paused_event self.now.proxy.id)) {
           devices = changed_first (is_of_key self.now)
               untouched conn.old.devices;
         }) conn.new }
+        ensures room { HasRoomOf (paused_event self.now.proxy.id (next_serial conn.old.last_serial)) conn.old.ctx
+            → IsErrOf result send_error.NoMemory → ⊥ }
     {
         tell!(conn, serial => self.proxy.paused(conn.context_mut(), serial))?;
         conn.clear_touches(self);
@@ -186,20 +192,24 @@ impl Device {
     /// Tells a receiver that the server begins to send input. The sequence counts such beginnings. The event has the
     /// next serial. The connection holds the device.
     ///
-    /// `NoMemory`: nothing is sent.
+    /// `NoMemory`, and never where there is room for the event: nothing is sent.
     pub fn start_emulating(&self, conn: &mut Connection, sequence: u32) -> Result<(), SendError>
         requires held { holds_device conn.old self.now ≡ true }
-        ensures { AllOrNothing result conn.old (tells conn.old (λ serial. start_emulating_event self.now.proxy.id serial sequence)) conn.new }
+        ensures sends { AllOrNothing result conn.old (tells conn.old (λ serial. start_emulating_event self.now.proxy.id serial sequence)) conn.new }
+        ensures room { HasRoomOf (start_emulating_event self.now.proxy.id (next_serial conn.old.last_serial) sequence) conn.old.ctx
+            → IsErrOf result send_error.NoMemory → ⊥ }
     {
         tell!(conn, serial => self.proxy.start_emulating(conn.context_mut(), serial, sequence))
     }
 
     /// Tells a receiver that the server sends no more input. The event has the next serial. The connection holds the device.
     ///
-    /// `NoMemory`: nothing is sent.
+    /// `NoMemory`, and never where there is room for the event: nothing is sent.
     pub fn stop_emulating(&self, conn: &mut Connection) -> Result<(), SendError>
         requires held { holds_device conn.old self.now ≡ true }
-        ensures { AllOrNothing result conn.old (tells conn.old (stop_emulating_event self.now.proxy.id)) conn.new }
+        ensures sends { AllOrNothing result conn.old (tells conn.old (stop_emulating_event self.now.proxy.id)) conn.new }
+        ensures room { HasRoomOf (stop_emulating_event self.now.proxy.id (next_serial conn.old.last_serial)) conn.old.ctx
+            → IsErrOf result send_error.NoMemory → ⊥ }
     {
         tell!(conn, serial => self.proxy.stop_emulating(conn.context_mut(), serial))
     }
@@ -207,10 +217,12 @@ impl Device {
     /// Tells a receiver that the input since the last frame belongs together. The time is in microseconds. The event
     /// has the next serial. The connection holds the device.
     ///
-    /// `NoMemory`: nothing is sent.
+    /// `NoMemory`, and never where there is room for the event: nothing is sent.
     pub fn frame(&self, conn: &mut Connection, time: u64) -> Result<(), SendError>
         requires held { holds_device conn.old self.now ≡ true }
-        ensures { AllOrNothing result conn.old (tells conn.old (λ serial. frame_event self.now.proxy.id serial time)) conn.new }
+        ensures sends { AllOrNothing result conn.old (tells conn.old (λ serial. frame_event self.now.proxy.id serial time)) conn.new }
+        ensures room { HasRoomOf (frame_event self.now.proxy.id (next_serial conn.old.last_serial) time) conn.old.ctx
+            → IsErrOf result send_error.NoMemory → ⊥ }
     {
         tell!(conn, serial => self.proxy.frame(conn.context_mut(), serial, time))
     }

@@ -1,6 +1,6 @@
 //! The devices of a connection.
 
-ghost use Rattle.std.specs.Prelude.{◌≡◌, ◌≤◌, ◌<◌, ◌+◌, ◌++◌, ◌∷◌, [], OnOk, OnErr, IfErr, None, Some, not, true, length, find};
+ghost use Rattle.std.specs.Prelude.{◌≡◌, ◌≤◌, ◌<◌, ◌+◌, ◌++◌, ◌∷◌, [], OnOk, OnErr, IfErr, IfSome, None, Some, not, true, length, find};
 ghost use Rattle.std.specs.Option.{option_copied, option_copied_mut};
 ghost use Rattle.std.specs.List.{filter};
 ghost use Rattle.std.specs.Borrow.{sem};
@@ -15,9 +15,10 @@ ghost use Rattle.ei_request.specs.TableLends.{lends_sought};
 use crate::device::Device;
 use crate::event::Queue;
 use crate::held::HeldDevice;
-use crate::input::Input;
 use crate::input_error::InputError;
+use ei_input::input_event::InputEvent;
 use ei_keyed::Keyed;
+use ei_spec::limits::CAPABILITIES;
 use ei_wire::SendError;
 use std::alloc::{AllocError, Global};
 use std::marker::Model;
@@ -83,8 +84,42 @@ impl Model for DeviceTable {
     ghost invariant = { λ d. IsTable d.held.items d.ids.items d.next d.exact };
 }
 
-/// The number of the device that is sought.
+/// The number of the device that is sought, where neither its id nor the number is behind a gap. Mostly so.
 #[inline(always)]
+fn likely_number(
+    held: &Keyed<HeldDevice>,
+    ids: &Keyed<u64>,
+    exact: bool,
+    sought: Sought<'_>,
+) -> Option<u64>
+    requires known { exact ≡ true → ids.now.items ≡ ids_of held.now.items }
+    requires numbers { Numbered held.now.items }
+    ensures { IfSome result (λ n. number_of (fits sought.entry) held.now.items ≡ Some n) }
+{
+    if !exact {
+        return None;
+    }
+    let number = *ids.likely(sought.id())?;
+    if likely_fits(held, number, sought) {
+        Some(number)
+    } else {
+        None
+    }
+}
+
+/// Whether the device of that number is the one that is sought, and the number isn't behind a gap.
+#[inline(always)]
+fn likely_fits(held: &Keyed<HeldDevice>, number: u64, sought: Sought<'_>) -> bool
+    ensures { result ≡ true → fits_in (fits sought.entry) (keyed number held.now.items) ≡ true }
+{
+    match held.likely(number) {
+        Some(device) => sought.fits(device),
+        None => false,
+    }
+}
+
+/// The number of the device that is sought.
+#[inline(never)]
 fn number_of(
     held: &Keyed<HeldDevice>,
     ids: &Keyed<u64>,
@@ -144,6 +179,10 @@ fn sought_mut<'a>(
     ensures* writes_back { sem 𝓛 (lends_sought held.entry sought.entry result) }
     ensures value { option_copied_mut result ≡ find (fits sought.entry) (values held.old.items) }
 {
+    // Where it is found at once, the place at which it was seen is lent, without another look-up.
+    if let Some(number) = likely_number(held, ids, exact, sought) {
+        return held.get_mut(number);
+    }
     match number_of(held, ids, exact, sought) {
         Some(number) => held.get_mut(number),
         None => None,
@@ -184,16 +223,16 @@ impl DeviceTable {
         }
     }
 
-    /// Makes room for one more, with at most seven interfaces.
+    /// Makes room for one more, with an interface for each capability at most.
     pub(crate) fn reserve(&mut self) -> Result<(), AllocError>
         ensures items { self.new.items ≡ self.old.items }
-        ensures ok { OnOk result (HasRoom 8 self.new) }
+        ensures ok { OnOk result (HasRoom (CAPABILITIES + 1) self.new) }
     {
         if self.next == u64::MAX {
             return Err(AllocError);
         }
         self.held.reserve(1)?;
-        self.ids.reserve(8)
+        self.ids.reserve(CAPABILITIES + 1)
     }
 
     /// Adds a device. There is room for it.
@@ -287,7 +326,12 @@ impl DeviceTable {
 impl DeviceTable {
     /// The device that has the interface of that id and version takes an input, if one has it.
     #[inline(always)]
-    pub(crate) fn hear(&mut self, id: u64, version: u32, input: Input) -> Result<(), InputError>
+    pub(crate) fn hear(
+        &mut self,
+        id: u64,
+        version: u32,
+        input: InputEvent,
+    ) -> Result<(), InputError>
         ensures accepted { OnOk result (input_refusal version input (find (has_interface id) self.old.items) ≡ None) }
         ensures ok { OnOk result (self.new.items ≡ changed_first (has_interface id) (takes_input input) self.old.items) }
         ensures why { IfErr result (TellsOfInput version (input_refusal version input (find (has_interface id) self.old.items))) }
@@ -310,6 +354,28 @@ impl DeviceTable {
         if let Some(device) = self.held.get_mut(number) {
             let forgotten = device.give_up(&mut self.ids, number, id);
             self.exact = self.exact && forgotten;
+        }
+    }
+
+    /// Makes room for what waits on the device of that id, with a frame, and hands it out.
+    ///
+    /// `AllocError`: nothing is handed out.
+    #[inline(always)]
+    pub(crate) fn frame(
+        &mut self,
+        queue: &mut Queue,
+        id: u64,
+        serial: u32,
+        time: u64,
+    ) -> Result<(), AllocError>
+        ensures queue { OnOk result (queue.new.items ≡ queue.old.items ++ group_of (find (is_device id) self.old.items) serial time) }
+        ensures ok { OnOk result (self.new.items ≡ changed_first (is_device id) emptied self.old.items) }
+        ensures same { OnErr result (queue.new.items ≡ queue.old.items) }
+        ensures err { OnErr result (self.new.items ≡ self.old.items) }
+    {
+        match sought_mut(&mut self.held, &self.ids, self.exact, Sought::Device(id)) {
+            Some(device) => device.frame(queue, serial, time),
+            None => Ok(()),
         }
     }
 

@@ -1,13 +1,20 @@
-//! What a server is asked for.
+//! What a server is asked for, and how an input becomes it.
 //!
 //! An input has the time of its frame, in microseconds, and comes right before it.
 
-ghost use Rattle.std.specs.Prelude.{◌≡◌, IfOk};
+ghost use Rattle.std.specs.Prelude.{◌≡◌, ◌<◌, ◌+◌, ◌++◌, ◌∷◌, [], IfOk};
 ghost use Rattle.std.specs.Option.{option_copied};
-ghost use Rattle.ei_request.specs.Event.{device_in};
+ghost use Rattle.ei_input.specs.Inputs.{scroll_end};
+ghost use Rattle.ei_request.specs.Event.{device_in, timed};
+ghost use Rattle.ei_request.specs.Typed.{input_asked};
 
 use crate::device::Device;
 use crate::seat::Seat;
+use ei_input::input_event::{self, InputEvent};
+use ei_input::push_timed;
+use ei_server::{
+    Request, button, gesture, keyboard, pointer, pointer_absolute, scroll, text, touchscreen,
+};
 use ei_types::DeviceCapabilities;
 use ei_wire::NoMemory;
 use std::alloc::Global;
@@ -62,46 +69,52 @@ pub struct DeviceStopEmulating {
 }
 
 /// The pointer moved by a distance, in logical pixels.
-pub type PointerMotion = ei_input::PointerMotion<Device>;
+pub type PointerMotion = input_event::PointerMotion<Device>;
 
 /// The pointer moved to a point of a region.
-pub type PointerMotionAbsolute = ei_input::PointerMotionAbsolute<Device>;
+pub type PointerMotionAbsolute = input_event::PointerMotionAbsolute<Device>;
 
 /// A button went down or up. The number is a code of `linux/input-event-codes.h`.
-pub type Button = ei_input::Button<Device>;
+pub type Button = input_event::Button<Device>;
 
 /// It scrolled by a distance, in logical pixels.
-pub type ScrollDelta = ei_input::ScrollDelta<Device>;
+pub type ScrollDelta = input_event::ScrollDelta<Device>;
 
 /// Scrolling stopped on these axes.
-pub type ScrollStop = ei_input::ScrollStop<Device>;
+pub type ScrollStop = input_event::ScrollStop<Device>;
 
 /// Scrolling stopped on these axes, and nothing may scroll on by itself.
-pub type ScrollCancel = ei_input::ScrollCancel<Device>;
+pub type ScrollCancel = input_event::ScrollCancel<Device>;
 
 /// A wheel turned. A click of the wheel is 120.
-pub type ScrollDiscrete = ei_input::ScrollDiscrete<Device>;
+pub type ScrollDiscrete = input_event::ScrollDiscrete<Device>;
 
 /// A key went down or up.
-pub type KeyboardKey = ei_input::KeyboardKey<Device>;
+pub type KeyboardKey = input_event::KeyboardKey<Device>;
 
 /// A touch began at a point. The id is its name until it ends.
-pub type TouchDown = ei_input::TouchDown<Device>;
+pub type TouchDown = input_event::TouchDown<Device>;
 
 /// A touch moved to a point.
-pub type TouchMotion = ei_input::TouchMotion<Device>;
+pub type TouchMotion = input_event::TouchMotion<Device>;
 
 /// A touch ended.
-pub type TouchUp = ei_input::TouchUp<Device>;
+pub type TouchUp = input_event::TouchUp<Device>;
 
 /// A touch ended and is not to count.
-pub type TouchCancel = ei_input::TouchCancel<Device>;
+pub type TouchCancel = input_event::TouchCancel<Device>;
 
 /// A keysym, by its number in XKB, went down or up.
-pub type TextKeysym = ei_input::TextKeysym<Device>;
+pub type TextKeysym = input_event::TextKeysym<Device>;
 
 /// A text was put in. It has 1 to 254 bytes.
-pub type TextUtf8 = ei_input::TextUtf8<Device>;
+pub type TextUtf8 = input_event::TextUtf8<Device>;
+
+/// Fingers moved together over a touchpad by a distance, in logical pixels.
+pub type GestureSwipe = input_event::GestureSwipe<Device>;
+
+/// Fingers moved apart or towards each other. The scale is 1 where they are as far apart as when they came down.
+pub type GesturePinch = input_event::GesturePinch<Device>;
 
 /// What a client asks of a server.
 #[derive(Debug, Drop, PartialEq)]
@@ -150,6 +163,10 @@ pub enum EisRequest {
     TextKeysym(TextKeysym),
     /// A text was put in. It has 1 to 254 bytes.
     TextUtf8(TextUtf8),
+    /// Fingers moved together over a touchpad by a distance, in logical pixels.
+    GestureSwipe(GestureSwipe),
+    /// Fingers moved apart or towards each other. The scale is 1 where they are as far apart as when they came down.
+    GesturePinch(GesturePinch),
 }
 
 /// The requests that wait to be handed out.
@@ -181,6 +198,8 @@ impl EisRequest {
             EisRequest::TouchCancel(request) => Some(&request.device),
             EisRequest::TextKeysym(request) => Some(&request.device),
             EisRequest::TextUtf8(request) => Some(&request.device),
+            EisRequest::GestureSwipe(request) => Some(&request.device),
+            EisRequest::GesturePinch(request) => Some(&request.device),
         }
     }
 
@@ -229,6 +248,105 @@ impl EisRequest {
                 time: request.time,
                 text: request.text.copy(alloc)?,
             }),
+            EisRequest::GestureSwipe(request) => EisRequest::GestureSwipe(request.clone().unwrap()),
+            EisRequest::GesturePinch(request) => EisRequest::GesturePinch(request.clone().unwrap()),
         })
+    }
+}
+
+/// Queues the request that an input of the device becomes. There is room for it.
+pub(crate) fn queue_timed(input: InputEvent, queue: &mut Queue, device: &Device, time: u64)
+    requires { 0 < queue.old.room }
+    ensures items { queue.new.items ≡ queue.old.items ++ timed device.now time input ∷ [] }
+    ensures room { queue.new.room + 1 ≡ queue.old.room }
+{
+    push_timed!(queue, EisRequest, input, device.copy(), time)
+}
+
+/// The input that a request to an interface of a device is; none where it is the release, or of another interface.
+#[inline(always)]
+pub(crate) fn input_of(request: Request) -> Option<InputEvent>
+    ensures { result ≡ input_asked request }
+{
+    match request {
+        Request::Pointer(_target, request) => match request {
+            pointer::Request::Release => None,
+            pointer::Request::MotionRelative { x, y } => {
+                Some(InputEvent::PointerMotion { dx: x, dy: y })
+            }
+        },
+        Request::PointerAbsolute(_target, request) => match request {
+            pointer_absolute::Request::Release => None,
+            pointer_absolute::Request::MotionAbsolute { x, y } => {
+                Some(InputEvent::PointerMotionAbsolute {
+                    dx_absolute: x,
+                    dy_absolute: y,
+                })
+            }
+        },
+        Request::Scroll(_target, request) => match request {
+            scroll::Request::Release => None,
+            scroll::Request::Scroll { x, y } => Some(InputEvent::ScrollDelta { dx: x, dy: y }),
+            scroll::Request::ScrollDiscrete { x, y } => Some(InputEvent::ScrollDiscrete {
+                discrete_dx: x,
+                discrete_dy: y,
+            }),
+            scroll::Request::ScrollStop { x, y, is_cancel } => Some(scroll_end(x, y, is_cancel)),
+        },
+        Request::Button(_target, request) => match request {
+            button::Request::Release => None,
+            button::Request::Button { button, state } => Some(InputEvent::Button { button, state }),
+        },
+        Request::Keyboard(_target, request) => match request {
+            keyboard::Request::Release => None,
+            keyboard::Request::Key { key, state } => Some(InputEvent::KeyboardKey { key, state }),
+        },
+        Request::Touchscreen(_target, request) => match request {
+            touchscreen::Request::Release => None,
+            touchscreen::Request::Down { touchid, x, y } => Some(InputEvent::TouchDown {
+                touch_id: touchid,
+                x,
+                y,
+            }),
+            touchscreen::Request::Motion { touchid, x, y } => Some(InputEvent::TouchMotion {
+                touch_id: touchid,
+                x,
+                y,
+            }),
+            touchscreen::Request::Up { touchid } => Some(InputEvent::TouchUp { touch_id: touchid }),
+            touchscreen::Request::Cancel { touchid } => {
+                Some(InputEvent::TouchCancel { touch_id: touchid })
+            }
+        },
+        Request::Text(_target, request) => match request {
+            text::Request::Release => None,
+            text::Request::Keysym { keysym, state } => {
+                Some(InputEvent::TextKeysym { keysym, state })
+            }
+            text::Request::Utf8 { text } => Some(InputEvent::TextUtf8 { text }),
+        },
+        Request::Gesture(_target, request) => match request {
+            gesture::Request::Release => None,
+            gesture::Request::Swipe { fingers, x, y } => Some(InputEvent::GestureSwipe {
+                fingers,
+                dx: x,
+                dy: y,
+            }),
+            gesture::Request::Pinch { scale } => Some(InputEvent::GesturePinch { scale }),
+        },
+        _other => None,
+    }
+}
+
+/// The end of a scroll, which may be called off.
+fn scroll_end(x: u32, y: u32, is_cancel: u32) -> InputEvent
+    ensures { result ≡ scroll_end x y is_cancel }
+{
+    let x = x != 0;
+    let y = y != 0;
+    if is_cancel == 0 {
+        InputEvent::ScrollStop { x, y }
+    } else {
+        InputEvent::ScrollCancel { x, y }
     }
 }

@@ -17,17 +17,17 @@ ghost use Rattle.ei_request.specs.Refusing.{input_refusal, press_refusal, TellsO
 ghost use Rattle.ei_request.specs.declared.input_error.InputError.TheVariants as input_error;
 
 use crate::device::Device;
-use crate::event::{self, EisRequest, Queue};
-use crate::input::{Input, queue_timed};
+use crate::event::{self, EisRequest, Queue, queue_timed};
 use crate::input_error::InputError;
 use ei_backend::{Interface, Object};
+use ei_input::input_event::InputEvent;
 use ei_keyed::Keyed;
 use ei_server::Seat as SeatProxy;
 use ei_spec::KnownInterface;
 use ei_spec::limits::{MOST_TEXT_BYTES, MOST_TOUCHES};
 use ei_types::DeviceCapabilities;
 use ei_wire::{EiText, RawFloat, SendError};
-use std::alloc::Global;
+use std::alloc::{AllocError, Global};
 use std::collections::VecDeque;
 use std::marker::Model;
 use std::mem;
@@ -105,7 +105,7 @@ pub(crate) struct HeldDevice {
     device: Device,
     name: Option<EiText>,
     interfaces: Vec<Object>,
-    waiting: Vec<Input>,
+    waiting: Vec<InputEvent>,
     touches: Vec<u32>,
 }
 
@@ -220,31 +220,34 @@ impl HeldDevice {
     /// `InvalidInterfaceVersion` where a touchscreen of a version below 2 cancels one; `InvalidTextLength` for a
     /// text of no bytes or of more than 254; `NoMemory`. Then nothing changes.
     #[inline(always)]
-    pub(crate) fn take(&mut self, version: u32, input: Input) -> Result<(), InputError>
+    pub(crate) fn take(&mut self, version: u32, input: InputEvent) -> Result<(), InputError>
         ensures accepted { OnOk result (input_refusal version input (Some self.old) ≡ None) }
         ensures ok { OnOk result (self.new ≡ takes_input input self.old) }
         ensures why { IfErr result (TellsOfInput version (input_refusal version input (Some self.old))) }
         ensures err { OnErr result (self.new ≡ self.old) }
     {
         match input {
-            Input::TouchDown { touch_id, x, y } => {
+            InputEvent::TouchDown { touch_id, x, y } => {
                 press(&mut self.touches, &mut self.waiting, touch_id, x, y)
             }
-            Input::TouchMotion { touch_id, x, y } => {
+            InputEvent::TouchMotion { touch_id, x, y } => {
                 if has_touch(&self.touches, touch_id) {
-                    push_input(&mut self.waiting, Input::TouchMotion { touch_id, x, y })?;
+                    push_input(
+                        &mut self.waiting,
+                        InputEvent::TouchMotion { touch_id, x, y },
+                    )?;
                 }
                 Ok(())
             }
-            Input::TouchUp { touch_id } => {
+            InputEvent::TouchUp { touch_id } => {
                 lift(
                     &mut self.touches,
                     &mut self.waiting,
                     touch_id,
-                    Input::TouchUp { touch_id },
+                    InputEvent::TouchUp { touch_id },
                 )
             }
-            Input::TouchCancel { touch_id } => {
+            InputEvent::TouchCancel { touch_id } => {
                 if version < 2 {
                     return Err(InputError::OldTouchscreen);
                 }
@@ -252,17 +255,37 @@ impl HeldDevice {
                     &mut self.touches,
                     &mut self.waiting,
                     touch_id,
-                    Input::TouchCancel { touch_id },
+                    InputEvent::TouchCancel { touch_id },
                 )
             }
-            Input::TextUtf8 { text } => {
+            InputEvent::TextUtf8 { text } => {
                 if text.len() == 0 || text.len() > MOST_TEXT_BYTES {
                     return Err(InputError::InvalidTextLength);
                 }
-                push_input(&mut self.waiting, Input::TextUtf8 { text })
+                push_input(&mut self.waiting, InputEvent::TextUtf8 { text })
             }
             input => push_input(&mut self.waiting, input),
         }
+    }
+
+    /// Makes room for what waits, with a frame, and hands it out.
+    ///
+    /// `AllocError`: nothing is handed out.
+    #[inline(always)]
+    pub(crate) fn frame(
+        &mut self,
+        queue: &mut Queue,
+        serial: u32,
+        time: u64,
+    ) -> Result<(), AllocError>
+        ensures queue { OnOk result (queue.new.items ≡ queue.old.items ++ group_requests self.old.device self.old.waiting serial time) }
+        ensures ok { OnOk result (self.new ≡ emptied self.old) }
+        ensures same { OnErr result (queue.new.items ≡ queue.old.items) }
+        ensures err { OnErr result (self.new ≡ self.old) }
+    {
+        queue.reserve_group(self.waiting.len())?;
+        push_group(queue, &self.device, &mut self.waiting, serial, time);
+        Ok(())
     }
 
     /// Hands out what waits, each input with this time, and a frame of this serial behind them; nothing
@@ -385,7 +408,7 @@ fn touch_place(touches: &[u32], touch: u32) -> Option<usize>
 
 /// An input waits.
 #[inline(always)]
-fn push_input(waiting: &mut Vec<Input>, input: Input) -> Result<(), InputError>
+fn push_input(waiting: &mut Vec<InputEvent>, input: InputEvent) -> Result<(), InputError>
     ensures ok { OnOk result (waiting.new.items ≡ waiting.old.items ++ input ∷ []) }
     ensures err { OnErr result (waiting.new.items ≡ waiting.old.items) }
     ensures only { IfErr result (λ e. e ≡ input_error.NoMemory) }
@@ -401,7 +424,7 @@ fn push_input(waiting: &mut Vec<Input>, input: Input) -> Result<(), InputError>
 #[inline(always)]
 fn press(
     touches: &mut Vec<u32>,
-    waiting: &mut Vec<Input>,
+    waiting: &mut Vec<InputEvent>,
     touch_id: u32,
     x: RawFloat,
     y: RawFloat,
@@ -422,7 +445,7 @@ fn press(
     if touches.reserve(1).is_err() {
         return Err(InputError::NoMemory);
     }
-    push_input(waiting, Input::TouchDown { touch_id, x, y })?;
+    push_input(waiting, InputEvent::TouchDown { touch_id, x, y })?;
     touches.push_reserved(touch_id);
     Ok(())
 }
@@ -431,9 +454,9 @@ fn press(
 #[inline(always)]
 fn lift(
     touches: &mut Vec<u32>,
-    waiting: &mut Vec<Input>,
+    waiting: &mut Vec<InputEvent>,
     touch_id: u32,
-    input: Input,
+    input: InputEvent,
 ) -> Result<(), InputError>
     ensures ok { OnOk result (touches.new.items ≡ without_first (nat_eq touch_id) touches.old.items) }
     ensures waits { OnOk result (waiting.new.items ≡ (if list_any (nat_eq touch_id) touches.old.items then waiting.old.items ++ input ∷ [] else
@@ -451,7 +474,13 @@ fn lift(
 }
 
 /// Hands out a group. There is room for it, and for one more request behind it.
-fn push_group(queue: &mut Queue, device: &Device, waiting: &mut Vec<Input>, serial: u32, time: u64)
+fn push_group(
+    queue: &mut Queue,
+    device: &Device,
+    waiting: &mut Vec<InputEvent>,
+    serial: u32,
+    time: u64,
+)
     requires room { vec_len waiting.old + 2 ≤ queue.old.room }
     ensures queue { queue.new.items ≡ queue.old.items ++ group_requests device.now waiting.old.items serial time }
     ensures emptied { waiting.new.items ≡ [] }

@@ -12,7 +12,6 @@ mod device_table;
 mod event;
 mod held;
 mod holding;
-mod input;
 mod input_error;
 mod making;
 mod seat;
@@ -26,9 +25,9 @@ pub use device::{Device, DeviceInterface};
 pub use ei_input::{DeviceEvent, EventTime};
 pub use event::{
     Bind, Button, DeviceClosed, DeviceStartEmulating, DeviceStopEmulating, EisRequest, Frame,
-    KeyboardKey, PointerMotion, PointerMotionAbsolute, Ready, RequestDevice, ScrollCancel,
-    ScrollDelta, ScrollDiscrete, ScrollStop, TextKeysym, TextUtf8, TouchCancel, TouchDown,
-    TouchMotion, TouchUp,
+    GesturePinch, GestureSwipe, KeyboardKey, PointerMotion, PointerMotionAbsolute, Ready,
+    RequestDevice, ScrollCancel, ScrollDelta, ScrollDiscrete, ScrollStop, TextKeysym, TextUtf8,
+    TouchCancel, TouchDown, TouchMotion, TouchUp,
 };
 pub use making::DeviceSetup;
 pub use seat::Seat;

@@ -19,13 +19,14 @@ ghost use Rattle.ei_request.specs.Making.{named_by, tells_items, is_long_name, i
 ghost use Rattle.ei_request.specs.Making.{name_text, item_letters, item_room, setup_room, NeedsKeyboard, has_keyboard, LacksIds, HasLongText};
 ghost use Rattle.ei_request.specs.declared.making.DeviceSetup.TheVariants as setup;
 
-use crate::costs::{CAPABILITIES, MOST_DEVICE_BYTES, MOST_ITEM_BYTES};
+use crate::costs::{MOST_DEVICE_BYTES, MOST_ITEM_BYTES};
 use crate::held::find_interface;
 use crate::seats::is_long;
 use crate::sending::text_bytes;
 use ei_backend::{HasBackend, Interface, Object};
 use ei_handshake::Versions;
 use ei_server::{Context, Device, Keyboard, Seat};
+use ei_spec::limits::CAPABILITIES;
 use ei_spec::{Handle, KnownInterface};
 use ei_types::{DeviceCapabilities, DeviceCapability, DeviceType, KeymapType};
 use ei_wire::{RawFloat, SendError};

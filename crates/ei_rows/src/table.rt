@@ -233,6 +233,19 @@ fn text_requests(opcode: u32) -> Option<Row>
     })
 }
 
+/// The requests of `ei_x_gesture`.
+fn gesture_requests(opcode: u32) -> Option<Row>
+    ensures { option_map seen result ≡ option_map parts (row_at opcode (table false known.Gesture)) }
+{
+    use ArgKind::{Float, U32};
+    Some(match opcode {
+        0 => plain(&[]),
+        1 => plain(&[U32, Float, Float]),
+        2 => plain(&[Float]),
+        _ => return None,
+    })
+}
+
 /// The events of `ei_handshake`.
 fn handshake_events(opcode: u32) -> Option<Row>
     ensures { option_map seen result ≡ option_map parts (row_at opcode (table true known.Handshake)) }
@@ -403,6 +416,19 @@ fn text_events(opcode: u32) -> Option<Row>
     })
 }
 
+/// The events of `ei_x_gesture`.
+fn gesture_events(opcode: u32) -> Option<Row>
+    ensures { option_map seen result ≡ option_map parts (row_at opcode (table true known.Gesture)) }
+{
+    use ArgKind::{Float, U32};
+    Some(match opcode {
+        0 => last(&[U32]),
+        1 => plain(&[U32, Float, Float]),
+        2 => plain(&[Float]),
+        _ => return None,
+    })
+}
+
 /// The row of an opcode to an object of the interface: of the events, or of the requests.
 pub fn row_of(events: bool, interface: KnownInterface, opcode: u32) -> Option<Row>
     ensures { option_map seen result ≡ option_map parts (row_at opcode (table events interface)) }
@@ -422,6 +448,7 @@ pub fn row_of(events: bool, interface: KnownInterface, opcode: u32) -> Option<Ro
             KnownInterface::Keyboard => keyboard_events(opcode),
             KnownInterface::Touchscreen => touchscreen_events(opcode),
             KnownInterface::Text => text_events(opcode),
+            KnownInterface::Gesture => gesture_events(opcode),
         }
     } else {
         match interface {
@@ -438,6 +465,7 @@ pub fn row_of(events: bool, interface: KnownInterface, opcode: u32) -> Option<Ro
             KnownInterface::Keyboard => keyboard_requests(opcode),
             KnownInterface::Touchscreen => touchscreen_requests(opcode),
             KnownInterface::Text => text_requests(opcode),
+            KnownInterface::Gesture => gesture_requests(opcode),
         }
     }
 }

@@ -12,14 +12,8 @@ use Rattle.ei_server.specs.declared.connection.Request.TheVariants as of_connect
 use Rattle.ei_server.specs.declared.pingpong.Request.TheVariants as of_pingpong
 use Rattle.ei_server.specs.declared.seat.Request.TheVariants as of_seat
 use Rattle.ei_server.specs.declared.device.Request.TheVariants as of_device
-use Rattle.ei_server.specs.declared.pointer.Request.TheVariants as of_pointer
-use Rattle.ei_server.specs.declared.pointer_absolute.Request.TheVariants as of_pointer_absolute
-use Rattle.ei_server.specs.declared.scroll.Request.TheVariants as of_scroll
-use Rattle.ei_server.specs.declared.button.Request.TheVariants as of_button
-use Rattle.ei_server.specs.declared.keyboard.Request.TheVariants as of_keyboard
-use Rattle.ei_server.specs.declared.touchscreen.Request.TheVariants as of_touchscreen
-use Rattle.ei_server.specs.declared.text.Request.TheVariants as of_text
 use Rattle.ei_server.specs.Request.{target_of, values_of, announced_of}
+use Rattle.ei_input.specs.declared.input_event.InputEvent.{InputEvent}
 use Rattle.ei_session.specs.Setup.{Setup}
 use Rattle.ei_session.specs.Arguments.{request_args}
 use Rattle.ei_session.specs.ByMeaning.{callback_in}
@@ -28,8 +22,8 @@ use Rattle.ei_session.specs.Refusals.{Refusal, may_give, refusal}
 use Rattle.ei_session.proofs.RefusedMeans.{refusal_asked}
 use Rattle.ei_request.specs.Converter.{ConverterView}
 use Rattle.ei_request.specs.Refusing.{refusal as refused}
-use Rattle.ei_request.specs.Typed.{meaning_of}
-use Rattle.ei_standing.specs.Standing.{with_table, interface_asked, refusal_told}
+use Rattle.ei_request.specs.Typed.{interface_asked, input_asked, interface_meaning, meaning_of}
+use Rattle.ei_standing.specs.Standing.{with_table, refusal_told}
 use Rattle.ei_standing.proofs.SameRefusals.{same_refusal, may_be_given}
 use Rattle.ei_standing.proofs.TypedMeanings.{meant}
 use Rattle.ei_serve.specs.AtFront.{IsAsked}
@@ -40,6 +34,10 @@ use Rattle.ei_serve.specs.AtFront.{IsAsked}
 pub data Kind (r : Request) : Type 0 where
   IsPlain : announced_of r ≡ None → callback_in (Some (meaning_of r)) ≡ None → Kind r
   IsSync : (callback : ObjectView) → announced_of r ≡ Some callback → meaning_of r ≡ Syncs callback.id callback.version → Kind r
+
+no_callback : (o : Option InputEvent) → callback_in (Some (interface_meaning o)) ≡ None
+no_callback None = refl
+no_callback (Some i) = refl
 
 pub kind : (r : Request) → Kind r
 kind (request.Handshake o a) = IsPlain refl refl
@@ -54,40 +52,11 @@ kind (request.Device o (of_device.StartEmulating s n)) = IsPlain refl refl
 kind (request.Device o (of_device.StopEmulating s)) = IsPlain refl refl
 kind (request.Device o (of_device.Frame s t)) = IsPlain refl refl
 kind (request.Device o of_device.Ready) = IsPlain refl refl
-kind (request.Pointer o of_pointer.Release) = IsPlain refl refl
-kind (request.Pointer o (of_pointer.MotionRelative x y)) = IsPlain refl refl
-kind (request.PointerAbsolute o of_pointer_absolute.Release) = IsPlain refl refl
-kind (request.PointerAbsolute o (of_pointer_absolute.MotionAbsolute x y)) = IsPlain refl refl
-kind (request.Scroll o of_scroll.Release) = IsPlain refl refl
-kind (request.Scroll o (of_scroll.Scroll x y)) = IsPlain refl refl
-kind (request.Scroll o (of_scroll.ScrollDiscrete x y)) = IsPlain refl refl
-kind (request.Scroll o (of_scroll.ScrollStop x y c)) = IsPlain refl refl
-kind (request.Button o of_button.Release) = IsPlain refl refl
-kind (request.Button o (of_button.Button b s)) = IsPlain refl refl
-kind (request.Keyboard o of_keyboard.Release) = IsPlain refl refl
-kind (request.Keyboard o (of_keyboard.Key k s)) = IsPlain refl refl
-kind (request.Touchscreen o of_touchscreen.Release) = IsPlain refl refl
-kind (request.Touchscreen o (of_touchscreen.Down t x y)) = IsPlain refl refl
-kind (request.Touchscreen o (of_touchscreen.Motion t x y)) = IsPlain refl refl
-kind (request.Touchscreen o (of_touchscreen.Up t)) = IsPlain refl refl
-kind (request.Touchscreen o (of_touchscreen.Cancel t)) = IsPlain refl refl
-kind (request.Text o of_text.Release) = IsPlain refl refl
-kind (request.Text o (of_text.Keysym k s)) = IsPlain refl refl
-kind (request.Text o (of_text.Utf8 t)) = IsPlain refl refl
+kind r = IsPlain refl (no_callback (input_asked r))
 
 its_target : (r : Request) → (target_of r).interface ≡ Known (interface_asked r)
 its_target (request.Handshake o a) = refl
-its_target (request.Connection o a) = refl
-its_target (request.Pingpong o a) = refl
-its_target (request.Seat o a) = refl
-its_target (request.Device o a) = refl
-its_target (request.Pointer o a) = refl
-its_target (request.PointerAbsolute o a) = refl
-its_target (request.Scroll o a) = refl
-its_target (request.Button o a) = refl
-its_target (request.Keyboard o a) = refl
-its_target (request.Touchscreen o a) = refl
-its_target (request.Text o a) = refl
+its_target r = refl
 
 -- ---- what it asks, and whether it is refused
 

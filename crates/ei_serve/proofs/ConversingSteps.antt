@@ -29,8 +29,7 @@ use Rattle.ei_wire.specs.declared.error.FlushError.{FlushError}
 use Rattle.ei_wire.specs.declared.error.FlushError.TheVariants as flush_error
 use Rattle.ei_request.specs.declared.event.EisRequest.{EisRequest}
 use Rattle.ei_request.specs.declared.event.EisRequest.TheVariants as asked
-use Rattle.ei_request.specs.Coded.{input_in_code}
-use Rattle.ei_request.specs.Timed.{timed}
+use Rattle.ei_request.specs.Event.{timed}
 use Rattle.ei_request.specs.Keys.{DeviceKey}
 use Rattle.ei_request.specs.Connection.{ConnectionView}
 use Rattle.ei_request.specs.Converter.{ConverterView}
@@ -59,7 +58,7 @@ plain_alike v w same (DeviceStopEmulating d s) = ap (stop_of s) (key_alike v w d
 plain_alike v w same Disconnect = refl
 
 handed_alike : (v w : KnownInterface → ℕ) → ((interface : KnownInterface) → v interface ≡ w interface) → (r : Request) → handed_as v r ≡ handed_as w r
-handed_alike v w same (Timed d i time) = ap (λ (key : DeviceKey). timed key time (input_in_code i)) (key_alike v w d same)
+handed_alike v w same (Timed d i time) = ap (λ (key : DeviceKey). timed key time i) (key_alike v w d same)
 handed_alike v w same (Framed d s time) = ap (λ (key : DeviceKey). asked.Frame (record { device = key; last_serial = s; time = time })) (key_alike v w d same)
 handed_alike v w same (Given y) = plain_alike v w same y
 

@@ -28,9 +28,8 @@ use Rattle.ei_wire.specs.declared.error.FlushError.{FlushError}
 use Rattle.ei_wire.specs.declared.error.SendError.{SendError}
 use Rattle.ei_wire.specs.declared.error.SendError.TheVariants as send_error
 use Rattle.ei_request.specs.declared.event.EisRequest.{EisRequest}
-use Rattle.ei_input.specs.declared.input_event.InputEvent.{InputEvent as Input}
+use Rattle.ei_input.specs.declared.input_event.InputEvent.{InputEvent}
 use Rattle.ei_input.specs.declared.input_event.InputEvent.TheVariants.{TouchDown, TouchCancel, TextUtf8}
-use Rattle.ei_request.specs.Coded.{input_in_code}
 use Rattle.ei_request.specs.Held.{SeatView, DeviceView, is_seat, has_interface}
 use Rattle.ei_request.specs.Connection.{ConnectionView}
 use Rattle.ei_request.specs.Converter.{ConverterView}
@@ -71,7 +70,7 @@ no_mask : (mask : ℕ) (o : Option SeatView) → NoHandshake (mask_refusal mask 
 no_mask mask None = tt
 no_mask mask (Some s) = either (nat_le mask all_bits && (bit_and (bits_of s.capabilities) mask == mask)) None (Some (Bad request_error.InvalidCapabilities)) tt tt
 
-no_input : (version : ℕ) (i : Input) (o : Option DeviceView) → NoHandshake (input_refusal version i o)
+no_input : (version : ℕ) (i : InputEvent) (o : Option DeviceView) → NoHandshake (input_refusal version i o)
 no_input version i None = tt
 no_input version (TouchDown touch x y) (Some d) =
     either (nat_le MOST_TOUCHES (length d.touches)) (Some (Bad request_error.TooManyTouches)) (cond (list_any (nat_eq touch) d.touches) (Some (Bad request_error.DuplicatedTouchDown)) None) tt
@@ -85,7 +84,7 @@ no_handshake c id version (Shakes shake) g = absurd (g shake refl)
 no_handshake c id version (Syncs callback v) g = either (v == 1) None (Some (BadVersion (name_of known.Callback) v)) tt tt
 no_handshake c id version (Binds mask) g = no_mask mask (find (is_seat id) c.seats)
 no_handshake c id version (RequestsDevice mask) g = no_mask mask (find (is_seat id) c.seats)
-no_handshake c id version (Inputs i) g = no_input version (input_in_code i) (find (has_interface id) c.devices)
+no_handshake c id version (Inputs i) g = no_input version i (find (has_interface id) c.devices)
 no_handshake c id version x g = tt
 
 not_end : (p : Policy) → (p ≡ policy.End → ⊥) → is_end p ≡ false
@@ -93,6 +92,10 @@ not_end policy.Nothing h = refl
 not_end (policy.AddDevice seat wanted) h = refl
 not_end (policy.RemoveDevice device) h = refl
 not_end policy.End h = absurd (h refl)
+
+-- where nothing is done, no ids run out
+pub none_lacks : (c : ConnectionView) → IsErrOf {T = Unit {0}} (Ok tt) send_error.IdsExhausted ↔ LacksIds policy.Nothing c
+none_lacks c = (λ e. absurd cc, λ l. absurd l)
 
 no_reason : (x : Option Reason) → IsSome x → None ≡ x → ⊥
 no_reason None s e = let z : false ≡ true = s in absurd cc

@@ -3,6 +3,7 @@ pub mod BetweenTurns
 pub mod FewUnread
 pub mod Following
 pub mod ReadFront
+pub mod NeverRefused
 pub mod Asked
 pub mod AskedMeans
 pub mod TookBehind

@@ -6,7 +6,6 @@ use Rattle.std.proofs.lemmas.Bool.{cases_lt}
 use Rattle.std.proofs.lemmas.Bool.Decides.{nat_tests}
 use Rattle.ei_spec.specs.declared.handle.Handle.{Handle}
 use Rattle.ei_spec.specs.declared.interface.KnownInterface.{KnownInterface}
-use Rattle.ei_spec.specs.declared.interface.KnownInterface.TheVariants as known
 use Rattle.ei_spec.specs.Value.{Value}
 use Rattle.ei_spec.specs.Interface.{Interface, Known, ObjectView, short_of}
 use Rattle.ei_spec.specs.Reading.{Fault, InvalidId, MessageLength, Unread, ArgumentStop, ◌then◌, stopping, all_at}
@@ -15,6 +14,7 @@ use Rattle.ei_spec.specs.Table.{table}
 use Rattle.ei_spec.specs.Message.{Raw, size}
 use Rattle.ei_spec.proofs.Faults.{IsNoHeader, StopsNoHeader, all_no_header}
 use Rattle.ei_spec.proofs.Handleless.{AreNoHandles}
+use Rattle.ei_spec.proofs.QuietRows.{takes_no_handle}
 use Rattle.ei_backend.specs.Table.{TableView, accept, peer_end}
 use Rattle.ei_backend.specs.Message.{Parsed, announce, with_new, some_row}
 use Rattle.ei_backend.specs.Backend.{BodyOutcome, outcome, body_read}
@@ -32,31 +32,15 @@ use Rattle.ei_serve.proofs.NoHandles.{KeepsTaken, all_keeps, SameArgs, all_same}
 
 -- ---- no request takes a handle
 
-abbrev IsHandleless : Option Row → Type 0
+abbrev pub IsHandleless : Option Row → Type 0
 IsHandleless o = MatchOption o (Unit {0}) (λ r. AreNoHandles r.kinds)
 
-choice : (b : Bool) (x y : Option Row) → IsHandleless x → IsHandleless y → IsHandleless (cond b x y)
-choice true x y p q = p
-choice false x y p q = q
+rows_at : (interface : KnownInterface) (opcode : ℕ) (o : Option Row) → row_at opcode (table false interface) ≡ o → IsHandleless o
+rows_at interface opcode None e = tt
+rows_at interface opcode (Some r) e = takes_no_handle interface opcode r e
 
-rows : (interface : KnownInterface) (opcode : ℕ) → IsHandleless (row_at opcode (table false interface))
-rows known.Handshake opcode =
-    choice (eqb opcode 0) _ _ (tt, tt) (choice (eqb opcode 1) _ _ tt (choice (eqb opcode 2) _ _ (tt, tt) (choice (eqb opcode 3) _ _ (tt, tt) (choice (eqb opcode 4) _ _ (tt, (tt, tt)) tt))))
-rows known.Connection opcode = choice (eqb opcode 0) _ _ (tt, (tt, tt)) (choice (eqb opcode 1) _ _ tt tt)
-rows known.Callback opcode = tt
-rows known.Pingpong opcode = choice (eqb opcode 0) _ _ (tt, tt) tt
-rows known.Seat opcode = choice (eqb opcode 0) _ _ tt (choice (eqb opcode 1) _ _ (tt, tt) (choice (eqb opcode 2) _ _ (tt, tt) tt))
-rows known.Device opcode =
-    choice (eqb opcode 0) _ _ tt (choice (eqb opcode 1) _ _ (tt, (tt, tt)) (choice (eqb opcode 2) _ _ (tt, tt) (choice (eqb opcode 3) _ _ (tt, (tt, tt)) (choice (eqb opcode 4) _ _ tt tt))))
-rows known.Pointer opcode = choice (eqb opcode 0) _ _ tt (choice (eqb opcode 1) _ _ (tt, (tt, tt)) tt)
-rows known.PointerAbsolute opcode = choice (eqb opcode 0) _ _ tt (choice (eqb opcode 1) _ _ (tt, (tt, tt)) tt)
-rows known.Scroll opcode =
-    choice (eqb opcode 0) _ _ tt (choice (eqb opcode 1) _ _ (tt, (tt, tt)) (choice (eqb opcode 2) _ _ (tt, (tt, tt)) (choice (eqb opcode 3) _ _ (tt, (tt, (tt, tt))) tt)))
-rows known.Button opcode = choice (eqb opcode 0) _ _ tt (choice (eqb opcode 1) _ _ (tt, (tt, tt)) tt)
-rows known.Keyboard opcode = choice (eqb opcode 0) _ _ tt (choice (eqb opcode 1) _ _ (tt, (tt, tt)) tt)
-rows known.Touchscreen opcode =
-    choice (eqb opcode 0) _ _ tt (choice (eqb opcode 1) _ _ (tt, (tt, (tt, tt))) (choice (eqb opcode 2) _ _ (tt, (tt, (tt, tt))) (choice (eqb opcode 3) _ _ (tt, tt) (choice (eqb opcode 4) _ _ (tt, tt) tt))))
-rows known.Text opcode = choice (eqb opcode 0) _ _ tt (choice (eqb opcode 1) _ _ (tt, (tt, tt)) (choice (eqb opcode 2) _ _ (tt, tt) tt))
+pub rows : (interface : KnownInterface) (opcode : ℕ) → IsHandleless (row_at opcode (table false interface))
+rows interface opcode = rows_at interface opcode (row_at opcode (table false interface)) refl
 
 -- ---- the id that a message announces
 

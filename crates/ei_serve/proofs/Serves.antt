@@ -3,6 +3,7 @@ use Rattle.std.proofs.Common.{◌≡◌, ℕ, zero, suc, ◌+◌, ◌-◌, ◌�
 use Rattle.std.proofs.Common.{get_or, Option, Some, None}
 use Rattle.std.proofs.Common.{Result, Ok, Err, refl, ap, sym, subst, ◌∙◌, append_assoc, arith}
 use Rattle.std.specs.Prelude.{map, OnOk, IfErr, IsErrOf, IsSome}
+use Rattle.std.specs.Option.{option_map}
 use Rattle.std.proofs.lemmas.Bool.{cases_lt, lt-ltb}
 use Rattle.std.proofs.lemmas.List.{append-nil, length-append, take_all, take-append-drop}
 use Rattle.std.proofs.lemmas.Grind.{flat_map-append}
@@ -14,7 +15,7 @@ use Rattle.ei_spec.specs.History.{each, joined, total}
 use Rattle.ei_spec.specs.Groups.{Item, Input, Frame, Other, Free, Given, Plain, Slot, group, with_frame, gives, grouped, frames_made}
 use Rattle.ei_session.specs.Setup.{Setup}
 use Rattle.ei_session.specs.Handshake.{connected, version}
-use Rattle.ei_session.specs.Refusals.{Refusal as Cause}
+use Rattle.ei_session.specs.Refusals.{Refusal as Cause, Parse}
 use Rattle.ei_session.specs.Requests.{Request, slot, framed}
 use Rattle.ei_session.specs.Replies.{greeting}
 use Rattle.ei_session.specs.Events.{replies}
@@ -30,6 +31,10 @@ use Rattle.ei_request.specs.declared.event.EisRequest.{EisRequest}
 use Rattle.ei_standing.specs.Standing.{request_in_code}
 use Rattle.ei_types.specs.declared.error.Error.{Error}
 use Rattle.ei_types.specs.declared.error.Error.TheVariants as error
+use Rattle.ei_wire.specs.declared.error.ParseError.{ParseError}
+use Rattle.ei_wire.specs.declared.error.ParseError.TheVariants as parse_error
+use Rattle.ei_wire.specs.Gives.{fault_of}
+use Rattle.ei_serve.specs.declared.session.Turn.{Turn}
 use Rattle.ei_serve.specs.declared.session.Ended.{Ended as HowEnded}
 use Rattle.ei_serve.specs.declared.session.Ended.TheVariants as ended
 use Rattle.ei_serve.specs.declared.state.SessionState.{SessionState}
@@ -39,9 +44,10 @@ use Rattle.ei_serve.specs.Steps.{GivesOut, Replies, RepliesInPart, Goes}
 use Rattle.ei_serve.specs.Taking.{with_next}
 use Rattle.ei_serve.specs.Refusing.{refusal_of, IsRefused}
 use Rattle.ei_serve.specs.Turning.{Closes, ClosesRefused, Finds, Stays, BreaksOff, Turns, IsAtEnd}
-use Rattle.ei_serve.specs.Serving.{AnswersAs, IsDecided, IsCutShort, IsOfSession, IsSourceEnd, TookPieces, HandsOut, LeftReadings, Replied, RepliedInPart}
+use Rattle.ei_serve.specs.Serving.{AnswersAs, IsDecided, IsCutShort, IsOfRequest, IsOfSession, IsSourceEnd, TookPieces, HandsOut, LeftReadings, Replied, RepliedInPart}
 use Rattle.ei_serve.specs.Serving.{RepliedAtLeast, ReadValid, TookToTheEnd, TookToPiece, TookAllOf, CutShort}
 use Rattle.ei_serve.specs.Whole.{Serves}
+use Rattle.ei_serve.proofs.NeverRefused.{FineAnswer, session_fine}
 use Rattle.ei_serve.proofs.Going.{drop_none, none_more, more_more, gives_none, gives_then, drawn_then, leaves_then}
 use Rattle.ei_serve.proofs.Histories.{GoesOn as GoingOn, IsEarly, IsStopped, end_is_no_stop, goes_on_more, going, stopped, too_many_pieces}
 use Rattle.ei_serve.proofs.Histories.{too_many_handles_come, session_front}
@@ -567,6 +573,13 @@ start_only e h = absurd h
 pub start_is_of_session : (e : Error) (r : Result HowEnded Error) → r ≡ Err e → RefusesToStart e → IfErr r IsOfSession
 start_is_of_session e r same h = rw same (start_only e h)
 
+-- what can't be read in a message is of a request
+closed_parse : (setup : Setup) (pieces : List Piece) (times : List ℕ) (e : ParseError) (x y : Around) → ClosesRefused setup pieces times (option_map Parse (fault_of e)) x y → IsOfRequest e
+closed_parse setup pieces times parse_error.NoMemory x y h = absurd h
+closed_parse setup pieces times parse_error.NoFd x y h = subst FineAnswer h.answer_is (session_fine setup (with_next pieces h.piece))
+closed_parse setup pieces times (parse_error.InvalidInterface name) x y h = subst FineAnswer h.answer_is (session_fine setup (with_next pieces h.piece))
+closed_parse setup pieces times e x y h = tt
+
 closed_so : (setup : Setup) (pieces : List Piece) (times : List ℕ) (refusal : Option Cause) (x y : Around) → ClosesRefused setup pieces times refusal x y → IsSome refusal
 closed_so setup pieces times None x y h = absurd h
 closed_so setup pieces times (Some r) x y h = refl
@@ -579,7 +592,12 @@ turn_only setup pieces times error.IdsExhausted t x y h = tt
 turn_only setup pieces times error.ReadFault t x y h = tt
 turn_only setup pieces times error.WriteFault t x y h = tt
 turn_only setup pieces times error.NoMemory t x y h = tt
+turn_only setup pieces times (error.Parse e) t x y h = closed_parse setup pieces times e x y h
 turn_only setup pieces times e t x y h = closed_so setup pieces times (refusal_of e) x y h
 
 pub turn_is_of_session : (setup : Setup) (pieces : List Piece) (times : List ℕ) (e : Error) (r : Result HowEnded Error) (t : SessionState) (x y : Around) → r ≡ Err e → Turns setup pieces times (Err e) t x y → IfErr r IsOfSession
 turn_is_of_session setup pieces times e r t x y same h = rw same (turn_only setup pieces times e t x y h)
+
+pub turned_only : (setup : Setup) (pieces : List Piece) (times : List ℕ) (r : Result Turn Error) (t : SessionState) (x y : Around) → Turns setup pieces times r t x y → IfErr r IsOfSession
+turned_only setup pieces times (Ok turned) t x y h = tt
+turned_only setup pieces times (Err e) t x y h = turn_only setup pieces times e t x y h

@@ -42,6 +42,7 @@ use Rattle.ei_session.proofs.FirstObjects.{the_handshake, object_first, shut_mak
 use Rattle.ei_session.proofs.RefusalLaws.{refused_known, refused_early}
 use Rattle.ei_session.proofs.RefusedMeans.{refusal_asked}
 use Rattle.ei_session.proofs.RowsMean.{asks_means}
+use Rattle.ei_request.specs.Typed.{interface_asked}
 use Rattle.ei_serve.specs.AtFront.{AllKnown, is_sync, TakesOut, IsGone, Unreadable, bytes_refused}
 use Rattle.ei_serve.specs.Standing.{handshake_table}
 use Rattle.ei_serve.specs.Steps.{RefusesFront}
@@ -138,17 +139,7 @@ IsShaking other = ⊥
 
 pub only_shaking : (rest : List ℕ) (handles : List Handle) (memory : Memory) (r : Request) (new : BackendView) → TakesOut (quiet_with handshake_table rest handles memory) (target_of r) (opcode_of r) (values_of r) new → IsShaking r
 only_shaking rest handles memory (request.Handshake proxy m) new h = tt
-only_shaking rest handles memory (request.Connection proxy m) new h = let e : known.Handshake ≡ known.Connection = no_other rest handles memory known.Connection proxy _ _ new h in absurd cc
-only_shaking rest handles memory (request.Pingpong proxy m) new h = let e : known.Handshake ≡ known.Pingpong = no_other rest handles memory known.Pingpong proxy _ _ new h in absurd cc
-only_shaking rest handles memory (request.Seat proxy m) new h = let e : known.Handshake ≡ known.Seat = no_other rest handles memory known.Seat proxy _ _ new h in absurd cc
-only_shaking rest handles memory (request.Device proxy m) new h = let e : known.Handshake ≡ known.Device = no_other rest handles memory known.Device proxy _ _ new h in absurd cc
-only_shaking rest handles memory (request.Pointer proxy m) new h = let e : known.Handshake ≡ known.Pointer = no_other rest handles memory known.Pointer proxy _ _ new h in absurd cc
-only_shaking rest handles memory (request.PointerAbsolute proxy m) new h = let e : known.Handshake ≡ known.PointerAbsolute = no_other rest handles memory known.PointerAbsolute proxy _ _ new h in absurd cc
-only_shaking rest handles memory (request.Scroll proxy m) new h = let e : known.Handshake ≡ known.Scroll = no_other rest handles memory known.Scroll proxy _ _ new h in absurd cc
-only_shaking rest handles memory (request.Button proxy m) new h = let e : known.Handshake ≡ known.Button = no_other rest handles memory known.Button proxy _ _ new h in absurd cc
-only_shaking rest handles memory (request.Keyboard proxy m) new h = let e : known.Handshake ≡ known.Keyboard = no_other rest handles memory known.Keyboard proxy _ _ new h in absurd cc
-only_shaking rest handles memory (request.Touchscreen proxy m) new h = let e : known.Handshake ≡ known.Touchscreen = no_other rest handles memory known.Touchscreen proxy _ _ new h in absurd cc
-only_shaking rest handles memory (request.Text proxy m) new h = let e : known.Handshake ≡ known.Text = no_other rest handles memory known.Text proxy _ _ new h in absurd cc
+only_shaking rest handles memory r new h = let e : known.Handshake ≡ interface_asked r = no_other rest handles memory (interface_asked r) (target_of r) _ _ new h in absurd cc
 
 -- ---- what it asks
 

@@ -13,6 +13,7 @@ use Rattle.ei_spec.specs.Table.{table}
 use Rattle.ei_spec.specs.Message.{Raw, size, Short, Unlawful, Whole, front}
 use Rattle.ei_spec.proofs.Faults.{IsNoHeader, StopsNoHeader, all_no_header}
 use Rattle.ei_spec.proofs.Handleless.{AreNoHandles, Got, got_of, all_alike}
+use Rattle.ei_spec.proofs.QuietRows.{takes_no_handle, announces_at, quiet_row}
 use Rattle.ei_backend.specs.Table.{TableView, found, peer_end}
 use Rattle.ei_backend.specs.Message.{Parsed, announce, with_new, some_row}
 use Rattle.ei_backend.specs.Backend.{BackendView, BodyOutcome, outcome, body_read, FrontAnswer, Waits, Refused, Gone, Message, next, said_of}
@@ -26,29 +27,18 @@ use Rattle.ei_serve.proofs.NoHandles.{KeepsTaken, all_keeps, SameArgs, all_same}
 abbrev pub IsPlain : Option Row → Type 0
 IsPlain o = MatchOption o (Unit {0}) (λ r. (r.announces ≡ Nothing) × AreNoHandles r.kinds)
 
-choice : (b : Bool) (x y : Option Row) → IsPlain x → IsPlain y → IsPlain (cond b x y)
-choice true x y p q = p
-choice false x y p q = q
+-- a request announces only where it is `sync`
+sync_announces : (interface : KnownInterface) (opcode : ℕ) → announces_at false interface opcode ≡ is_sync interface opcode
+sync_announces known.Handshake opcode = refl
+sync_announces interface opcode = refl
+
+rows_at : (interface : KnownInterface) (opcode : ℕ) (o : Option Row) → is_sync interface opcode ≡ false → row_at opcode (table false interface) ≡ o → IsPlain o
+rows_at interface opcode None h e = tt
+rows_at interface opcode (Some r) h e = (quiet_row false interface opcode r (sync_announces interface opcode ∙ h) e, takes_no_handle interface opcode r e)
 
 -- each request is one, but `sync`
 pub plain_rows : (interface : KnownInterface) (opcode : ℕ) → is_sync interface opcode ≡ false → IsPlain (row_at opcode (table false interface))
-plain_rows known.Handshake opcode h =
-    choice (eqb opcode 0) _ _ (refl, (tt, tt)) (choice (eqb opcode 1) _ _ (refl, tt) (choice (eqb opcode 2) _ _ (refl, (tt, tt)) (choice (eqb opcode 3) _ _ (refl, (tt, tt)) (choice (eqb opcode 4) _ _ (refl, (tt, (tt, tt))) tt))))
-plain_rows known.Connection opcode h = rw h (choice (eqb opcode 1) _ _ (refl, tt) tt)
-plain_rows known.Callback opcode h = tt
-plain_rows known.Pingpong opcode h = choice (eqb opcode 0) _ _ (refl, (tt, tt)) tt
-plain_rows known.Seat opcode h = choice (eqb opcode 0) _ _ (refl, tt) (choice (eqb opcode 1) _ _ (refl, (tt, tt)) (choice (eqb opcode 2) _ _ (refl, (tt, tt)) tt))
-plain_rows known.Device opcode h =
-    choice (eqb opcode 0) _ _ (refl, tt) (choice (eqb opcode 1) _ _ (refl, (tt, (tt, tt))) (choice (eqb opcode 2) _ _ (refl, (tt, tt)) (choice (eqb opcode 3) _ _ (refl, (tt, (tt, tt))) (choice (eqb opcode 4) _ _ (refl, tt) tt))))
-plain_rows known.Pointer opcode h = choice (eqb opcode 0) _ _ (refl, tt) (choice (eqb opcode 1) _ _ (refl, (tt, (tt, tt))) tt)
-plain_rows known.PointerAbsolute opcode h = choice (eqb opcode 0) _ _ (refl, tt) (choice (eqb opcode 1) _ _ (refl, (tt, (tt, tt))) tt)
-plain_rows known.Scroll opcode h =
-    choice (eqb opcode 0) _ _ (refl, tt) (choice (eqb opcode 1) _ _ (refl, (tt, (tt, tt))) (choice (eqb opcode 2) _ _ (refl, (tt, (tt, tt))) (choice (eqb opcode 3) _ _ (refl, (tt, (tt, (tt, tt)))) tt)))
-plain_rows known.Button opcode h = choice (eqb opcode 0) _ _ (refl, tt) (choice (eqb opcode 1) _ _ (refl, (tt, (tt, tt))) tt)
-plain_rows known.Keyboard opcode h = choice (eqb opcode 0) _ _ (refl, tt) (choice (eqb opcode 1) _ _ (refl, (tt, (tt, tt))) tt)
-plain_rows known.Touchscreen opcode h =
-    choice (eqb opcode 0) _ _ (refl, tt) (choice (eqb opcode 1) _ _ (refl, (tt, (tt, (tt, tt)))) (choice (eqb opcode 2) _ _ (refl, (tt, (tt, (tt, tt)))) (choice (eqb opcode 3) _ _ (refl, (tt, tt)) (choice (eqb opcode 4) _ _ (refl, (tt, tt)) tt))))
-plain_rows known.Text opcode h = choice (eqb opcode 0) _ _ (refl, tt) (choice (eqb opcode 1) _ _ (refl, (tt, (tt, tt))) (choice (eqb opcode 2) _ _ (refl, (tt, tt)) tt))
+plain_rows interface opcode h = rows_at interface opcode (row_at opcode (table false interface)) h refl
 
 -- what reading a body says, where the definitions read these arguments of it
 abbrev pub OutcomeIs : Option (List Value) → TableView → BodyOutcome → Type 0

@@ -14,7 +14,6 @@ use Rattle.ei_backend.specs.Outside.{ReadsClock}
 use Rattle.ei_backend.specs.Endpoint.{endpoint_of}
 use Rattle.ei_types.specs.declared.capability.DeviceCapabilities.{DeviceCapabilities}
 use Rattle.ei_session.specs.Setup.{Setup, seat_id}
-use Rattle.ei_session.specs.Inputs.{Input as Asked}
 use Rattle.ei_session.specs.Meaning.{Meaning, meaning, Shakes, Syncs, Disconnects, Pongs, ReleasesSeat, Binds, RequestsDevice, Closes, Starts, Stops}
 use Rattle.ei_session.specs.Meaning.{Frames, Readies, Releases, Inputs}
 use Rattle.ei_session.specs.ByMeaning.{mask_in, callback_in, disconnects}
@@ -29,8 +28,8 @@ use Rattle.ei_session.proofs.JudgedMeans.{judge_asked, exhausts_asked}
 use Rattle.ei_session.proofs.RefusedMeans.{refusal_asked}
 use Rattle.ei_request.specs.declared.event.EisRequest.{EisRequest}
 use Rattle.ei_request.specs.declared.event.EisRequest.TheVariants as asked
-use Rattle.ei_input.specs.declared.input_event.InputEvent.{InputEvent as Input}
-use Rattle.ei_request.specs.Timed.{timed}
+use Rattle.ei_input.specs.declared.input_event.InputEvent.{InputEvent}
+use Rattle.ei_request.specs.Event.{timed}
 use Rattle.ei_request.specs.Keys.{DeviceKey}
 use Rattle.ei_request.specs.Held.{SeatView, DeviceView, is_seat, has_interface, is_of_key, gone_ids, without_first, group_requests}
 use Rattle.ei_request.specs.Connection.{ConnectionView}
@@ -40,7 +39,7 @@ use Rattle.ei_request.specs.Making.{granted_by}
 use Rattle.ei_request.specs.Removing.{RemovesDevice}
 use Rattle.ei_request.specs.Handling.{handled, queues, hands_out, closes, gives_up, closed_of, ready_of, start_of, stop_of, bind_of}
 use Rattle.ei_request.specs.Handling.{request_device_of, set_of, device_in, is_some_waiting, closes_group, Times}
-use Rattle.ei_standing.specs.Standing.{IsHeld, TookOne, with_table, inputs_of, used_by, seat_of, device_of, seat_held, request_in_code, plain_in_code}
+use Rattle.ei_standing.specs.Standing.{IsHeld, TookOne, with_table, used_by, seat_of, device_of, seat_held, request_in_code, plain_in_code}
 use Rattle.ei_standing.proofs.ToDevices.{There, device_itself, held_there}
 use Rattle.ei_standing.proofs.FrameLaw.{after_frame}
 use Rattle.ei_standing.proofs.ClosingLaws.{after_start, after_stop, after_ready}
@@ -107,12 +106,12 @@ draws_one time before after r = record {
   leaves = λ told is. (r told is).left;
 }
 
-draws_by : (xs : List Asked) (w : Bool) (time : ℕ) (before after : Option (List ℕ)) → nat_lt 0 (length (inputs_of xs)) ≡ w → Times true w time before after → Draws (used_by xs time) before after
+draws_by : (xs : List InputEvent) (w : Bool) (time : ℕ) (before after : Option (List ℕ)) → nat_lt 0 (length xs) ≡ w → Times true w time before after → Draws (used_by xs time) before after
 draws_by [] false time before after e t = draws_none before after t
 draws_by [] true time before after e t = let z : false ≡ true = e in absurd cc
 draws_by (x ∷ xs) true time before after e t = draws_one time before after t
 draws_by (x ∷ xs) false time before after e t =
-    let z : nat_lt 0 (length (inputs_of (x ∷ xs))) ≡ true = grind (arith, nat_tests) in
+    let z : nat_lt 0 (length (x ∷ xs)) ≡ true = grind (arith, nat_tests) in
     let y : true ≡ false = sym z ∙ e in
     absurd cc
 
@@ -137,7 +136,7 @@ pub record Behind (setup : Setup) (past : List Raw) (m : Raw) (times : List ℕ)
   pub enough : (LacksIds (policy_behind n.queue) n.handle → ⊥) → exhausts past m ≡ false
   pub took : (LacksIds (policy_behind n.queue) n.handle → ⊥) → (end : ConnectionView) → Follows (policy_behind n.queue) n.handle end → TookOne setup past m times used c (record n { handle = end })
 
-group_policy : (device : DeviceKey) (is : List Input) (serial time : ℕ) → policy_behind (group_requests device is serial time) ≡ policy.Nothing
+group_policy : (device : DeviceKey) (is : List InputEvent) (serial time : ℕ) → policy_behind (group_requests device is serial time) ≡ policy.Nothing
 group_policy device [] serial time = refl
 group_policy device (i ∷ is) serial time = behind_last (map (timed device time) (i ∷ is)) (asked.Frame (record { device = device; last_serial = serial; time = time }))
 
@@ -221,7 +220,7 @@ module _ (setup : Setup) (past : List Raw) (m : Raw) (times : List ℕ) (c : Con
   closing_draws : (time : ℕ) → There setup past m.id (device_in c m.id) → Times true (is_some_waiting (device_in c m.id)) time before after → Draws (used_by (group m.id (each (slot setup) past)) time) before after
   closing_draws time t clock =
       draws_by (group m.id (each (slot setup) past)) (is_some_waiting (device_in c m.id)) time before after
-      (sym (ap is_some_waiting t.found ∙ ap (λ (w : List Input). nat_lt 0 (length w)) t.is.waiting)) clock
+      (sym (ap is_some_waiting t.found ∙ ap (λ (w : List InputEvent). nat_lt 0 (length w)) t.is.waiting)) clock
 
   -- the client closes a device, and it is taken away
   closing : (time : ℕ) → meaning e.interface m ≡ Some Closes → Times true (is_some_waiting (device_in c m.id)) time before after → Behind setup past m times c (handled c m.id Closes time) before after

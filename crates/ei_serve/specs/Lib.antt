@@ -1,4 +1,5 @@
 pub mod AtFront
+pub mod HandedOut
 pub mod Causes
 pub mod Refusing
 pub mod Around

@@ -13,6 +13,8 @@ use Rattle.ei_standing.specs.Standing.{request_in_code}
 use Rattle.ei_request.specs.declared.event.EisRequest.{EisRequest}
 use Rattle.ei_types.specs.declared.error.Error.{Error}
 use Rattle.ei_types.specs.declared.error.Error.TheVariants as error
+use Rattle.ei_wire.specs.declared.error.ParseError.{ParseError}
+use Rattle.ei_wire.specs.declared.error.ParseError.TheVariants as parse_error
 use Rattle.ei_serve.specs.Refusing.{refusal_of, IsRefused}
 use Rattle.ei_serve.specs.declared.session.Ended.{Ended as HowEnded}
 use Rattle.ei_serve.specs.declared.session.Ended.TheVariants as ended
@@ -31,6 +33,13 @@ AnswersAs a (Err error.WriteFault) = Unit {0}
 AnswersAs a (Err error.NoMemory) = Unit {0}
 AnswersAs a (Err e) = IsRefused (refusal_of e) a
 
+-- what can't be read in a request: no request takes a handle, and none names an interface
+abbrev pub IsOfRequest : ParseError → Type 0
+IsOfRequest parse_error.NoMemory = ⊥
+IsOfRequest parse_error.NoFd = ⊥
+IsOfRequest (parse_error.InvalidInterface name) = ⊥
+IsOfRequest e = Unit {0}
+
 -- an error that a session may answer
 abbrev pub IsOfSession : Error → Type 0
 IsOfSession error.UnexpectedEof = Unit {0}
@@ -40,6 +49,7 @@ IsOfSession error.IdsExhausted = Unit {0}
 IsOfSession error.ReadFault = Unit {0}
 IsOfSession error.WriteFault = Unit {0}
 IsOfSession error.NoMemory = Unit {0}
+IsOfSession (error.Parse e) = IsOfRequest e
 IsOfSession e = IsSome (refusal_of e)
 
 -- a result that the pieces decide: no fault, and no want of memory

@@ -1,6 +1,6 @@
 //! The connection, message by message.
 
-ghost use Rattle.std.specs.Prelude.{◌≡◌, ◌++◌, List, [], ℕ, IfErr, IsErrOf, OnErr, OnOk, IfOk, None, true, false};
+ghost use Rattle.std.specs.Prelude.{◌≡◌, ◌++◌, List, [], ℕ, Option, IfErr, IsErrOf, OnErr, OnOk, IfOk, None, true, false};
 ghost use Rattle.ei_spec.specs.declared.handle.Handle.{Handle};
 ghost use Rattle.ei_spec.specs.Message.{Raw};
 ghost use Rattle.ei_types.specs.declared.error.Error.TheVariants as error;
@@ -11,13 +11,15 @@ ghost use Rattle.ei_serve.specs.Around.{beside};
 ghost use Rattle.ei_serve.specs.Standing.{IsConnected, terms_of};
 ghost use Rattle.ei_serve.specs.Steps.{HandsOver, Connects, Steps, told};
 ghost use Rattle.ei_serve.specs.AtFront.{IsAsked};
+ghost use Rattle.ei_serve.specs.HandedOut.{IsHandedOut};
 ghost use Rattle.ei_serve.specs.Policy.{policy_behind};
 ghost use Rattle.ei_serve.specs.declared.phase.Phase.TheVariants as phases;
+ghost use Rattle.ei_serve.specs.declared.policy.Policy.TheVariants as policies;
 
 use crate::phase::{
     Rejected, Step, refuse, refuse_flush, refuse_memory, refuse_parse, refuse_send,
 };
-use crate::policy::{Policy, policy_behind};
+use crate::policy::{Policy, may_follow_any, policy_behind};
 use crate::state::Start;
 use ei_backend::{Clock, PendingRequestResult, Sink};
 use ei_handshake::EisHandshakeResp;
@@ -109,10 +111,57 @@ fn take_request<K: Sink, C: Clock>(
     if let Err(error) = converter.handle_request(clock, request) {
         return Err(refuse(why, error));
     }
-    let policy = match hand_out(converter, out) {
-        Ok(policy) => policy,
+    let may_follow = match hand_out(converter, out) {
+        Ok(may_follow) => may_follow,
         Err(_) => return Err(refuse_memory(why)),
     };
+    if may_follow {
+        return follow(converter, sink, out, why);
+    }
+    let handle = converter.handle_mut();
+    if let Err(error) = handle.flush(sink) {
+        return Err(refuse_flush(why, error));
+    }
+    Ok(Step::Handled)
+}
+
+/// Hands out the requests that are queued, all or none, and answers whether something may be done behind the last of them.
+#[inline(always)]
+fn hand_out(
+    converter: &mut EisRequestConverter,
+    out: &mut Vec<EisRequest>,
+) -> Result<bool, NoMemory>
+    ensures hands_out { OnOk result (out.new.items ≡ out.old.items ++ converter.old.queue) }
+    ensures nothing { IfOk result (λ may. may ≡ false → policy_behind converter.old.queue ≡ policies.Nothing) }
+    ensures last { IfOk result (λ may. may ≡ true → policy_behind out.new.items ≡ policy_behind converter.old.queue) }
+    ensures queue { OnOk result (converter.new ≡ record converter.old { queue = [] }) }
+    ensures kept { OnErr result (out.new.items ≡ out.old.items) }
+{
+    if converter.queued_len() == 0 {
+        return Ok(false);
+    }
+    converter.drain_into(out)?;
+    Ok(may_follow_any(out))
+}
+
+/// Does what the policy does behind the last of the requests that were handed out, and sends what this makes.
+// What it makes on the way is large, and few requests ask for it.
+#[inline(never)]
+fn follow<K: Sink>(
+    converter: &mut EisRequestConverter,
+    sink: &mut K,
+    out: &[EisRequest],
+    why: &mut Error,
+) -> Result<Step, Rejected>
+    ensures follows { (setup : Started) (past : List Raw) (times rest : List ℕ) (handles : List Handle) →
+        (before : List EisRequest) (read read_now : Option (List ℕ)) →
+        IsHandedOut setup past times rest handles before out.now read read_now converter.old →
+        Steps setup past times rest handles (told result why.new) (phases.Connected converter.new)
+        (beside before (K.taken sink.old) read) (beside out.now (K.taken sink.new) read_now) }
+    ensures sink { LentSink K.faults K.later (IsErrOf (told result why.new) error.WriteFault) sink.old sink.new }
+    ensures no_read_fault { IsErrOf (told result why.new) error.ReadFault → ⊥ }
+{
+    let policy = policy_behind(out);
     let handle = converter.handle_mut();
     if let Err(error) = policy.follow(handle) {
         return Err(refuse_send(why, error));
@@ -124,22 +173,4 @@ fn take_request<K: Sink, C: Clock>(
         Policy::End => Step::Disconnect,
         _ => Step::Handled,
     })
-}
-
-/// Hands out the requests that are queued, all or none, and answers what is done behind the last of them.
-#[inline(always)]
-fn hand_out(
-    converter: &mut EisRequestConverter,
-    out: &mut Vec<EisRequest>,
-) -> Result<Policy, NoMemory>
-    ensures hands_out { OnOk result (out.new.items ≡ out.old.items ++ converter.old.queue) }
-    ensures policy { IfOk result (λ p. p ≡ policy_behind converter.old.queue) }
-    ensures queue { OnOk result (converter.new ≡ record converter.old { queue = [] }) }
-    ensures kept { OnErr result (out.new.items ≡ out.old.items) }
-{
-    if converter.queued_len() == 0 {
-        return Ok(Policy::Nothing);
-    }
-    converter.drain_into(out)?;
-    Ok(policy_behind(out))
 }

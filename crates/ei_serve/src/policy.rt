@@ -1,8 +1,9 @@
 //! What a session does behind the requests that it hands out: its fixed policy.
 
-ghost use Rattle.std.specs.Prelude.{◌≡◌, ◌↔◌, OnOk, IsErrOf, find};
+ghost use Rattle.std.specs.Prelude.{◌≡◌, ◌↔◌, false, OnOk, IsErrOf, find};
 ghost use Rattle.ei_wire.specs.declared.error.SendError.TheVariants as send_error;
 ghost use Rattle.ei_request.specs.Held.{is_seat};
+ghost use Rattle.ei_serve.specs.declared.policy.Policy.TheVariants as policies;
 ghost use Rattle.ei_serve.specs.Policy.{policy_of, policy_behind, device_if, Follows, LacksIds, AddsIfHeld, RunOutIfHeld};
 
 use ei_request::{Connection, Device, EisRequest, Seat};
@@ -23,7 +24,6 @@ pub(crate) enum Policy {
 }
 
 /// What is done behind the request. A `bind` or `request_device` makes a device where some capability is wanted.
-#[inline(always)]
 fn policy_of(request: &EisRequest) -> Policy
     ensures { result ≡ policy_of request.now }
 {
@@ -36,8 +36,32 @@ fn policy_of(request: &EisRequest) -> Policy
     }
 }
 
-/// What is done behind these requests: that of the last.
+/// Whether something may be done behind the request.
 #[inline(always)]
+fn may_follow(request: &EisRequest) -> bool
+    ensures { result ≡ false → policy_of request.now ≡ policies.Nothing }
+{
+    matches!(
+        request,
+        EisRequest::Bind(_)
+            | EisRequest::RequestDevice(_)
+            | EisRequest::DeviceClosed(_)
+            | EisRequest::Disconnect
+    )
+}
+
+/// Whether something may be done behind these requests.
+#[inline(always)]
+pub(crate) fn may_follow_any(requests: &[EisRequest]) -> bool
+    ensures { result ≡ false → policy_behind requests.now ≡ policies.Nothing }
+{
+    match requests.last() {
+        Some(last) => may_follow(last),
+        None => false,
+    }
+}
+
+/// What is done behind these requests: that of the last.
 pub(crate) fn policy_behind(requests: &[EisRequest]) -> Policy
     ensures { result ≡ policy_behind requests.now }
 {
@@ -48,7 +72,6 @@ pub(crate) fn policy_behind(requests: &[EisRequest]) -> Policy
 }
 
 /// A device for the seat, where some capability is wanted.
-#[inline(never)]
 fn device_if(seat: &Seat, wanted: DeviceCapabilities) -> Policy
     ensures { result ≡ device_if seat.now wanted }
 {
@@ -64,7 +87,6 @@ impl Policy {
     /// Does it.
     ///
     /// `IdsExhausted` exactly where a device is to be announced and the own ids run out with it; `NoMemory`.
-    #[inline(always)]
     pub(crate) fn follow(&self, handle: &mut Connection) -> Result<(), SendError>
         ensures ok { OnOk result (Follows self.now handle.old handle.new) }
         ensures exhausted { IsErrOf result send_error.IdsExhausted ↔ LacksIds self.now handle.old }
@@ -80,7 +102,6 @@ impl Policy {
 }
 
 /// Announces a device of the seat, if that is held, and that it takes input.
-#[inline(never)]
 fn add_device(
     handle: &mut Connection,
     seat: &Seat,

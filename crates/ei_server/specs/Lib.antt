@@ -12,6 +12,7 @@ pub mod Button
 pub mod Keyboard
 pub mod Touchscreen
 pub mod Text
+pub mod Gesture
 pub mod Request
 pub mod Asked
 -- what the clauses cite of the crates below

@@ -18,6 +18,7 @@ use Rattle.ei_server.specs.Button as button
 use Rattle.ei_server.specs.Keyboard as keyboard
 use Rattle.ei_server.specs.Touchscreen as touchscreen
 use Rattle.ei_server.specs.Text as text
+use Rattle.ei_server.specs.Gesture as gesture
 
 -- the object as one of the interface
 abbrev pub as_one_of : KnownInterface → ObjectView → ObjectView
@@ -37,6 +38,7 @@ target_of (request.Button proxy m) = as_one_of known.Button proxy
 target_of (request.Keyboard proxy m) = as_one_of known.Keyboard proxy
 target_of (request.Touchscreen proxy m) = as_one_of known.Touchscreen proxy
 target_of (request.Text proxy m) = as_one_of known.Text proxy
+target_of (request.Gesture proxy m) = as_one_of known.Gesture proxy
 
 -- the opcode
 abbrev pub opcode_of : Request → ℕ
@@ -52,6 +54,7 @@ opcode_of (request.Button proxy m) = button.opcode_of m
 opcode_of (request.Keyboard proxy m) = keyboard.opcode_of m
 opcode_of (request.Touchscreen proxy m) = touchscreen.opcode_of m
 opcode_of (request.Text proxy m) = text.opcode_of m
+opcode_of (request.Gesture proxy m) = gesture.opcode_of m
 
 -- the arguments
 abbrev pub values_of : Request → List Value
@@ -67,6 +70,7 @@ values_of (request.Button proxy m) = button.values_of m
 values_of (request.Keyboard proxy m) = keyboard.values_of m
 values_of (request.Touchscreen proxy m) = touchscreen.values_of m
 values_of (request.Text proxy m) = text.values_of m
+values_of (request.Gesture proxy m) = gesture.values_of m
 
 -- the object that the request announces
 abbrev pub announced_of : Request → Option ObjectView

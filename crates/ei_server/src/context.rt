@@ -94,7 +94,7 @@ impl Context {
     }
 
     /// Puts all that waits to be sent into the sink, all handles with the first bytes. After a refusal the
-    /// rest waits.
+    /// rest waits, at least one byte: where all went out the answer is no fault.
     ///
     /// `WriteFault` where the sink failed, `NoMemory` where it wants memory. Where nothing waits the sink
     /// isn't asked.

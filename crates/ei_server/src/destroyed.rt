@@ -50,6 +50,10 @@ impl Destroyed for kinds::Text {
     ghost row = { refl };
 }
 
+impl Destroyed for kinds::Gesture {
+    ghost row = { refl };
+}
+
 impl<K: Destroyed> Proxy<K> {
     /// Tells the client that the object is gone, as the event of this serial, and takes it out of the table.
     /// The devices of a seat and the interfaces of a device stay.

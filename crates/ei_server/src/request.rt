@@ -9,6 +9,7 @@ ghost use Rattle.ei_backend.specs.Proxies.{Announced, ReadsRow};
 use crate::button::{self, Button};
 use crate::connection::{self, Connection};
 use crate::device::{self, Device};
+use crate::gesture::{self, Gesture};
 use crate::handshake::{self, Handshake};
 use crate::keyboard::{self, Keyboard};
 use crate::message::Message;
@@ -39,6 +40,7 @@ pub enum Request {
     Keyboard(Keyboard, keyboard::Request),
     Touchscreen(Touchscreen, touchscreen::Request),
     Text(Text, text::Request),
+    Gesture(Gesture, gesture::Request),
 }
 
 /// Hands the interfaces that bear input, each with its file, to the macro that a call names, behind any others.
@@ -52,6 +54,7 @@ macro_rules! inputs {
             Button button,
             Keyboard keyboard,
             Touchscreen touchscreen,
+            Gesture gesture,
         }
     };
 }

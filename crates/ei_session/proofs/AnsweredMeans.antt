@@ -9,7 +9,8 @@ use Rattle.ei_spec.specs.Value.{Value}
 use Rattle.ei_spec.specs.Message.{Raw}
 use Rattle.ei_session.specs.Setup.{Setup, connection_id, seat_id}
 use Rattle.ei_session.specs.Handshake.{connected}
-use Rattle.ei_session.specs.Meaning.{Meaning, Syncs, ReleasesSeat, Binds, RequestsDevice, Closes, Releases, Asks, Greeting, Sync, Bind, RequestDevice, meaning}
+use Rattle.ei_session.specs.Meaning.{Meaning, Syncs, ReleasesSeat, Binds, RequestsDevice, Closes, Releases, Asks, Greeting, Sync, Bind, RequestDevice, Release, meaning}
+use Rattle.ei_session.specs.Inputs.{is_of_device}
 use Rattle.ei_session.specs.Devices.{seat_is_open, asked_mask, not_empty, made, exhausts}
 use Rattle.ei_session.specs.Objects.{Entry, introduced, is_release, object, interfaces_left, going, gone}
 use Rattle.ei_session.specs.Serial.{steps_of, steps}
@@ -30,8 +31,13 @@ use Rattle.ei_session.proofs.Placed.{object_placed}
 
 -- ---- what goes
 
+going_of_interface : (past : List Raw) (id : ℕ) (k : KnownInterface) → is_of_device k ≡ true → going past id k ≡ id ∷ []
+going_of_interface past id known.Device d = absurd cc
+going_of_interface past id k d = refl
+
 gone_row : (past : List Raw) (id : ℕ) (k : KnownInterface) (n : ℕ) (values : List Value) (x : Meaning) → Asks k n values x → cond (releases (Some x)) (going past id k) [] ≡ gone_for past id (Some x)
 gone_row past id k n values w (Greeting version) = refl
+gone_row past id k n values w (Release j d) = going_of_interface past id j d
 gone_row past id k n values w x = refl
 
 gone_by : (past : List Raw) (id : ℕ) (k : KnownInterface) (m : Raw) (o : Option Meaning) → meaning k m ≡ o → cond (releases o) (going past id k) [] ≡ gone_for past id o

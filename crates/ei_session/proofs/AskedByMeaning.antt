@@ -1,5 +1,5 @@
 -- The arguments of a request by its name, where it is told what it asks.
-use Rattle.std.proofs.Common.{◌≡◌, ℕ, false, List, [], ◌∷◌, Some, None, refl, sym, ap, ◌∙◌, subst}
+use Rattle.std.proofs.Common.{◌≡◌, ℕ, true, false, List, [], ◌∷◌, Some, None, refl, sym, ap, ◌∙◌, subst}
 use Rattle.std.specs.Prelude.{codes}
 use Rattle.ei_spec.specs.declared.interface.KnownInterface.{KnownInterface}
 use Rattle.ei_spec.specs.declared.interface.KnownInterface.TheVariants as known
@@ -9,17 +9,18 @@ use Rattle.ei_spec.specs.Table.{table}
 use Rattle.ei_spec.specs.Message.{Raw}
 use Rattle.ei_session.specs.Arguments.{request_args}
 use Rattle.ei_session.specs.Asked.{asked}
-use Rattle.ei_session.specs.Inputs.{Input}
+use Rattle.ei_session.specs.Inputs.{is_of_device}
 use Rattle.ei_session.specs.Meaning.{Shake, Meaning, Greets, Finishes, TellsContext, TellsName, TellsInterface, Shakes, Syncs, Disconnects, Pongs, ReleasesSeat}
 use Rattle.ei_session.specs.Meaning.{Binds, RequestsDevice, Closes, Starts, Stops, Frames, Readies, Releases, Inputs, Asks, Greeting, Finish, ContextType, Name}
 use Rattle.ei_session.specs.Meaning.{InterfaceVersion, Sync, Disconnect, Pong, SeatRelease, Bind, RequestDevice, DeviceRelease, Start, Stop, Frame, Ready}
-use Rattle.ei_session.specs.Meaning.{PointerRelease, MotionRelative, meaning}
+use Rattle.ei_session.specs.Meaning.{Release, Input, meaning}
 use Rattle.ei_session.specs.Objects.{is_device}
 use Rattle.ei_session.specs.ByMeaning.{of_interface}
 use Rattle.ei_session.specs.Kept.{is_bare}
 use Rattle.ei_session.proofs.Choices.{none_some, some_is}
 use Rattle.ei_session.proofs.AskedRows.{asked_row}
 use Rattle.ei_session.proofs.ReadsMean.{means_row}
+use Rattle.ei_session.proofs.DeviceInterfaces.{of_device_is, input_of_device}
 
 -- the interface, the opcode and the arguments of a row
 record IsRow (k : KnownInterface) (n : ℕ) (values : List Value) (interface : KnownInterface) (opcode : ℕ) (args : List Value) : Type 0 where
@@ -102,19 +103,11 @@ interface_row k n values Readies i a h = (ready_row k n values a).kind ∙ some_
 interface_row k n values Releases i a h = absurd (none_some i h)
 interface_row k n values (Inputs input) i a h = absurd (none_some i h)
 
--- else it is one of the seven of a device
-released_kind : (k : KnownInterface) (n : ℕ) (values : List Value) → Asks k n values Releases → (is_device k ≡ false) × (is_bare k ≡ false)
-released_kind k n values PointerRelease = (refl, refl)
-released_kind k n values a = (refl, refl)
-
-input_kind : (k : KnownInterface) (n : ℕ) (values : List Value) (i : Input) → Asks k n values (Inputs i) → (is_device k ≡ false) × (is_bare k ≡ false)
-input_kind k n values i (MotionRelative x y) = (refl, refl)
-input_kind k n values i a = (refl, refl)
-
-seven_row : (k : KnownInterface) (n : ℕ) (values : List Value) (x : Meaning) → Asks k n values x → of_interface x ≡ None → (is_device k ≡ false) × (is_bare k ≡ false)
-seven_row k n values Releases a h = released_kind k n values a
-seven_row k n values (Inputs i) a h = input_kind k n values i a
-seven_row k n values x a h = absurd (none_some _ (sym h))
+-- else it is one that a device can have
+of_device_row : (k : KnownInterface) (n : ℕ) (values : List Value) (x : Meaning) → Asks k n values x → of_interface x ≡ None → is_of_device k ≡ true
+of_device_row k n values x (Release j d) h = d
+of_device_row k n values x (Input j i vs y e) h = input_of_device j i vs y e
+of_device_row k n values x a h = absurd (none_some _ (sym h))
 
 module _ (k : KnownInterface) (m : Raw) where
   by_row : (interface : KnownInterface) (opcode : ℕ) (args values : List Value) (name : List ℕ) (r : Row) → IsRow k m.opcode values interface opcode args → request_args k m ≡ Some values →
@@ -172,5 +165,5 @@ module _ (k : KnownInterface) (m : Raw) where
   pub its_interface : (x : Meaning) (i : KnownInterface) → meaning k m ≡ Some x → of_interface x ≡ Some i → k ≡ i
   its_interface x i h o = let w = means_row k m x h in interface_row k m.opcode w.0 x i w.1.1 o
 
-  pub one_of_seven : (x : Meaning) → meaning k m ≡ Some x → of_interface x ≡ None → (is_device k ≡ false) × (is_bare k ≡ false)
-  one_of_seven x h o = let w = means_row k m x h in seven_row k m.opcode w.0 x w.1.1 o
+  pub its_kind : (x : Meaning) → meaning k m ≡ Some x → of_interface x ≡ None → (is_device k ≡ false) × (is_bare k ≡ false)
+  its_kind x h o = let w = means_row k m x h in of_device_is k (of_device_row k m.opcode w.0 x w.1.1 o)

@@ -1,5 +1,5 @@
 -- What the definitions say of a request, by what it asks.
-use Rattle.std.proofs.Common.{◌≡◌, ℕ, List, Option, Some, None, refl, sym, ap, ◌∙◌}
+use Rattle.std.proofs.Common.{◌≡◌, ℕ, List, [], Option, Some, None, refl, sym, ap, ◌∙◌}
 use Rattle.std.specs.Prelude.{codes, is_some}
 use Rattle.ei_spec.specs.declared.interface.KnownInterface.{KnownInterface}
 use Rattle.ei_spec.specs.declared.interface.KnownInterface.TheVariants as known
@@ -9,13 +9,12 @@ use Rattle.ei_session.specs.Arguments.{row_args, request_args}
 use Rattle.ei_session.specs.Asked.{asked, asks}
 use Rattle.ei_session.specs.Inputs.{input_to}
 use Rattle.ei_session.specs.Meaning.{Meaning, Asks, Greeting, Finish, ContextType, Name, InterfaceVersion, Sync, Disconnect, Pong, SeatRelease, Bind}
-use Rattle.ei_session.specs.Meaning.{RequestDevice, DeviceRelease, PointerRelease, MotionRelative, PointerAbsoluteRelease, MotionAbsolute, ScrollRelease}
-use Rattle.ei_session.specs.Meaning.{Scroll, Discrete, ScrollStop, ButtonRelease, Button, KeyboardRelease, Key, TouchscreenRelease, Down, Motion, Up, Cancel}
-use Rattle.ei_session.specs.Meaning.{TextRelease, Keysym, Utf8, meaning}
+use Rattle.ei_session.specs.Meaning.{RequestDevice, DeviceRelease, Release, Input, meaning}
 use Rattle.ei_session.specs.Devices.{asked_mask}
 use Rattle.ei_session.specs.Refusals.{callback_of}
 use Rattle.ei_session.specs.ByMeaning.{releases, input_in, mask_in, callback_in, disconnects, finishes, tells_context, tells_name}
-use Rattle.ei_session.proofs.ItemLaws.{no_input}
+use Rattle.ei_session.proofs.DeviceInterfaces.{asked_release, no_release, later_input, no_input, input_at, input_unread}
+use Rattle.ei_session.proofs.Choices.{none_some}
 use Rattle.ei_session.proofs.AskedRows.{unread_asked}
 use Rattle.ei_session.proofs.RowsMean.{at_row, asks_means}
 use Rattle.ei_session.proofs.ReadsMean.{unread_means, reads_mean}
@@ -32,13 +31,8 @@ release_row : (m : Raw) (k : KnownInterface) (n : ℕ) (values : List Value) (x 
 unfolding asks asked row_args
 release_row m k n values w SeatRelease o a = rw (o, at_row known.Seat m 0 _ o a) refl
 release_row m k n values w DeviceRelease o a = rw (o, at_row known.Device m 0 _ o a) refl
-release_row m k n values w PointerRelease o a = rw (o, at_row known.Pointer m 0 _ o a) refl
-release_row m k n values w PointerAbsoluteRelease o a = rw (o, at_row known.PointerAbsolute m 0 _ o a) refl
-release_row m k n values w ScrollRelease o a = rw (o, at_row known.Scroll m 0 _ o a) refl
-release_row m k n values w ButtonRelease o a = rw (o, at_row known.Button m 0 _ o a) refl
-release_row m k n values w KeyboardRelease o a = rw (o, at_row known.Keyboard m 0 _ o a) refl
-release_row m k n values w TouchscreenRelease o a = rw (o, at_row known.Touchscreen m 0 _ o a) refl
-release_row m k n values w TextRelease o a = rw (o, at_row known.Text m 0 _ o a) refl
+release_row m k n values w (Release j d) o a = rw (asked_release j m [] d o a) refl
+release_row m k n values w (Input j i vs x h) o a = rw (no_release j m i o (later_input j i vs x h)) refl
 release_row m k n values w (Greeting version) o a = refl
 release_row m k n values w Finish o a = refl
 release_row m k n values w (ContextType context) o a = refl
@@ -57,37 +51,9 @@ release_asked k m = by_asked k m releases (asks k (codes "release") m) (request_
 
 input_row : (m : Raw) (k : KnownInterface) (n : ℕ) (values : List Value) (x : Meaning) → Asks k n values x → m.opcode ≡ n → request_args k m ≡ Some values → input_to k m ≡ input_in (Some x)
 unfolding asked row_args
-input_row m k n values w PointerRelease o a = no_input m o known.Pointer
-input_row m k n values w (MotionRelative x y) o a = rw (o, at_row known.Pointer m 1 _ o a) refl
-input_row m k n values w PointerAbsoluteRelease o a = no_input m o known.PointerAbsolute
-input_row m k n values w (MotionAbsolute x y) o a = rw (o, at_row known.PointerAbsolute m 1 _ o a) refl
-input_row m k n values w ScrollRelease o a = no_input m o known.Scroll
-input_row m k n values w (Scroll x y) o a = rw (o, at_row known.Scroll m 1 _ o a) refl
-input_row m k n values w (Discrete x y) o a = rw (o, at_row known.Scroll m 2 _ o a) refl
-input_row m k n values w (ScrollStop x y is_cancel) o a = rw (o, at_row known.Scroll m 3 _ o a) refl
-input_row m k n values w ButtonRelease o a = no_input m o known.Button
-input_row m k n values w (Button code state) o a = rw (o, at_row known.Button m 1 _ o a) refl
-input_row m k n values w KeyboardRelease o a = no_input m o known.Keyboard
-input_row m k n values w (Key key state) o a = rw (o, at_row known.Keyboard m 1 _ o a) refl
-input_row m k n values w TouchscreenRelease o a = no_input m o known.Touchscreen
-input_row m k n values w (Down touch x y) o a = rw (o, at_row known.Touchscreen m 1 _ o a) refl
-input_row m k n values w (Motion touch x y) o a = rw (o, at_row known.Touchscreen m 2 _ o a) refl
-input_row m k n values w (Up touch) o a = rw (o, at_row known.Touchscreen m 3 _ o a) refl
-input_row m k n values w (Cancel touch) o a = rw (o, at_row known.Touchscreen m 4 _ o a) refl
-input_row m k n values w TextRelease o a = no_input m o known.Text
-input_row m k n values w (Keysym keysym state) o a = rw (o, at_row known.Text m 1 _ o a) refl
-input_row m k n values w (Utf8 letters) o a = rw (o, at_row known.Text m 2 _ o a) refl
+input_row m k n values w (Release j d) o a = no_input m o j
+input_row m k n values w (Input j i vs x h) o a = input_at j m i vs o a ∙ h
 input_row m k n values w x o a = refl
-
-input_unread : (k : KnownInterface) (m : Raw) → request_args k m ≡ None → input_to k m ≡ None
-input_unread known.Pointer m u = rw (unread_asked known.Pointer (codes "motion_relative") m u) refl
-input_unread known.PointerAbsolute m u = rw (unread_asked known.PointerAbsolute (codes "motion_absolute") m u) refl
-input_unread known.Scroll m u = rw (unread_asked known.Scroll (codes "scroll") m u, unread_asked known.Scroll (codes "scroll_discrete") m u, unread_asked known.Scroll (codes "scroll_stop") m u) refl
-input_unread known.Button m u = rw (unread_asked known.Button (codes "button") m u) refl
-input_unread known.Keyboard m u = rw (unread_asked known.Keyboard (codes "key") m u) refl
-input_unread known.Touchscreen m u = rw (unread_asked known.Touchscreen (codes "down") m u, unread_asked known.Touchscreen (codes "motion") m u, unread_asked known.Touchscreen (codes "up") m u, unread_asked known.Touchscreen (codes "cancel") m u) refl
-input_unread known.Text m u = rw (unread_asked known.Text (codes "keysym") m u, unread_asked known.Text (codes "utf8") m u) refl
-input_unread k m u = refl
 
 pub input_asked : (k : KnownInterface) (m : Raw) → input_to k m ≡ input_in (meaning k m)
 input_asked k m = by_asked k m input_in (input_to k m) (request_args k m) refl (λ u. input_unread k m u) (λ values x a h. input_row m k m.opcode values x a refl h)
@@ -99,6 +65,8 @@ unfolding asked_mask asked row_args
 mask_row m n values w SeatRelease o a = rw o refl
 mask_row m n values w (Bind mask) o a = rw (o, at_row known.Seat m 1 _ o a) refl
 mask_row m n values w (RequestDevice mask) o a = rw (o, at_row known.Seat m 2 _ o a) refl
+mask_row m n values w (Release k d) o a = absurd cc
+mask_row m n values w (Input k j vs x h) o a = absurd (none_some x h)
 
 pub mask_asked : (m : Raw) → asked_mask m ≡ mask_in (meaning known.Seat m)
 unfolding asked_mask
@@ -108,6 +76,8 @@ callback_row : (m : Raw) (n : ℕ) (values : List Value) (x : Meaning) → Asks 
 unfolding asked row_args
 callback_row m n values w (Sync callback version) o a = rw (o, at_row known.Connection m 0 _ o a) refl
 callback_row m n values w Disconnect o a = rw o refl
+callback_row m n values w (Release k d) o a = absurd cc
+callback_row m n values w (Input k j vs x h) o a = absurd (none_some x h)
 
 pub callback_asked : (m : Raw) → callback_of (asked known.Connection (codes "sync") m) ≡ callback_in (meaning known.Connection m)
 callback_asked m = by_asked known.Connection m callback_in (callback_of (asked known.Connection (codes "sync") m)) (request_args known.Connection m) refl (λ u. rw (unread_asked known.Connection (codes "sync") m u) refl) (λ values x a h. callback_row m m.opcode values x a refl h)
@@ -118,6 +88,8 @@ disconnect_row : (m : Raw) (n : ℕ) (values : List Value) (x : Meaning) → Ask
 unfolding asks asked row_args
 disconnect_row m n values w (Sync callback version) o a = rw o refl
 disconnect_row m n values w Disconnect o a = rw (o, at_row known.Connection m 1 _ o a) refl
+disconnect_row m n values w (Release k d) o a = absurd cc
+disconnect_row m n values w (Input k j vs x h) o a = absurd (none_some x h)
 
 pub disconnect_asked : (m : Raw) → asks known.Connection (codes "disconnect") m ≡ disconnects (meaning known.Connection m)
 unfolding asks
@@ -133,6 +105,8 @@ module _ (m : Raw) where
   finish_row n values w (ContextType context) o a = rw o refl
   finish_row n values w (Name name) o a = rw o refl
   finish_row n values w (InterfaceVersion name version) o a = rw o refl
+  finish_row n values w (Release k d) o a = absurd cc
+  finish_row n values w (Input k j vs x h) o a = absurd (none_some x h)
 
   pub finish_asked : asks known.Handshake (codes "finish") m ≡ finishes (meaning known.Handshake m)
   unfolding asks
@@ -145,6 +119,8 @@ module _ (m : Raw) where
   context_row n values w (ContextType context) o a = rw (o, at_row known.Handshake m 2 _ o a) refl
   context_row n values w (Name name) o a = rw o refl
   context_row n values w (InterfaceVersion name version) o a = rw o refl
+  context_row n values w (Release k d) o a = absurd cc
+  context_row n values w (Input k j vs x h) o a = absurd (none_some x h)
 
   pub context_asked : asks known.Handshake (codes "context_type") m ≡ tells_context (meaning known.Handshake m)
   unfolding asks
@@ -157,6 +133,8 @@ module _ (m : Raw) where
   name_row n values w (ContextType context) o a = rw o refl
   name_row n values w (Name name) o a = rw (o, at_row known.Handshake m 3 _ o a) refl
   name_row n values w (InterfaceVersion name version) o a = rw o refl
+  name_row n values w (Release k d) o a = absurd cc
+  name_row n values w (Input k j vs x h) o a = absurd (none_some x h)
 
   pub name_asked : asks known.Handshake (codes "name") m ≡ tells_name (meaning known.Handshake m)
   unfolding asks

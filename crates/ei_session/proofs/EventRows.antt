@@ -1,11 +1,9 @@
 -- Each event of a server reads as its row.
 use Rattle.std.proofs.Common.{◌≡◌, ℕ, ◌<◌, ◌≤◌, ◌^◌, Bool, true, false, [], ◌∷◌, length, Some, refl, arith}
 use Rattle.std.specs.Prelude.{codes}
-use Rattle.std.specs.Str.{is_utf8, chars}
-use lib.Utf8.{encode}
 use Rattle.ei_spec.specs.declared.interface.KnownInterface.{KnownInterface}
 use Rattle.ei_spec.specs.declared.interface.KnownInterface.TheVariants as known
-use Rattle.ei_spec.specs.Interface.{name_of, known_of}
+use Rattle.ei_spec.specs.Interface.{name_of}
 use Rattle.ei_spec.specs.Value.{Word, Long, Letters, U32, U64, Text, New}
 use Rattle.ei_spec.specs.Rows.{Row, row, announcing, handing_over, Nothing, Fixed, Named}
 use Rattle.ei_spec.specs.Table.{handshake_version, interface_version, destroyed, device_type}
@@ -15,55 +13,11 @@ use Rattle.ei_session.specs.Events.{destroyed_event}
 use Rattle.ei_session.specs.Setup.{connection_id, seat_id}
 use Rattle.ei_spec.specs.Arguments.{AreOf}
 use Rattle.ei_session.specs.Told.{row_of, ReadsAs}
+use Rattle.ei_spec.proofs.NameLaws.{name_text, name_short}
 use Rattle.ei_session.proofs.ReadBack.{reads_back}
 
-pub name_utf8 : (i : KnownInterface) → is_utf8 (name_of i) ≡ true
-unfolding is_utf8 chars encode
-name_utf8 known.Handshake = refl
-name_utf8 known.Connection = refl
-name_utf8 known.Callback = refl
-name_utf8 known.Pingpong = refl
-name_utf8 known.Seat = refl
-name_utf8 known.Device = refl
-name_utf8 known.Pointer = refl
-name_utf8 known.PointerAbsolute = refl
-name_utf8 known.Scroll = refl
-name_utf8 known.Button = refl
-name_utf8 known.Keyboard = refl
-name_utf8 known.Touchscreen = refl
-name_utf8 known.Text = refl
-
-name_short : (i : KnownInterface) → length (name_of i) ≤ 4294967294
-name_short known.Handshake = omega arith
-name_short known.Connection = omega arith
-name_short known.Callback = omega arith
-name_short known.Pingpong = omega arith
-name_short known.Seat = omega arith
-name_short known.Device = omega arith
-name_short known.Pointer = omega arith
-name_short known.PointerAbsolute = omega arith
-name_short known.Scroll = omega arith
-name_short known.Button = omega arith
-name_short known.Keyboard = omega arith
-name_short known.Touchscreen = omega arith
-name_short known.Text = omega arith
-
--- a name stands for its interface
-pub known_again : (i : KnownInterface) → known_of (name_of i) ≡ Some i
-unfolding known_of
-known_again known.Handshake = refl
-known_again known.Connection = refl
-known_again known.Callback = refl
-known_again known.Pingpong = refl
-known_again known.Seat = refl
-known_again known.Device = refl
-known_again known.Pointer = refl
-known_again known.PointerAbsolute = refl
-known_again known.Scroll = refl
-known_again known.Button = refl
-known_again known.Keyboard = refl
-known_again known.Touchscreen = refl
-known_again known.Text = refl
+pub short_name : (i : KnownInterface) → length (name_of i) ≤ 4294967294
+short_name i = omega (arith, name_short i)
 
 pub reads_greeting : ReadsAs known.Handshake greeting handshake_version (Word 1 ∷ [])
 reads_greeting = record { is_row = refl; reads = reads_back handshake_version 0 0 (Word 1 ∷ []) (omega arith, tt) (tt, tt); kinds = (omega arith, tt) }
@@ -71,8 +25,8 @@ reads_greeting = record { is_row = refl; reads = reads_back handshake_version 0 
 pub reads_settled : (i : KnownInterface) (v : ℕ) → v < 2 ^ 32 → ReadsAs known.Handshake (settled_event 0 i v) interface_version (Letters (name_of i) ∷ Word v ∷ [])
 reads_settled i v lt = record {
   is_row = refl;
-  reads = reads_back interface_version 0 1 (Letters (name_of i) ∷ Word v ∷ []) (name_utf8 i, (lt, tt)) (name_short i, (tt, tt));
-  kinds = (name_utf8 i, (lt, tt));
+  reads = reads_back interface_version 0 1 (Letters (name_of i) ∷ Word v ∷ []) (name_text i, (lt, tt)) (short_name i, (tt, tt));
+  kinds = (name_text i, (lt, tt));
 }
 
 abbrev pub connection_row : Row
@@ -96,8 +50,8 @@ capability_row = row (codes "capability") (U64 ∷ Text ∷ [])
 
 pub reads_capability : (c : ℕ × KnownInterface) → c.0 < 2 ^ 64 → ReadsAs known.Seat (capability_event seat_id c) capability_row (Long c.0 ∷ Letters (name_of c.1) ∷ [])
 reads_capability c lt =
-    let kinds : AreOf capability_row.kinds (Long c.0 ∷ Letters (name_of c.1) ∷ []) = (lt, (name_utf8 c.1, tt)) in
-    record { is_row = refl; reads = reads_back capability_row seat_id 2 (Long c.0 ∷ Letters (name_of c.1) ∷ []) kinds (tt, (name_short c.1, tt)); kinds = kinds }
+    let kinds : AreOf capability_row.kinds (Long c.0 ∷ Letters (name_of c.1) ∷ []) = (lt, (name_text c.1, tt)) in
+    record { is_row = refl; reads = reads_back capability_row seat_id 2 (Long c.0 ∷ Letters (name_of c.1) ∷ []) kinds (tt, (short_name c.1, tt)); kinds = kinds }
 
 abbrev pub done_row : Row
 done_row = row (codes "done") []
@@ -142,8 +96,8 @@ interface_row = announcing (codes "interface") (New ∷ Text ∷ U32 ∷ []) Nam
 
 pub reads_interface : (d id : ℕ) (i : KnownInterface) (v : ℕ) → id < 2 ^ 64 → v < 2 ^ 32 → ReadsAs known.Device (interface_event d id i v) interface_row (Long id ∷ Letters (name_of i) ∷ Word v ∷ [])
 reads_interface d id i v lt vt =
-    let kinds : AreOf interface_row.kinds (Long id ∷ Letters (name_of i) ∷ Word v ∷ []) = (lt, (name_utf8 i, (vt, tt))) in
-    record { is_row = refl; reads = reads_back interface_row d 5 (Long id ∷ Letters (name_of i) ∷ Word v ∷ []) kinds (tt, (name_short i, (tt, tt))); kinds = kinds }
+    let kinds : AreOf interface_row.kinds (Long id ∷ Letters (name_of i) ∷ Word v ∷ []) = (lt, (name_text i, (vt, tt))) in
+    record { is_row = refl; reads = reads_back interface_row d 5 (Long id ∷ Letters (name_of i) ∷ Word v ∷ []) kinds (tt, (short_name i, (tt, tt))); kinds = kinds }
 
 abbrev pub described_row : Row
 described_row = row (codes "done") []
@@ -173,12 +127,4 @@ reads_destroyed k id serial m lt = record { is_row = by k m; reads = reads_back 
     by known.Connection m = absurd cc
     by known.Callback m = absurd cc
     by known.Pingpong m = absurd cc
-    by known.Seat m = refl
-    by known.Device m = refl
-    by known.Pointer m = refl
-    by known.PointerAbsolute m = refl
-    by known.Scroll m = refl
-    by known.Button m = refl
-    by known.Keyboard m = refl
-    by known.Touchscreen m = refl
-    by known.Text m = refl
+    by k m = refl

@@ -7,7 +7,8 @@ use Rattle.ei_spec.specs.History.{each, last_said, since}
 use Rattle.ei_spec.specs.Groups.{Input as Waiting, Frame, Other, Free, group}
 use Rattle.ei_spec.proofs.GroupsLaws.{waits}
 use Rattle.ei_session.specs.Setup.{Setup}
-use Rattle.ei_session.specs.Inputs.{Input, DeviceInput}
+use Rattle.ei_input.specs.declared.input_event.InputEvent.{InputEvent}
+use Rattle.ei_session.specs.Inputs.{DeviceInput}
 use Rattle.ei_session.specs.Meaning.{Meaning, Inputs, meaning}
 use Rattle.ei_session.specs.Devices.{next_id}
 use Rattle.ei_session.specs.Objects.{Entry, object}
@@ -31,7 +32,7 @@ waits_on o = None
 owner_below : (past : List Raw) (id : ℕ) (e : Entry) (d : ℕ) → object past id ≡ Some e → e.device ≡ Some d → d < next_id past
 owner_below past id e d k p = let o = object_owner past id e d k p in object_below past d o.entry d o.is o.own
 
-heard : (d x : ℕ) (b : Bool) (i : Input) → waits_on (cond b (Some (Waiting x i)) None) ≡ Some d → Some x ≡ Some d
+heard : (d x : ℕ) (b : Bool) (i : InputEvent) → waits_on (cond b (Some (Waiting x i)) None) ≡ Some d → Some x ≡ Some d
 heard d x true i h = h
 heard d x false i h = absurd (none_some d h)
 
@@ -48,7 +49,7 @@ waits_at past m d (Some e) k h = owner_below past m.id e d k (waiting_device pas
 waits_below : (past : List Raw) (m : Raw) (d : ℕ) → waits_on (item past m) ≡ Some d → d < next_id past
 waits_below past m d h = waits_at past m d (object past m.id) refl h
 
-device_of : (device : Option ℕ) (o : Option Input) (i : DeviceInput) → of_device device o ≡ Some i → device ≡ Some i.device
+device_of : (device : Option ℕ) (o : Option InputEvent) (i : DeviceInput) → of_device device o ≡ Some i → device ≡ Some i.device
 device_of None o i h = absurd (none_some i h)
 device_of (Some d) None i h = absurd (none_some i h)
 device_of (Some d) (Some x) i h = cc
@@ -60,7 +61,7 @@ input_at past m i (Some e) k h = owner_below past m.id e i.device k (device_of e
 
 -- ---- one message after another
 
-nothing : (b : Bool) → cond {A = List Input} b [] [] ≡ []
+nothing : (b : Bool) → cond {A = List InputEvent} b [] [] ≡ []
 nothing true = refl
 nothing false = refl
 

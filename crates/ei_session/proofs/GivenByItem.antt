@@ -7,7 +7,8 @@ use Rattle.ei_spec.specs.Groups.{Input as Waiting, Frame, Other, Free, Plain as 
 use Rattle.ei_spec.proofs.HistoryLaws.{each_more}
 use Rattle.ei_spec.proofs.GroupsLaws.{frames_made_more, made_by}
 use Rattle.ei_session.specs.Setup.{Setup}
-use Rattle.ei_session.specs.Inputs.{Input, DeviceInput}
+use Rattle.ei_input.specs.declared.input_event.InputEvent.{InputEvent}
+use Rattle.ei_session.specs.Inputs.{DeviceInput}
 use Rattle.ei_session.specs.Serial.{serial}
 use Rattle.ei_session.specs.Touches.{said_by, said_of, input, touches, is_down}
 use Rattle.ei_session.specs.Requests.{Plain, Asking, item, slot}
@@ -21,14 +22,14 @@ module _ (setup : Setup) (past : List Raw) (m : Raw) where
       ap frames_made (each_more (slot setup) past m) ∙ frames_made_more (each (slot setup) past) (slot setup past m)
       ∙ ap (λ x. frames_made (each (slot setup) past) + made_by (λ d. group d (each (slot setup) past)) x) e
 
-  one_for : (g : List Input) (n : ℕ) → n + elim g [ [] ↦ 0 | _ ∷ _ ↦ 1 ] ≡ n + frames_for g
+  one_for : (g : List InputEvent) (n : ℕ) → n + elim g [ [] ↦ 0 | _ ∷ _ ↦ 1 ] ≡ n + frames_for g
   one_for [] n = refl
   one_for (x ∷ g) n = refl
 
   pub frames_other : (d : ℕ) (y : Plain) → item past m ≡ Some (Other d y) → frames_made (each (slot setup) (m ∷ past)) ≡ frames_made (each (slot setup) past) + frames_for (group d (each (slot setup) past))
   frames_other d y e = frames_by (Some (Other d y)) e ∙ one_for (group d (each (slot setup) past)) (frames_made (each (slot setup) past))
 
-  pub frames_input : (d : ℕ) (i : Input) → item past m ≡ Some (Waiting d i) → frames_made (each (slot setup) (m ∷ past)) ≡ frames_made (each (slot setup) past)
+  pub frames_input : (d : ℕ) (i : InputEvent) → item past m ≡ Some (Waiting d i) → frames_made (each (slot setup) (m ∷ past)) ≡ frames_made (each (slot setup) past)
   frames_input d i e = frames_by (Some (Waiting d i)) e ∙ omega arith
 
   pub frames_frame : (d s t : ℕ) → item past m ≡ Some (Frame d s t) → frames_made (each (slot setup) (m ∷ past)) ≡ frames_made (each (slot setup) past)
@@ -41,7 +42,7 @@ module _ (setup : Setup) (past : List Raw) (m : Raw) where
   frames_none e = frames_by None e ∙ omega arith
 
 module _ (setup : Setup) (readings : List ℕ) (past : List Raw) (m : Raw) where
-  pub gives_input : (d : ℕ) (i : Input) → item past m ≡ Some (Waiting d i) → gives readings (each (slot setup) past) (slot setup past m) ≡ []
+  pub gives_input : (d : ℕ) (i : InputEvent) → item past m ≡ Some (Waiting d i) → gives readings (each (slot setup) past) (slot setup past m) ≡ []
   unfolding gives slot
   gives_input d i e = rw e refl
 

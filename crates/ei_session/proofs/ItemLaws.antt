@@ -17,6 +17,7 @@ use Rattle.ei_session.specs.Requests.{Bind, RequestDevice, Ready, DeviceClosed, 
 use Rattle.ei_session.specs.Requests.{is_heard, input_item, item_to, item}
 use Rattle.ei_session.proofs.Choices.{none_some}
 use Rattle.ei_session.proofs.Opcodes.{release_opcode}
+use Rattle.ei_session.proofs.DeviceInterfaces.{no_input}
 
 -- the opcode and the arguments of a message of this row
 pub args_are : (n : ℕ) (r : Row) (m : Raw) (args : List Value) → args_by (Some (n, r)) m ≡ Some args → (m.opcode ≡ n) × (row_args (Some r) m ≡ Some args)
@@ -174,70 +175,6 @@ unfolding input
 item_input before m i h = input_at before m i (object before m.id) refl h ∙ ap (input_item before) h
 
 -- ---- the release of an interface
-
-module _ (m : Raw) (o : m.opcode ≡ 0) where
-  no_motion : asked known.Pointer (codes "motion_relative") m ≡ None
-  unfolding asked
-  no_motion = no_args 1 0 _ m o refl
-
-  no_absolute : asked known.PointerAbsolute (codes "motion_absolute") m ≡ None
-  unfolding asked
-  no_absolute = no_args 1 0 _ m o refl
-
-  no_scroll : asked known.Scroll (codes "scroll") m ≡ None
-  unfolding asked
-  no_scroll = no_args 1 0 _ m o refl
-
-  no_discrete : asked known.Scroll (codes "scroll_discrete") m ≡ None
-  unfolding asked
-  no_discrete = no_args 2 0 _ m o refl
-
-  no_scroll_stop : asked known.Scroll (codes "scroll_stop") m ≡ None
-  unfolding asked
-  no_scroll_stop = no_args 3 0 _ m o refl
-
-  no_button : asked known.Button (codes "button") m ≡ None
-  unfolding asked
-  no_button = no_args 1 0 _ m o refl
-
-  no_key : asked known.Keyboard (codes "key") m ≡ None
-  unfolding asked
-  no_key = no_args 1 0 _ m o refl
-
-  no_down : asked known.Touchscreen (codes "down") m ≡ None
-  unfolding asked
-  no_down = no_args 1 0 _ m o refl
-
-  no_touch_motion : asked known.Touchscreen (codes "motion") m ≡ None
-  unfolding asked
-  no_touch_motion = no_args 2 0 _ m o refl
-
-  no_up : asked known.Touchscreen (codes "up") m ≡ None
-  unfolding asked
-  no_up = no_args 3 0 _ m o refl
-
-  no_cancel : asked known.Touchscreen (codes "cancel") m ≡ None
-  unfolding asked
-  no_cancel = no_args 4 0 _ m o refl
-
-  no_keysym : asked known.Text (codes "keysym") m ≡ None
-  unfolding asked
-  no_keysym = no_args 1 0 _ m o refl
-
-  no_utf8 : asked known.Text (codes "utf8") m ≡ None
-  unfolding asked
-  no_utf8 = no_args 2 0 _ m o refl
-
-  -- no message of opcode 0 is an input
-  pub no_input : (k : KnownInterface) → input_to k m ≡ None
-  no_input known.Pointer = rw no_motion refl
-  no_input known.PointerAbsolute = rw no_absolute refl
-  no_input known.Scroll = rw (no_scroll, no_discrete, no_scroll_stop) refl
-  no_input known.Button = rw no_button refl
-  no_input known.Keyboard = rw no_key refl
-  no_input known.Touchscreen = rw (no_down, no_touch_motion, no_up, no_cancel) refl
-  no_input known.Text = rw (no_keysym, no_utf8) refl
-  no_input k = refl
 
 released_case : (before : List Raw) (m : Raw) (k : KnownInterface) (d : ℕ) → is_device k ≡ false → asks k (codes "release") m ≡ true → input before m ≡ None → m.opcode ≡ 0 → item_to before m k (Some d) ≡ None
 released_case before m known.Handshake d n r i o = ap (input_item before) i

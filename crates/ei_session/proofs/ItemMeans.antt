@@ -1,5 +1,5 @@
 -- What a request gives, by what it asks.
-use Rattle.std.proofs.Common.{◌≡◌, ℕ, List, Option, Some, None, refl, ap, ◌∙◌}
+use Rattle.std.proofs.Common.{◌≡◌, ℕ, true, List, Option, Some, None, refl, ap, ◌∙◌}
 use Rattle.std.specs.Prelude.{codes}
 use Rattle.ei_spec.specs.declared.interface.KnownInterface.{KnownInterface}
 use Rattle.ei_spec.specs.declared.interface.KnownInterface.TheVariants as known
@@ -7,15 +7,16 @@ use Rattle.ei_spec.specs.Value.{Value}
 use Rattle.ei_spec.specs.Message.{Raw}
 use Rattle.ei_session.specs.Arguments.{row_args, request_args}
 use Rattle.ei_session.specs.Asked.{asked}
-use Rattle.ei_session.specs.Inputs.{Input}
+use Rattle.ei_input.specs.declared.input_event.InputEvent.{InputEvent}
+use Rattle.ei_session.specs.Inputs.{is_of_device}
 use Rattle.ei_session.specs.Meaning.{Meaning, Inputs, Asks, Greeting, Finish, ContextType, Name, InterfaceVersion, Sync, Disconnect, Pong, SeatRelease, Bind}
-use Rattle.ei_session.specs.Meaning.{RequestDevice, DeviceRelease, Start, Stop, Frame, Ready, PointerRelease, PointerAbsoluteRelease, ScrollRelease}
-use Rattle.ei_session.specs.Meaning.{ButtonRelease, KeyboardRelease, TouchscreenRelease, TextRelease, meaning}
+use Rattle.ei_session.specs.Meaning.{RequestDevice, DeviceRelease, Start, Stop, Frame, Ready, Release, Input, meaning}
 use Rattle.ei_session.specs.Objects.{Entry, object}
 use Rattle.ei_session.specs.Touches.{of_device, input}
 use Rattle.ei_session.specs.Requests.{input_item, item_to, item}
 use Rattle.ei_session.specs.ByMeaning.{input_in, item_for}
 use Rattle.ei_session.proofs.AskedRows.{unread_asked}
+use Rattle.ei_session.proofs.DeviceInterfaces.{input_of_device}
 use Rattle.ei_session.proofs.RowsMean.{at_row, asks_means}
 use Rattle.ei_session.proofs.ReadsMean.{unread_means}
 use Rattle.ei_session.proofs.AskedMeans.{by_asked, input_asked}
@@ -29,9 +30,16 @@ pub bare : (device : Option ℕ) → of_device device None ≡ None
 bare None = refl
 bare (Some d) = refl
 
-waits : (before : List Raw) (id : ℕ) (device : Option ℕ) (i : Input) → input_item before (of_device device (Some i)) ≡ item_for before id device (Some (Inputs i))
+waits : (before : List Raw) (id : ℕ) (device : Option ℕ) (i : InputEvent) → input_item before (of_device device (Some i)) ≡ item_for before id device (Some (Inputs i))
 waits before id None i = refl
 waits before id (Some d) i = refl
+
+-- a request to an interface of a device gives its input
+item_to_interface : (before : List Raw) (m : Raw) (k : KnownInterface) (device : Option ℕ) → is_of_device k ≡ true → item_to before m k device ≡ input_item before (input before m)
+item_to_interface before m known.Connection device d = absurd cc
+item_to_interface before m known.Seat device d = absurd cc
+item_to_interface before m known.Device device d = absurd cc
+item_to_interface before m k device d = refl
 
 item_row : (before : List Raw) (m : Raw) (device : Option ℕ) (k : KnownInterface) (n : ℕ) (values : List Value) (x : Meaning) → Asks k n values x → m.opcode ≡ n → request_args k m ≡ Some values →
     input before m ≡ of_device device (input_in (Some x)) → item_to before m k device ≡ item_for before m.id device (Some x)
@@ -57,14 +65,8 @@ item_row before m None k n values w (Frame last_serial time) o a i = rw i refl
 item_row before m (Some d) k n values w (Frame last_serial time) o a i = rw (o, at_row known.Device m 3 _ o a) refl
 item_row before m None k n values w Ready o a i = rw i refl
 item_row before m (Some d) k n values w Ready o a i = rw (o, at_row known.Device m 4 _ o a) refl
-item_row before m dv k n values w PointerRelease o a i = ap (input_item before) (i ∙ bare dv)
-item_row before m dv k n values w PointerAbsoluteRelease o a i = ap (input_item before) (i ∙ bare dv)
-item_row before m dv k n values w ScrollRelease o a i = ap (input_item before) (i ∙ bare dv)
-item_row before m dv k n values w ButtonRelease o a i = ap (input_item before) (i ∙ bare dv)
-item_row before m dv k n values w KeyboardRelease o a i = ap (input_item before) (i ∙ bare dv)
-item_row before m dv k n values w TouchscreenRelease o a i = ap (input_item before) (i ∙ bare dv)
-item_row before m dv k n values w TextRelease o a i = ap (input_item before) (i ∙ bare dv)
-item_row before m dv k n values w x o a i = ap (input_item before) i ∙ waits before m.id dv _
+item_row before m dv k n values w (Release j d) o a i = item_to_interface before m j dv d ∙ ap (input_item before) (i ∙ bare dv)
+item_row before m dv k n values w (Input j l vs x h) o a i = item_to_interface before m j dv (input_of_device j l vs x h) ∙ ap (input_item before) i ∙ waits before m.id dv x
 
 -- nothing that doesn't read gives an item
 unread_item : (before : List Raw) (m : Raw) (device : Option ℕ) (k : KnownInterface) → request_args k m ≡ None → input before m ≡ of_device device None → item_to before m k device ≡ None

@@ -23,6 +23,7 @@ pub mod WaitingLaws
 pub mod MadeLaws
 pub mod RefusalLaws
 pub mod AskedRows
+pub mod DeviceInterfaces
 pub mod RowsMean
 pub mod ReadsMean
 pub mod AskedMeans

@@ -1,16 +1,17 @@
 -- The opcodes that requests of a name have.
-use Rattle.std.proofs.Common.{◌≡◌, ℕ, Bool, true, false, cond, eqb, List, [], ◌∷◌, Option, Some, None, refl, ap, ◌⊎◌, arith, inl, inr}
+use Rattle.std.proofs.Common.{◌≡◌, ℕ, Bool, true, false, cond, eqb, List, [], ◌∷◌, Option, Some, None, refl, ap, ◌∙◌, ◌⊎◌, arith, inl, inr}
 use Rattle.std.specs.Prelude.{is_some, codes}
 use Rattle.std.proofs.lemmas.Bool.{eqb-true}
 use Rattle.ei_spec.specs.declared.interface.KnownInterface.{KnownInterface}
-use Rattle.ei_spec.specs.declared.interface.KnownInterface.TheVariants as known
 use Rattle.ei_spec.specs.Value.{Value}
-use Rattle.ei_spec.specs.Rows.{Row}
+use Rattle.ei_spec.specs.Rows.{Row, row_named}
+use Rattle.ei_spec.specs.Table.{table}
 use Rattle.ei_spec.specs.Message.{Raw}
 use Rattle.ei_session.specs.Arguments.{row_args}
 use Rattle.ei_session.specs.Asked.{args_by, asked, asks, first, long}
 use Rattle.ei_session.specs.Devices.{asked_mask}
 use Rattle.ei_session.proofs.Choices.{none_some}
+use Rattle.ei_spec.proofs.EachInterface.{of_each}
 
 -- the opcode of a message that is of this row
 pub opcode_of : (n : ℕ) (r : Row) (m : Raw) → is_some (args_by (Some (n, r)) m) ≡ true → m.opcode ≡ n
@@ -23,22 +24,18 @@ opcode_of n r m h = by_test (eqb m.opcode n) refl h
 pub args_opcode : (n : ℕ) (r : Row) (m : Raw) (args : List Value) → args_by (Some (n, r)) m ≡ Some args → m.opcode ≡ n
 args_opcode n r m args h = opcode_of n r m (ap is_some h)
 
+abbrev is_first : Option (ℕ × Row) → Bool
+is_first None = true
+is_first (Some row) = eqb row.0 0
+
 -- a release has opcode 0
 pub release_opcode : (k : KnownInterface) (m : Raw) → asks k (codes "release") m ≡ true → m.opcode ≡ 0
 unfolding asks asked
-release_opcode known.Handshake m h = absurd cc
-release_opcode known.Connection m h = absurd cc
-release_opcode known.Callback m h = absurd cc
-release_opcode known.Pingpong m h = absurd cc
-release_opcode known.Seat m h = opcode_of 0 _ m h
-release_opcode known.Device m h = opcode_of 0 _ m h
-release_opcode known.Pointer m h = opcode_of 0 _ m h
-release_opcode known.PointerAbsolute m h = opcode_of 0 _ m h
-release_opcode known.Scroll m h = opcode_of 0 _ m h
-release_opcode known.Button m h = opcode_of 0 _ m h
-release_opcode known.Keyboard m h = opcode_of 0 _ m h
-release_opcode known.Touchscreen m h = opcode_of 0 _ m h
-release_opcode known.Text m h = opcode_of 0 _ m h
+release_opcode k m h = by (row_named (codes "release") (table false k)) (of_each (λ (i : KnownInterface). is_first (row_named (codes "release") (table false i))) refl k) h
+  where
+    by : (o : Option (ℕ × Row)) → is_first o ≡ true → is_some (args_by o m) ≡ true → m.opcode ≡ 0
+    by None t h = absurd cc
+    by (Some row) t h = opcode_of row.0 row.1 m h ∙ eqb-true row.0 0 t
 
 first_two : (a b : Option ℕ) (x : ℕ) → first (a ∷ b ∷ []) ≡ Some x → (is_some a ≡ true) ⊎ (is_some b ≡ true)
 first_two (Some a) b x h = inl refl

@@ -3,17 +3,17 @@ use Rattle.std.proofs.Common.{◌≡◌, ℕ, true, false, List, [], ◌∷◌, 
 use Rattle.std.specs.Prelude.{is_some, codes}
 use Rattle.ei_spec.specs.declared.interface.KnownInterface.{KnownInterface}
 use Rattle.ei_spec.specs.declared.interface.KnownInterface.TheVariants as known
-use Rattle.ei_spec.specs.Value.{U32, I32, U64, Float, Text, New, Value, Word, Long, Signed, Letters}
-use Rattle.ei_spec.specs.Rows.{Row}
-use Rattle.ei_spec.specs.Table.{context_type, button_state, key_state, table}
+use Rattle.ei_spec.specs.Value.{U32, U64, Text, New, Value, Word, Long, Letters}
+use Rattle.ei_spec.specs.Rows.{Row, row_at}
+use Rattle.ei_spec.specs.Table.{context_type, table}
 use Rattle.ei_spec.specs.Message.{Raw}
 use Rattle.ei_session.specs.Arguments.{request_args}
-use Rattle.ei_session.specs.Meaning.{Meaning, Asks, Greeting, Finish, ContextType, Name, InterfaceVersion, Sync, Disconnect, Pong, SeatRelease, Bind}
-use Rattle.ei_session.specs.Meaning.{RequestDevice, DeviceRelease, Start, Stop, Frame, Ready, PointerRelease, MotionRelative, PointerAbsoluteRelease}
-use Rattle.ei_session.specs.Meaning.{MotionAbsolute, ScrollRelease, Scroll, Discrete, ScrollStop, ButtonRelease, Button, KeyboardRelease, Key}
-use Rattle.ei_session.specs.Meaning.{TouchscreenRelease, Down, Motion, Up, Cancel, TextRelease, Keysym, Utf8, meaning}
+use Rattle.ei_session.specs.Inputs.{is_of_device}
+use Rattle.ei_session.specs.Meaning.{Meaning, Releases, Inputs, Asks, Greeting, Finish, ContextType, Name, InterfaceVersion, Sync, Disconnect, Pong, SeatRelease}
+use Rattle.ei_session.specs.Meaning.{Bind, RequestDevice, DeviceRelease, Start, Stop, Frame, Ready, Release, Input, meaning, to_interface}
 use Rattle.ei_session.proofs.Choices.{none_some, some_is}
 use Rattle.ei_session.proofs.AskedRows.{At, row_is_at, are_held_as, reads_as, unread_asked}
+use Rattle.ei_session.proofs.DeviceInterfaces.{AsksSo, OfRelease, OfInput, asks_one, input_unread}
 use Rattle.ei_session.proofs.RowsMean.{asks_means}
 
 -- what the request asks, by its row
@@ -93,63 +93,6 @@ of_ready : (n : ℕ) (vs : List Value) → n ≡ 4 → are_held_as [] vs ≡ tru
 of_ready n [] o h = meant known.Device n 4 _ _ Ready o
 of_ready n vs o h = absurd cc
 
-of_motion_relative : (n : ℕ) (vs : List Value) → n ≡ 1 → are_held_as (Float ∷ Float ∷ []) vs ≡ true → Meant known.Pointer n vs
-of_motion_relative n (Word x ∷ Word y ∷ []) o h = meant known.Pointer n 1 _ _ (MotionRelative x y) o
-of_motion_relative n vs o h = absurd cc
-
-of_motion_absolute : (n : ℕ) (vs : List Value) → n ≡ 1 → are_held_as (Float ∷ Float ∷ []) vs ≡ true → Meant known.PointerAbsolute n vs
-of_motion_absolute n (Word x ∷ Word y ∷ []) o h = meant known.PointerAbsolute n 1 _ _ (MotionAbsolute x y) o
-of_motion_absolute n vs o h = absurd cc
-
-of_scroll : (n : ℕ) (vs : List Value) → n ≡ 1 → are_held_as (Float ∷ Float ∷ []) vs ≡ true → Meant known.Scroll n vs
-of_scroll n (Word x ∷ Word y ∷ []) o h = meant known.Scroll n 1 _ _ (Scroll x y) o
-of_scroll n vs o h = absurd cc
-
-of_discrete : (n : ℕ) (vs : List Value) → n ≡ 2 → are_held_as (I32 ∷ I32 ∷ []) vs ≡ true → Meant known.Scroll n vs
-of_discrete n (Signed x ∷ Signed y ∷ []) o h = meant known.Scroll n 2 _ _ (Discrete x y) o
-of_discrete n vs o h = absurd cc
-
-of_scroll_stop : (n : ℕ) (vs : List Value) → n ≡ 3 → are_held_as (U32 ∷ U32 ∷ U32 ∷ []) vs ≡ true → Meant known.Scroll n vs
-of_scroll_stop n (Word x ∷ Word y ∷ Word is_cancel ∷ []) o h = meant known.Scroll n 3 _ _ (ScrollStop x y is_cancel) o
-of_scroll_stop n vs o h = absurd cc
-
-of_button : (n : ℕ) (vs : List Value) → n ≡ 1 → are_held_as (U32 ∷ button_state ∷ []) vs ≡ true → Meant known.Button n vs
-of_button n (Word code ∷ Word state ∷ []) o h = meant known.Button n 1 _ _ (Button code state) o
-of_button n vs o h = absurd cc
-
-of_key : (n : ℕ) (vs : List Value) → n ≡ 1 → are_held_as (U32 ∷ key_state ∷ []) vs ≡ true → Meant known.Keyboard n vs
-of_key n (Word key ∷ Word state ∷ []) o h = meant known.Keyboard n 1 _ _ (Key key state) o
-of_key n vs o h = absurd cc
-
-of_down : (n : ℕ) (vs : List Value) → n ≡ 1 → are_held_as (U32 ∷ Float ∷ Float ∷ []) vs ≡ true → Meant known.Touchscreen n vs
-of_down n (Word touch ∷ Word x ∷ Word y ∷ []) o h = meant known.Touchscreen n 1 _ _ (Down touch x y) o
-of_down n vs o h = absurd cc
-
-of_motion : (n : ℕ) (vs : List Value) → n ≡ 2 → are_held_as (U32 ∷ Float ∷ Float ∷ []) vs ≡ true → Meant known.Touchscreen n vs
-of_motion n (Word touch ∷ Word x ∷ Word y ∷ []) o h = meant known.Touchscreen n 2 _ _ (Motion touch x y) o
-of_motion n vs o h = absurd cc
-
-of_up : (n : ℕ) (vs : List Value) → n ≡ 3 → are_held_as (U32 ∷ []) vs ≡ true → Meant known.Touchscreen n vs
-of_up n (Word touch ∷ []) o h = meant known.Touchscreen n 3 _ _ (Up touch) o
-of_up n vs o h = absurd cc
-
-of_cancel : (n : ℕ) (vs : List Value) → n ≡ 4 → are_held_as (U32 ∷ []) vs ≡ true → Meant known.Touchscreen n vs
-of_cancel n (Word touch ∷ []) o h = meant known.Touchscreen n 4 _ _ (Cancel touch) o
-of_cancel n vs o h = absurd cc
-
-of_keysym : (n : ℕ) (vs : List Value) → n ≡ 1 → are_held_as (U32 ∷ key_state ∷ []) vs ≡ true → Meant known.Text n vs
-of_keysym n (Word keysym ∷ Word state ∷ []) o h = meant known.Text n 1 _ _ (Keysym keysym state) o
-of_keysym n vs o h = absurd cc
-
-of_utf8 : (n : ℕ) (vs : List Value) → n ≡ 2 → are_held_as (Text ∷ []) vs ≡ true → Meant known.Text n vs
-of_utf8 n (Letters letters ∷ []) o h = meant known.Text n 2 _ _ (Utf8 letters) o
-of_utf8 n vs o h = absurd cc
-
--- the release of an interface
-of_release : (k : KnownInterface) (n : ℕ) (vs : List Value) (x : Meaning) → Asks k 0 [] x → n ≡ 0 → are_held_as [] vs ≡ true → Meant k n vs
-of_release k n [] x a o h = meant k n 0 [] x a o
-of_release k n vs x a o h = absurd cc
-
 -- ---- an interface each
 
 in_handshake : (n : ℕ) (r : Row) (vs : List Value) → At n r (table false known.Handshake) → are_held_as r.kinds vs ≡ true → Meant known.Handshake n vs
@@ -183,66 +126,26 @@ in_device n r vs (inr (inr (inr (inl a)))) h = of_frame n vs a.0 (held r _ vs a.
 in_device n r vs (inr (inr (inr (inr (inl a))))) h = of_ready n vs a.0 (held r _ vs a.1 h)
 in_device n r vs (inr (inr (inr (inr (inr a))))) h = absurd a
 
-in_pointer : (n : ℕ) (r : Row) (vs : List Value) → At n r (table false known.Pointer) → are_held_as r.kinds vs ≡ true → Meant known.Pointer n vs
-in_pointer n r vs (inl a) h = of_release known.Pointer n vs _ PointerRelease a.0 (held r _ vs a.1 h)
-in_pointer n r vs (inr (inl a)) h = of_motion_relative n vs a.0 (held r _ vs a.1 h)
-in_pointer n r vs (inr (inr a)) h = absurd a
+in_interface : (k : KnownInterface) (n : ℕ) (vs : List Value) → is_of_device k ≡ true → AsksSo k n vs → Meant k n vs
+in_interface k n vs d (OfRelease o e) = record { asked = Releases; asks = rw (o, e) (Release k d) }
+in_interface k n vs d (OfInput i h) = record { asked = Inputs i; asks = Input k n vs i h }
 
-in_pointer_absolute : (n : ℕ) (r : Row) (vs : List Value) → At n r (table false known.PointerAbsolute) → are_held_as r.kinds vs ≡ true → Meant known.PointerAbsolute n vs
-in_pointer_absolute n r vs (inl a) h = of_release known.PointerAbsolute n vs _ PointerAbsoluteRelease a.0 (held r _ vs a.1 h)
-in_pointer_absolute n r vs (inr (inl a)) h = of_motion_absolute n vs a.0 (held r _ vs a.1 h)
-in_pointer_absolute n r vs (inr (inr a)) h = absurd a
-
-in_scroll : (n : ℕ) (r : Row) (vs : List Value) → At n r (table false known.Scroll) → are_held_as r.kinds vs ≡ true → Meant known.Scroll n vs
-in_scroll n r vs (inl a) h = of_release known.Scroll n vs _ ScrollRelease a.0 (held r _ vs a.1 h)
-in_scroll n r vs (inr (inl a)) h = of_scroll n vs a.0 (held r _ vs a.1 h)
-in_scroll n r vs (inr (inr (inl a))) h = of_discrete n vs a.0 (held r _ vs a.1 h)
-in_scroll n r vs (inr (inr (inr (inl a)))) h = of_scroll_stop n vs a.0 (held r _ vs a.1 h)
-in_scroll n r vs (inr (inr (inr (inr a)))) h = absurd a
-
-in_button : (n : ℕ) (r : Row) (vs : List Value) → At n r (table false known.Button) → are_held_as r.kinds vs ≡ true → Meant known.Button n vs
-in_button n r vs (inl a) h = of_release known.Button n vs _ ButtonRelease a.0 (held r _ vs a.1 h)
-in_button n r vs (inr (inl a)) h = of_button n vs a.0 (held r _ vs a.1 h)
-in_button n r vs (inr (inr a)) h = absurd a
-
-in_keyboard : (n : ℕ) (r : Row) (vs : List Value) → At n r (table false known.Keyboard) → are_held_as r.kinds vs ≡ true → Meant known.Keyboard n vs
-in_keyboard n r vs (inl a) h = of_release known.Keyboard n vs _ KeyboardRelease a.0 (held r _ vs a.1 h)
-in_keyboard n r vs (inr (inl a)) h = of_key n vs a.0 (held r _ vs a.1 h)
-in_keyboard n r vs (inr (inr a)) h = absurd a
-
-in_touchscreen : (n : ℕ) (r : Row) (vs : List Value) → At n r (table false known.Touchscreen) → are_held_as r.kinds vs ≡ true → Meant known.Touchscreen n vs
-in_touchscreen n r vs (inl a) h = of_release known.Touchscreen n vs _ TouchscreenRelease a.0 (held r _ vs a.1 h)
-in_touchscreen n r vs (inr (inl a)) h = of_down n vs a.0 (held r _ vs a.1 h)
-in_touchscreen n r vs (inr (inr (inl a))) h = of_motion n vs a.0 (held r _ vs a.1 h)
-in_touchscreen n r vs (inr (inr (inr (inl a)))) h = of_up n vs a.0 (held r _ vs a.1 h)
-in_touchscreen n r vs (inr (inr (inr (inr (inl a))))) h = of_cancel n vs a.0 (held r _ vs a.1 h)
-in_touchscreen n r vs (inr (inr (inr (inr (inr a))))) h = absurd a
-
-in_text : (n : ℕ) (r : Row) (vs : List Value) → At n r (table false known.Text) → are_held_as r.kinds vs ≡ true → Meant known.Text n vs
-in_text n r vs (inl a) h = of_release known.Text n vs _ TextRelease a.0 (held r _ vs a.1 h)
-in_text n r vs (inr (inl a)) h = of_keysym n vs a.0 (held r _ vs a.1 h)
-in_text n r vs (inr (inr (inl a))) h = of_utf8 n vs a.0 (held r _ vs a.1 h)
-in_text n r vs (inr (inr (inr a))) h = absurd a
-
-by_row : (k : KnownInterface) (n : ℕ) (r : Row) (vs : List Value) → At n r (table false k) → are_held_as r.kinds vs ≡ true → Meant k n vs
-by_row known.Handshake n r vs a h = in_handshake n r vs a h
-by_row known.Connection n r vs a h = in_connection n r vs a h
-by_row known.Callback n r vs a h = absurd a
-by_row known.Pingpong n r vs a h = in_pingpong n r vs a h
-by_row known.Seat n r vs a h = in_seat n r vs a h
-by_row known.Device n r vs a h = in_device n r vs a h
-by_row known.Pointer n r vs a h = in_pointer n r vs a h
-by_row known.PointerAbsolute n r vs a h = in_pointer_absolute n r vs a h
-by_row known.Scroll n r vs a h = in_scroll n r vs a h
-by_row known.Button n r vs a h = in_button n r vs a h
-by_row known.Keyboard n r vs a h = in_keyboard n r vs a h
-by_row known.Touchscreen n r vs a h = in_touchscreen n r vs a h
-by_row known.Text n r vs a h = in_text n r vs a h
+by_row : (k : KnownInterface) (n : ℕ) (r : Row) (vs : List Value) → row_at n (table false k) ≡ Some r → At n r (table false k) → are_held_as r.kinds vs ≡ true → Meant k n vs
+by_row known.Handshake n r vs is at h = in_handshake n r vs at h
+by_row known.Connection n r vs is at h = in_connection n r vs at h
+by_row known.Callback n r vs is at h = absurd at
+by_row known.Pingpong n r vs is at h = in_pingpong n r vs at h
+by_row known.Seat n r vs is at h = in_seat n r vs at h
+by_row known.Device n r vs is at h = in_device n r vs at h
+by_row k n r vs is at h = in_interface k n vs refl (asks_one k n r vs refl is h)
 
 pub reads_mean : (k : KnownInterface) (m : Raw) (values : List Value) → request_args k m ≡ Some values → Meant k m.opcode values
-reads_mean k m values a = let r = reads_as k m values a in by_row k m.opcode r.row values (row_is_at m.opcode (table false k) r.row r.is_row) r.held
+reads_mean k m values a = let r = reads_as k m values a in by_row k m.opcode r.row values r.is_row (row_is_at m.opcode (table false k) r.row r.is_row) r.held
 
 -- ---- where nothing reads
+
+unread_interface : (k : KnownInterface) (m : Raw) → request_args k m ≡ None → to_interface k m ≡ None
+unread_interface k m n = rw (unread_asked k (codes "release") m n, input_unread k m n) refl
 
 pub unread_means : (k : KnownInterface) (m : Raw) → request_args k m ≡ None → meaning k m ≡ None
 unfolding meaning
@@ -252,13 +155,7 @@ unread_means known.Callback m n = refl
 unread_means known.Pingpong m n = rw (unread_asked known.Pingpong (codes "done") m n) refl
 unread_means known.Seat m n = rw (unread_asked known.Seat (codes "release") m n, unread_asked known.Seat (codes "bind") m n, unread_asked known.Seat (codes "request_device") m n) refl
 unread_means known.Device m n = rw (unread_asked known.Device (codes "release") m n, unread_asked known.Device (codes "start_emulating") m n, unread_asked known.Device (codes "stop_emulating") m n, unread_asked known.Device (codes "frame") m n, unread_asked known.Device (codes "ready") m n) refl
-unread_means known.Pointer m n = rw (unread_asked known.Pointer (codes "release") m n, unread_asked known.Pointer (codes "motion_relative") m n) refl
-unread_means known.PointerAbsolute m n = rw (unread_asked known.PointerAbsolute (codes "release") m n, unread_asked known.PointerAbsolute (codes "motion_absolute") m n) refl
-unread_means known.Scroll m n = rw (unread_asked known.Scroll (codes "release") m n, unread_asked known.Scroll (codes "scroll") m n, unread_asked known.Scroll (codes "scroll_discrete") m n, unread_asked known.Scroll (codes "scroll_stop") m n) refl
-unread_means known.Button m n = rw (unread_asked known.Button (codes "release") m n, unread_asked known.Button (codes "button") m n) refl
-unread_means known.Keyboard m n = rw (unread_asked known.Keyboard (codes "release") m n, unread_asked known.Keyboard (codes "key") m n) refl
-unread_means known.Touchscreen m n = rw (unread_asked known.Touchscreen (codes "release") m n, unread_asked known.Touchscreen (codes "down") m n, unread_asked known.Touchscreen (codes "motion") m n, unread_asked known.Touchscreen (codes "up") m n, unread_asked known.Touchscreen (codes "cancel") m n) refl
-unread_means known.Text m n = rw (unread_asked known.Text (codes "release") m n, unread_asked known.Text (codes "keysym") m n, unread_asked known.Text (codes "utf8") m n) refl
+unread_means k m n = unread_interface k m n
 
 -- ---- both ways
 

@@ -14,22 +14,23 @@ use Rattle.ei_session.specs.Setup.{Setup}
 use Rattle.ei_session.specs.Arguments.{whole, row_args, request_args, body_of}
 use Rattle.ei_session.specs.Asked.{asked, asks, first}
 use Rattle.ei_session.specs.Handshake.{all_settled}
-use Rattle.ei_session.specs.Inputs.{ScrollStop as Stopped, ScrollCancel as Cancelled, TextUtf8, scroll_end}
+use Rattle.ei_input.specs.declared.input_event.InputEvent.TheVariants as input_event
+use Rattle.ei_input.specs.declared.input_event.InputEvent.{InputEvent}
+use Rattle.ei_session.specs.Inputs.{is_of_device}
 use Rattle.ei_session.specs.Meaning.{Meaning, Asks, Greeting, Finish, ContextType, Name, InterfaceVersion, Sync, Disconnect, Pong, SeatRelease, Bind}
-use Rattle.ei_session.specs.Meaning.{RequestDevice, DeviceRelease, Start, Stop, Frame, Ready, PointerRelease, MotionRelative, PointerAbsoluteRelease}
-use Rattle.ei_session.specs.Meaning.{MotionAbsolute, ScrollRelease, Scroll, Discrete, ScrollStop, ButtonRelease, Button, KeyboardRelease, Key}
-use Rattle.ei_session.specs.Meaning.{TouchscreenRelease, Down, Motion, Up, Cancel, TextRelease, Keysym, Utf8, meaning}
+use Rattle.ei_session.specs.Meaning.{RequestDevice, DeviceRelease, Start, Stop, Frame, Ready, Release, Input, meaning}
 use Rattle.ei_session.specs.Devices.{asked_mask}
 use Rattle.ei_session.specs.Objects.{Entry, object}
 use Rattle.ei_session.specs.Touches.{of_device, input}
 use Rattle.ei_session.specs.Refusals.{Refusal, Parse, Arguments, announced_by, may_give, bad_id, left_over, came, bad_handshake, bad_sync, bad_mask}
-use Rattle.ei_session.specs.Refusals.{bad_capabilities, bad_touch, bad_letters, bad_text, refused_by, refused_row, refusal}
+use Rattle.ei_session.specs.Refusals.{bad_capabilities, bad_touch, bad_letters, unfit_text, bad_text, refused_by, refused_row, refusal}
 use Rattle.ei_session.specs.ByMeaning.{input_in, callback_in, input_refusal, refusal_for}
 use Rattle.ei_session.proofs.Choices.{none_some, some_is}
 use Rattle.ei_session.proofs.AskedRows.{ReadsAs, reads_as}
 use Rattle.ei_session.proofs.RowsMean.{at_row}
 use Rattle.ei_session.proofs.ReadsMean.{means_row, means_something}
 use Rattle.ei_session.proofs.RefusalLaws.{refused_known}
+use Rattle.ei_session.proofs.DeviceInterfaces.{no_input, input_at, input_of_device, announces_nothing}
 use Rattle.ei_session.proofs.ItemMeans.{input_by, bare}
 
 -- the tests that are left of a message that reads
@@ -72,19 +73,19 @@ synced_so true true d e = refl
 synced_so true false d e = refl
 synced_so false b d e = refl
 
-scrolled : (before : List Raw) (version : ℕ) (device : Option ℕ) (x y c : ℕ) → bad_touch before version (of_device device (Some (scroll_end x y c))) ≡ input_refusal before version device (scroll_end x y c)
-scrolled before version device x y c = by (eqb c 0)
-  where
-    by : (b : Bool) → bad_touch before version (of_device device (Some (cond b (Stopped (not (eqb x 0)) (not (eqb y 0))) (Cancelled (not (eqb x 0)) (not (eqb y 0)))))) ≡ input_refusal before version device (cond b (Stopped (not (eqb x 0)) (not (eqb y 0))) (Cancelled (not (eqb x 0)) (not (eqb y 0))))
-    by true = refl
-    by false = refl
+-- an input is refused as a touch, or as a text
+fit : (before : List Raw) (version : ℕ) (device : Option ℕ) (i : InputEvent) → first (None ∷ None ∷ None ∷ None ∷ bad_touch before version (of_device device (Some i)) ∷ unfit_text (Some i) ∷ []) ≡ input_refusal before version device i
+fit before version None (input_event.TextUtf8 letters) = only_sixth (bad_letters (Some letters))
+fit before version (Some d) (input_event.TextUtf8 letters) = only_sixth (bad_letters (Some letters))
+fit before version device i = only_fifth (bad_touch before version (of_device device (Some i)))
 
-no_touch_text : (before : List Raw) (version : ℕ) (device : Option ℕ) (letters : List ℕ) → bad_touch before version (of_device device (Some (TextUtf8 letters))) ≡ None
-no_touch_text before version None letters = refl
-no_touch_text before version (Some d) letters = refl
-
-utf8_so : (before : List Raw) (version : ℕ) (device : Option ℕ) (letters : List ℕ) → first (None ∷ None ∷ None ∷ None ∷ bad_touch before version (of_device device (Some (TextUtf8 letters))) ∷ bad_letters (Some letters) ∷ []) ≡ bad_letters (Some letters)
-utf8_so before version device letters = rw (no_touch_text before version device letters) (only_sixth (bad_letters (Some letters)))
+-- of a request to an interface of a device, no test but these is left
+left_of_interface : (setup : Setup) (before : List Raw) (m : Raw) (version : ℕ) (announced : Option ℕ) (k : KnownInterface) → is_of_device k ≡ true →
+    tests_left setup before m k version announced ≡ bad_id before announced ∷ None ∷ None ∷ None ∷ bad_touch before version (input before m) ∷ bad_text m k ∷ []
+left_of_interface setup before m version announced known.Handshake d = absurd cc
+left_of_interface setup before m version announced known.Connection d = absurd cc
+left_of_interface setup before m version announced known.Seat d = absurd cc
+left_of_interface setup before m version announced k d = refl
 
 -- ---- by rows
 
@@ -108,29 +109,15 @@ refusal_row setup before m v dv new k n values w (Start last_serial sequence) o 
 refusal_row setup before m v dv new k n values w (Stop last_serial) o a p i = rw (p, i ∙ bare dv) refl
 refusal_row setup before m v dv new k n values w (Frame last_serial time) o a p i = rw (p, i ∙ bare dv) refl
 refusal_row setup before m v dv new k n values w Ready o a p i = rw (p, i ∙ bare dv) refl
-refusal_row setup before m v dv new k n values w PointerRelease o a p i = rw (p, i ∙ bare dv) refl
-refusal_row setup before m v dv new k n values w (MotionRelative x y) o a p i = rw (p, i) (only_fifth _)
-refusal_row setup before m v dv new k n values w PointerAbsoluteRelease o a p i = rw (p, i ∙ bare dv) refl
-refusal_row setup before m v dv new k n values w (MotionAbsolute x y) o a p i = rw (p, i) (only_fifth _)
-refusal_row setup before m v dv new k n values w ScrollRelease o a p i = rw (p, i ∙ bare dv) refl
-refusal_row setup before m v dv new k n values w (Scroll x y) o a p i = rw (p, i) (only_fifth _)
-refusal_row setup before m v dv new k n values w (Discrete x y) o a p i = rw (p, i) (only_fifth _)
-refusal_row setup before m v dv new k n values w (ScrollStop x y is_cancel) o a p i = rw (p, i) (only_fifth _ ∙ scrolled before v dv x y is_cancel)
-refusal_row setup before m v dv new k n values w ButtonRelease o a p i = rw (p, i ∙ bare dv) refl
-refusal_row setup before m v dv new k n values w (Button code state) o a p i = rw (p, i) (only_fifth _)
-refusal_row setup before m v dv new k n values w KeyboardRelease o a p i = rw (p, i ∙ bare dv) refl
-refusal_row setup before m v dv new k n values w (Key key state) o a p i = rw (p, i) (only_fifth _)
-refusal_row setup before m v dv new k n values w TouchscreenRelease o a p i = rw (p, i ∙ bare dv) refl
-refusal_row setup before m v dv new k n values w (Down touch x y) o a p i = rw (p, i) (only_fifth _)
-refusal_row setup before m v dv new k n values w (Motion touch x y) o a p i = rw (p, i) (only_fifth _)
-refusal_row setup before m v dv new k n values w (Up touch) o a p i = rw (p, i) (only_fifth _)
-refusal_row setup before m v dv new k n values w (Cancel touch) o a p i = rw (p, i) (only_fifth _)
-refusal_row setup before m v dv new k n values w TextRelease o a p i = rw (p, i ∙ bare dv, o) refl
-refusal_row setup before m v dv new k n values w (Keysym keysym state) o a p i = rw (p, i, o) (only_fifth _)
-refusal_row setup before m v dv new k n values w (Utf8 letters) o a p i = rw (p, i, o, at_row known.Text m 2 _ o a) (utf8_so before v dv letters)
+refusal_row setup before m v dv new k n values w (Release j d) o a p i =
+    ap first (left_of_interface setup before m v new j d) ∙ rw (p, i ∙ bare dv, no_input m o j) refl
+refusal_row setup before m v dv new k n values w (Input j l vs x h) o a p i =
+    ap first (left_of_interface setup before m v new j (input_of_device j l vs x h)) ∙ rw (p, i, input_at j m l vs o a ∙ h) (fit before v dv x)
 
 announced_row : (k : KnownInterface) (n : ℕ) (values : List Value) (x : Meaning) (row : Row) → Asks k n values x → row_at n (table false k) ≡ Some row → announced_by row.announces values row ≡ callback_in (Some x)
 announced_row k n values w row (Sync callback version) h = ap (λ (r : Row). announced_by r.announces (Long callback ∷ Word version ∷ []) r) (sym (some_is _ row h))
+announced_row k n values w row (Release j d) h = announces_nothing j 0 row [] d h
+announced_row k n values w row (Input j l vs x i) h = announces_nothing j l row vs (input_of_device j l vs x i) h
 announced_row k n values w row x h = ap (λ (r : Row). announced_by r.announces values r) (sym (some_is _ row h))
 
 -- of a message that reads, the tests of what the state doesn't allow are left

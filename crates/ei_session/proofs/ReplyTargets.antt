@@ -5,7 +5,7 @@ use Rattle.std.specs.Prelude.{is_some, nat_eq}
 use Rattle.std.specs.Option.{option_map, option_or}
 use Rattle.std.specs.List.{filter_map, list_any}
 use Rattle.ei_spec.specs.declared.interface.KnownInterface.{KnownInterface}
-use Rattle.ei_spec.specs.Interface.{the_twelve}
+use Rattle.ei_spec.specs.Interface.{the_settled}
 use Rattle.ei_spec.specs.Message.{Raw}
 use Rattle.ei_types.specs.Capability.{capabilities, has_bit}
 use Rattle.ei_session.specs.Setup.{Setup, connection_id, seat_id}
@@ -68,7 +68,7 @@ finish_targets setup before m f =
     let zero-there : IsTarget before m 0 = inr (inl (ap is_some (object_first before 0 off))) in
     let connection-there : IsTarget before m connection_id = inr (inr (ap is_some (object_handed before m connection_id f))) in
     let seat-there : IsTarget before m seat_id = inr (inr (ap is_some (object_handed before m seat_id f))) in
-    both before m (settled_events 0 (settled before)) _ (chosen_targets before m (λ i. option_map (settled_event 0 i) (settled before i)) 0 zero-there (λ i r e. settled_to i (settled before i) r e) the_twelve) (
+    both before m (settled_events 0 (settled before)) _ (chosen_targets before m (λ i. option_map (settled_event 0 i) (settled before i)) 0 zero-there (λ i r e. settled_to i (settled before i) r e) the_settled) (
       zero-there,
       (
         connection-there,

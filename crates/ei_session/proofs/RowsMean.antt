@@ -1,5 +1,5 @@
 -- What a request asks is what its row in the table asks.
-use Rattle.std.proofs.Common.{◌≡◌, ℕ, false, List, Some, refl, sym, ap, ◌∙◌}
+use Rattle.std.proofs.Common.{◌≡◌, ℕ, false, List, [], Some, refl, sym, ap, ◌∙◌}
 use Rattle.ei_spec.specs.declared.interface.KnownInterface.{KnownInterface}
 use Rattle.ei_spec.specs.declared.interface.KnownInterface.TheVariants as known
 use Rattle.ei_spec.specs.Value.{Value}
@@ -9,9 +9,8 @@ use Rattle.ei_spec.specs.Message.{Raw}
 use Rattle.ei_session.specs.Arguments.{row_args, request_args}
 use Rattle.ei_session.specs.Asked.{asked}
 use Rattle.ei_session.specs.Meaning.{Meaning, Asks, Greeting, Finish, ContextType, Name, InterfaceVersion, Sync, Disconnect, Pong, SeatRelease, Bind}
-use Rattle.ei_session.specs.Meaning.{RequestDevice, DeviceRelease, Start, Stop, Frame, Ready, PointerRelease, MotionRelative, PointerAbsoluteRelease}
-use Rattle.ei_session.specs.Meaning.{MotionAbsolute, ScrollRelease, Scroll, Discrete, ScrollStop, ButtonRelease, Button, KeyboardRelease, Key}
-use Rattle.ei_session.specs.Meaning.{TouchscreenRelease, Down, Motion, Up, Cancel, TextRelease, Keysym, Utf8, meaning}
+use Rattle.ei_session.specs.Meaning.{RequestDevice, DeviceRelease, Start, Stop, Frame, Ready, Release, Input, meaning}
+use Rattle.ei_session.proofs.DeviceInterfaces.{means_to_interface, asked_release, no_release, input_at, input_of_device, later_input}
 
 -- by the opcode n, the row of the table is this one
 pub at_row : (k : KnownInterface) (m : Raw) (n : ℕ) (values : List Value) → m.opcode ≡ n → request_args k m ≡ Some values → row_args (row_at n (table false k)) m ≡ Some values
@@ -36,23 +35,7 @@ asks_means m k n values w (Start last_serial sequence) o a = rw (o, at_row known
 asks_means m k n values w (Stop last_serial) o a = rw (o, at_row known.Device m 2 _ o a) refl
 asks_means m k n values w (Frame last_serial time) o a = rw (o, at_row known.Device m 3 _ o a) refl
 asks_means m k n values w Ready o a = rw (o, at_row known.Device m 4 _ o a) refl
-asks_means m k n values w PointerRelease o a = rw (o, at_row known.Pointer m 0 _ o a) refl
-asks_means m k n values w (MotionRelative x y) o a = rw (o, at_row known.Pointer m 1 _ o a) refl
-asks_means m k n values w PointerAbsoluteRelease o a = rw (o, at_row known.PointerAbsolute m 0 _ o a) refl
-asks_means m k n values w (MotionAbsolute x y) o a = rw (o, at_row known.PointerAbsolute m 1 _ o a) refl
-asks_means m k n values w ScrollRelease o a = rw (o, at_row known.Scroll m 0 _ o a) refl
-asks_means m k n values w (Scroll x y) o a = rw (o, at_row known.Scroll m 1 _ o a) refl
-asks_means m k n values w (Discrete x y) o a = rw (o, at_row known.Scroll m 2 _ o a) refl
-asks_means m k n values w (ScrollStop x y is_cancel) o a = rw (o, at_row known.Scroll m 3 _ o a) refl
-asks_means m k n values w ButtonRelease o a = rw (o, at_row known.Button m 0 _ o a) refl
-asks_means m k n values w (Button code state) o a = rw (o, at_row known.Button m 1 _ o a) refl
-asks_means m k n values w KeyboardRelease o a = rw (o, at_row known.Keyboard m 0 _ o a) refl
-asks_means m k n values w (Key key state) o a = rw (o, at_row known.Keyboard m 1 _ o a) refl
-asks_means m k n values w TouchscreenRelease o a = rw (o, at_row known.Touchscreen m 0 _ o a) refl
-asks_means m k n values w (Down touch x y) o a = rw (o, at_row known.Touchscreen m 1 _ o a) refl
-asks_means m k n values w (Motion touch x y) o a = rw (o, at_row known.Touchscreen m 2 _ o a) refl
-asks_means m k n values w (Up touch) o a = rw (o, at_row known.Touchscreen m 3 _ o a) refl
-asks_means m k n values w (Cancel touch) o a = rw (o, at_row known.Touchscreen m 4 _ o a) refl
-asks_means m k n values w TextRelease o a = rw (o, at_row known.Text m 0 _ o a) refl
-asks_means m k n values w (Keysym keysym state) o a = rw (o, at_row known.Text m 1 _ o a) refl
-asks_means m k n values w (Utf8 letters) o a = rw (o, at_row known.Text m 2 _ o a) refl
+asks_means m k n values w (Release j d) o a = means_to_interface j m d ∙ rw (asked_release j m [] d o a) refl
+asks_means m k n values w (Input j i vs x h) o a =
+    let d = input_of_device j i vs x h in
+    means_to_interface j m d ∙ rw (no_release j m i o (later_input j i vs x h), input_at j m i vs o a ∙ h) refl

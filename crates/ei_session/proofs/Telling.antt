@@ -20,7 +20,8 @@ use Rattle.ei_session.specs.Setup.{Setup}
 use Rattle.ei_session.specs.Events.{interface_event, interface_events, destroyed_event, destroyed_events}
 use Rattle.ei_session.specs.Told.{row_of, told_as, told_by, tells, told, interface_of, has_mark, destroys, ReadsAs, Calls, IsAnnounced, HasTarget}
 use Rattle.ei_session.proofs.Choices.{turned, none_some, and_false, not_both}
-use Rattle.ei_session.proofs.EventRows.{known_again, interface_row, reads_interface, is_mortal, reads_destroyed}
+use Rattle.ei_spec.proofs.NameLaws.{known_again}
+use Rattle.ei_session.proofs.EventRows.{interface_row, reads_interface, is_mortal, reads_destroyed}
 
 -- ---- one event
 

@@ -115,15 +115,7 @@ released_mortal known.Handshake m h = absurd cc
 released_mortal known.Connection m h = absurd cc
 released_mortal known.Callback m h = absurd cc
 released_mortal known.Pingpong m h = absurd cc
-released_mortal known.Seat m h = refl
-released_mortal known.Device m h = refl
-released_mortal known.Pointer m h = refl
-released_mortal known.PointerAbsolute m h = refl
-released_mortal known.Scroll m h = refl
-released_mortal known.Button m h = refl
-released_mortal known.Keyboard m h = refl
-released_mortal known.Touchscreen m h = refl
-released_mortal known.Text m h = refl
+released_mortal k m h = refl
 
 left_mortal : (before : List Raw) (d id : ℕ) (x : Entry) → list_any (nat_eq id) (interfaces_left before d) ≡ true → object before id ≡ Some x → is_mortal x.interface ≡ true
 unfolding interfaces_left

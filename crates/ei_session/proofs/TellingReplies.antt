@@ -1,17 +1,18 @@
 -- Each event that answers a message goes to what the client is told of.
-use Rattle.std.proofs.Common.{◌≡◌, ℕ, ◌<◌, ◌≤◌, ◌^◌, min, Bool, true, false, cond, ◌&&◌, ◌||◌, eqb, List, [], ◌∷◌, ◌++◌, Option, Some, None, option_map, refl}
+use Rattle.std.proofs.Common.{◌≡◌, ℕ, ◌<◌, ◌^◌, min, Bool, true, false, cond, ◌&&◌, ◌||◌, eqb, ltb, List, [], ◌∷◌, ◌++◌, Option, Some, None, option_map, refl}
 use Rattle.std.proofs.Common.{sym, ap, subst, ◌∙◌, arith, inl, inr, ◌⊎◌}
 use Rattle.std.specs.Prelude.{is_some, unwrap_or}
 use Rattle.std.specs.Option.{option_or}
-use Rattle.std.specs.List.{AllByRecursion, filter_map}
-use Rattle.std.proofs.lemmas.Bool.{eqb-true}
+use Rattle.std.specs.List.{AllByRecursion, filter_map, list_all}
+use Rattle.std.proofs.lemmas.Bool.{eqb-true, ltb-true, and_parts}
 use Rattle.std.proofs.lemmas.Bool.Decides.{nat_tests}
 use Rattle.ei_spec.specs.declared.interface.KnownInterface.{KnownInterface}
 use Rattle.ei_spec.specs.declared.interface.KnownInterface.TheVariants as known
-use Rattle.ei_spec.specs.Interface.{server_version, name_of, the_twelve}
+use Rattle.ei_spec.specs.Interface.{server_version, name_of, the_settled}
 use Rattle.ei_spec.specs.Message.{Raw}
 use Rattle.ei_spec.specs.History.{last_said, occurs}
 use Rattle.ei_spec.proofs.HistoryLaws.{occurs_or}
+use Rattle.ei_spec.proofs.NameLaws.{version_small as server_small}
 use Rattle.ei_types.specs.Capability.{capabilities, has_bit}
 use Rattle.ei_session.specs.Setup.{Setup, connection_id, seat_id}
 use Rattle.ei_session.specs.Handshake.{is_the_finish, announces, settled, version}
@@ -99,19 +100,13 @@ gives_none before m f n id = given_by before m id f ∙ ap (λ (x : Option ℕ).
 
 -- ---- versions and serials are of four bytes
 
-version_most : (i : KnownInterface) → server_version i ≤ 3
-version_most known.Seat = omega arith
-version_most known.Device = omega arith
-version_most known.Touchscreen = omega arith
-version_most i = omega arith
-
 settled_small : (before : List Raw) (i : KnownInterface) (v : ℕ) → settled before i ≡ Some v → v < 2 ^ 32
 unfolding settled
 settled_small before i v e = by (last_said (announces (name_of i)) before) e
   where
     by : (o : Option ℕ) → option_map (min (server_version i)) o ≡ Some v → v < 2 ^ 32
     by None e = absurd (none_some v e)
-    by (Some x) e = omega (arith, some_is (min (server_version i) x) v e, version_most i)
+    by (Some x) e = omega (arith, some_is (min (server_version i) x) v e, server_small i)
 
 pub version_small : (before : List Raw) (i : KnownInterface) → version before i < 2 ^ 32
 unfolding version
@@ -139,19 +134,28 @@ settled_quiet : (i : KnownInterface) (o : Option ℕ) (r : Raw) → ((v : ℕ) �
 settled_quiet i None r small e = absurd (none_some r e)
 settled_quiet i (Some v) r small e = subst (λ x. Quiet known.Handshake 0 x) (some_is (settled_event 0 i v) r e) (record { at = refl; row = _; values = _; reads = reads_settled i v (small v refl); nothing = refl; stays = refl })
 
+no_more : {A : Type 0} (xs : List A) → AllByRecursion (λ x. Unit {0}) xs
+no_more [] = tt
+no_more (x ∷ xs) = (tt, no_more xs)
+
 all_settled_quiet : (before : List Raw) → AllQuiet known.Handshake 0 (settled_events 0 (settled before))
 unfolding settled_events
-all_settled_quiet before = chosen_quiet (λ i. option_map (settled_event 0 i) (settled before i)) known.Handshake 0 (λ i. Unit {0}) (λ i r p e. settled_quiet i (settled before i) r (λ v. settled_small before i v) e) the_twelve (tt, (tt, (tt, (tt, (tt, (tt, (tt, (tt, (tt, (tt, (tt, (tt, tt))))))))))))
+all_settled_quiet before = chosen_quiet (λ i. option_map (settled_event 0 i) (settled before i)) known.Handshake 0 (λ i. Unit {0}) (λ i r p e. settled_quiet i (settled before i) r (λ v. settled_small before i v) e) the_settled (no_more the_settled)
 
 capability_quiet : (b : Bool) (c : ℕ × KnownInterface) (r : Raw) → c.0 < 2 ^ 64 → cond b (Some (capability_event seat_id c)) None ≡ Some r → Quiet known.Seat seat_id r
 capability_quiet true c r lt e = subst (λ x. Quiet known.Seat seat_id x) (some_is (capability_event seat_id c) r e) (record { at = refl; row = _; values = _; reads = reads_capability c lt; nothing = refl; stays = refl })
 capability_quiet false c r lt e = absurd (none_some r e)
 
+-- the bits of capabilities are of eight bytes
+all_small : (cs : List (ℕ × KnownInterface)) → list_all (λ c. ltb c.0 (2 ^ 64)) cs ≡ true → AllByRecursion (λ c. c.0 < 2 ^ 64) cs
+all_small [] h = tt
+all_small (c ∷ cs) h = let parts = and_parts (ltb c.0 (2 ^ 64)) (list_all (λ c. ltb c.0 (2 ^ 64)) cs) h in (ltb-true c.0 (2 ^ 64) parts.0, all_small cs parts.1)
+
 all_capabilities_quiet : (mask : ℕ) (is_settled : KnownInterface → Bool) → AllQuiet known.Seat seat_id (capability_events seat_id mask is_settled)
 unfolding capability_events
 all_capabilities_quiet mask is_settled =
     chosen_quiet (λ c. cond (has_bit mask c.0 && is_settled c.1) (Some (capability_event seat_id c)) None) known.Seat seat_id (λ c. c.0 < 2 ^ 64) (λ c r lt e. capability_quiet (has_bit mask c.0 && is_settled c.1) c r lt e) capabilities
-    (omega arith, (omega arith, (omega arith, (omega arith, (omega arith, (omega arith, (omega arith, tt)))))))
+    (all_small capabilities refl)
 
 -- what the finish tells of an id
 abbrev pub handed_kind : ℕ → Option KnownInterface

@@ -10,7 +10,9 @@ use Rattle.std.proofs.lemmas.Map.Made.{is_member-filter, length-from_same_keys}
 use Rattle.ei_spec.specs.Message.{Raw}
 use Rattle.ei_spec.specs.History.{joined, last_said}
 use Rattle.ei_spec.proofs.HistoryLaws.{joined_more}
-use Rattle.ei_session.specs.Inputs.{Input, DeviceInput, TouchDown, TouchUp, TouchCancel}
+use Rattle.ei_input.specs.declared.input_event.InputEvent.{InputEvent}
+use Rattle.ei_session.specs.Inputs.{DeviceInput}
+use Rattle.ei_input.specs.declared.input_event.InputEvent.TheVariants as input_event
 use Rattle.ei_session.specs.Touches.{said_by, said_of, put_by, put_of, puts, input, touches, is_down, touches_down}
 use Rattle.ei_session.proofs.Choices.{none_some}
 use Rattle.ei_session.proofs.SerialLaws.{down_more}
@@ -62,18 +64,18 @@ distinct_filter p (x ∷ xs) h = by (p x) (distinct_filter p xs h.1)
 
 -- ---- a touch that is down was put down
 
-put_so : (t : ℕ) (i : Input) → said_by t i ≡ Some true → list_any (nat_eq t) (put_by i) ≡ true
-put_so t (TouchDown a x y) h = by (eqb a t) refl h
+put_so : (t : ℕ) (i : InputEvent) → said_by t i ≡ Some true → list_any (nat_eq t) (put_by i) ≡ true
+put_so t (input_event.TouchDown a x y) h = by (eqb a t) refl h
   where
     by : (b : Bool) → eqb a t ≡ b → cond b (Some true) None ≡ Some true → list_any (nat_eq t) (a ∷ []) ≡ true
     by true e h = let same : nat_eq t a ≡ true = eq-eqb t a (sym (eqb-true a t e)) in rw same refl
     by false e h = absurd (none_some true h)
-put_so t (TouchUp a) h = absurd (by (eqb a t) h)
+put_so t (input_event.TouchUp a) h = absurd (by (eqb a t) h)
   where
     by : (b : Bool) → cond b (Some false) None ≡ Some true → ⊥
     by true h = cc
     by false h = none_some true h
-put_so t (TouchCancel a) h = absurd (by (eqb a t) h)
+put_so t (input_event.TouchCancel a) h = absurd (by (eqb a t) h)
   where
     by : (b : Bool) → cond b (Some false) None ≡ Some true → ⊥
     by true h = cc

@@ -9,9 +9,11 @@ use Rattle.std.proofs.lemmas.List.{append-nil}
 use Rattle.ei_spec.specs.Message.{Raw}
 use Rattle.ei_spec.specs.History.{joined}
 use Rattle.ei_session.specs.Setup.{Setup}
-use Rattle.ei_session.specs.Inputs.{Input, PointerMotion, PointerMotionAbsolute, Button, ScrollDelta, ScrollStop, ScrollCancel, ScrollDiscrete, KeyboardKey}
-use Rattle.ei_session.specs.Inputs.{TouchDown, TouchMotion, TouchUp, TouchCancel, TextKeysym, TextUtf8, DeviceInput}
 use Rattle.ei_session.specs.Objects.{Entry, object}
+use Rattle.ei_input.specs.declared.input_event.InputEvent.TheVariants as input_event
+use Rattle.ei_wire.specs.declared.arg.RawFloat.{RawFloat}
+use Rattle.ei_input.specs.declared.input_event.InputEvent.{InputEvent}
+use Rattle.ei_session.specs.Inputs.{DeviceInput}
 use Rattle.ei_session.specs.Touches.{input_of, input, said_by, touches, is_down, put_by, puts, touches_down}
 use Rattle.ei_spec.specs.Rows.{Row, row_at}
 use Rattle.ei_spec.specs.Table.{table}
@@ -114,8 +116,8 @@ count_more before m d t one only =
 -- ---- what is said of touches
 
 -- an input that puts a touch down, or says of none that it is down
-data Puts (x : Input) : Type 0 where
-  Down : (t a b : ℕ) → x ≡ TouchDown t a b → Puts x
+data Puts (x : InputEvent) : Type 0 where
+  Down : (t : ℕ) (a b : RawFloat) → x ≡ input_event.TouchDown t a b → Puts x
   Nothing : put_by x ≡ [] → ((t : ℕ) → said_by t x ≡ Some true → ⊥) → Puts x
 
 ended : (b : Bool) → cond b (Some false) None ≡ Some true → ⊥
@@ -125,21 +127,11 @@ ended false e = absurd cc
 none_true : ◌≡◌ {A = Option Bool} None (Some true) → ⊥
 none_true e = absurd cc
 
-which : (x : Input) → Puts x
-which (TouchDown t a b) = Down t a b refl
-which (TouchUp t) = Nothing refl (λ n. ended (eqb t n))
-which (TouchCancel t) = Nothing refl (λ n. ended (eqb t n))
-which (PointerMotion a b) = Nothing refl (λ n. none_true)
-which (PointerMotionAbsolute a b) = Nothing refl (λ n. none_true)
-which (Button a b) = Nothing refl (λ n. none_true)
-which (ScrollDelta a b) = Nothing refl (λ n. none_true)
-which (ScrollStop a b) = Nothing refl (λ n. none_true)
-which (ScrollCancel a b) = Nothing refl (λ n. none_true)
-which (ScrollDiscrete a b) = Nothing refl (λ n. none_true)
-which (KeyboardKey a b) = Nothing refl (λ n. none_true)
-which (TouchMotion t a b) = Nothing refl (λ n. none_true)
-which (TextKeysym a b) = Nothing refl (λ n. none_true)
-which (TextUtf8 a) = Nothing refl (λ n. none_true)
+which : (x : InputEvent) → Puts x
+which (input_event.TouchDown t a b) = Down t a b refl
+which (input_event.TouchUp t) = Nothing refl (λ n. ended (eqb t n))
+which (input_event.TouchCancel t) = Nothing refl (λ n. ended (eqb t n))
+which i = Nothing refl (λ n. none_true)
 
 quiet_puts : (before : List Raw) (m : Raw) (d : ℕ) (i : DeviceInput) (b : Bool) → input before m ≡ Some i → eqb i.device d ≡ b → put_by i.input ≡ [] → puts d before m ≡ []
 unfolding puts
@@ -159,11 +151,11 @@ other_says : (before : List Raw) (m : Raw) (d : ℕ) (i : DeviceInput) → input
 unfolding touches
 other_says before m d i h e t s = none_true (sym (rw (h, touches, e) refl) ∙ s)
 
-down_puts : (before : List Raw) (m : Raw) (d : ℕ) (i : DeviceInput) (t a b : ℕ) → input before m ≡ Some i → eqb i.device d ≡ true → i.input ≡ TouchDown t a b → puts d before m ≡ t ∷ []
+down_puts : (before : List Raw) (m : Raw) (d : ℕ) (i : DeviceInput) (t : ℕ) (a b : RawFloat) → input before m ≡ Some i → eqb i.device d ≡ true → i.input ≡ input_event.TouchDown t a b → puts d before m ≡ t ∷ []
 unfolding puts
 down_puts before m d i t a b h e x = rw (h, puts, e, x) refl
 
-down_says : (before : List Raw) (m : Raw) (d : ℕ) (i : DeviceInput) (t a b : ℕ) → input before m ≡ Some i → eqb i.device d ≡ true → i.input ≡ TouchDown t a b → (n : ℕ) → touches d n before m ≡ Some true → nat_eq n t ≡ true
+down_says : (before : List Raw) (m : Raw) (d : ℕ) (i : DeviceInput) (t : ℕ) (a b : RawFloat) → input before m ≡ Some i → eqb i.device d ≡ true → i.input ≡ input_event.TouchDown t a b → (n : ℕ) → touches d n before m ≡ Some true → nat_eq n t ≡ true
 unfolding touches
 down_says before m d i t a b h e x n s = by (eqb t n) refl (sym (rw (h, touches, e, x) refl) ∙ s)
   where
@@ -202,7 +194,7 @@ few n rest e h = by (nat_le 16 n) refl h
     by true q h = absurd (none_some e (sym h))
     by false q h = leb-false 16 n q
 
-few_down : (before : List Raw) (v : ℕ) (i : DeviceInput) (t a b : ℕ) → i.input ≡ TouchDown t a b → bad_touch before v (Some i) ≡ None → length (touches_down before i.device) < 16
+few_down : (before : List Raw) (v : ℕ) (i : DeviceInput) (t : ℕ) (a b : RawFloat) → i.input ≡ input_event.TouchDown t a b → bad_touch before v (Some i) ≡ None → length (touches_down before i.device) < 16
 few_down before v i t a b x h = few (length (touches_down before i.device)) _ _ (rw x at h)
 
 step_by : (setup : Setup) (before : List Raw) (m : Raw) (d : ℕ) (i : DeviceInput) (b : Bool) → refusal setup before m ≡ None → input before m ≡ Some i → eqb i.device d ≡ b → Puts i.input → length (touches_down before d) ≤ 16 → length (touches_down (m ∷ before) d) ≤ 16
@@ -230,7 +222,7 @@ none_down : (d : ℕ) → length (touches_down [] d) ≤ 16
 unfolding touches_down joined
 none_down d = omega arith
 
-pub at_most_sixteen : (setup : Setup) (past : List Raw) (d : ℕ) → AreUnrefused setup past → length (touches_down past d) ≤ 16
+pub touches_within : (setup : Setup) (past : List Raw) (d : ℕ) → AreUnrefused setup past → length (touches_down past d) ≤ 16
 unfolding AreUnrefused
-at_most_sixteen setup [] d h = none_down d
-at_most_sixteen setup (m ∷ before) d h = step setup before m d (input before m) h.0 refl (at_most_sixteen setup before d h.1)
+touches_within setup [] d h = none_down d
+touches_within setup (m ∷ before) d h = step setup before m d (input before m) h.0 refl (touches_within setup before d h.1)

@@ -7,7 +7,9 @@ use Rattle.ei_spec.specs.Groups.{group}
 use Rattle.ei_spec.proofs.HistoryLaws.{each_more}
 use Rattle.ei_spec.proofs.GroupsLaws.{group_more, waits}
 use Rattle.ei_session.specs.Setup.{Setup}
-use Rattle.ei_session.specs.Inputs.{TouchDown, TouchUp, TouchCancel, DeviceInput}
+use Rattle.ei_session.specs.Inputs.{DeviceInput}
+use Rattle.ei_wire.specs.declared.arg.RawFloat.{RawFloat}
+use Rattle.ei_input.specs.declared.input_event.InputEvent.TheVariants as input_event
 use Rattle.ei_session.specs.Touches.{input, said_of, touches, is_down}
 use Rattle.ei_session.specs.Requests.{Asking, item, slot}
 use Rattle.ei_session.proofs.SerialLaws.{down_more}
@@ -32,13 +34,13 @@ ends true true old = refl
 ends true false old = refl
 ends false b old = refl
 
-pub touch_down : (before : List Raw) (m : Raw) (d t a b : ℕ) → input before m ≡ Some (record { device = d; input = TouchDown t a b }) → (device touch : ℕ) → is_down (m ∷ before) device touch ≡ ((eqb d device && eqb t touch) || is_down before device touch)
+pub touch_down : (before : List Raw) (m : Raw) (d t : ℕ) (a b : RawFloat) → input before m ≡ Some (record { device = d; input = input_event.TouchDown t a b }) → (device touch : ℕ) → is_down (m ∷ before) device touch ≡ ((eqb d device && eqb t touch) || is_down before device touch)
 touch_down before m d t a b e device touch = touch_says before m _ device touch e ∙ puts_down (eqb d device) (eqb t touch) (is_down before device touch)
 
-pub touch_up : (before : List Raw) (m : Raw) (d t : ℕ) → input before m ≡ Some (record { device = d; input = TouchUp t }) → (device touch : ℕ) → is_down (m ∷ before) device touch ≡ (not (eqb d device && eqb t touch) && is_down before device touch)
+pub touch_up : (before : List Raw) (m : Raw) (d t : ℕ) → input before m ≡ Some (record { device = d; input = input_event.TouchUp t }) → (device touch : ℕ) → is_down (m ∷ before) device touch ≡ (not (eqb d device && eqb t touch) && is_down before device touch)
 touch_up before m d t e device touch = touch_says before m _ device touch e ∙ ends (eqb d device) (eqb t touch) (is_down before device touch)
 
-pub touch_cancel : (before : List Raw) (m : Raw) (d t : ℕ) → input before m ≡ Some (record { device = d; input = TouchCancel t }) → (device touch : ℕ) → is_down (m ∷ before) device touch ≡ (not (eqb d device && eqb t touch) && is_down before device touch)
+pub touch_cancel : (before : List Raw) (m : Raw) (d t : ℕ) → input before m ≡ Some (record { device = d; input = input_event.TouchCancel t }) → (device touch : ℕ) → is_down (m ∷ before) device touch ≡ (not (eqb d device && eqb t touch) && is_down before device touch)
 touch_cancel before m d t e device touch = touch_says before m _ device touch e ∙ ends (eqb d device) (eqb t touch) (is_down before device touch)
 
 pub touch_none : (before : List Raw) (m : Raw) → input before m ≡ None → (device touch : ℕ) → is_down (m ∷ before) device touch ≡ is_down before device touch

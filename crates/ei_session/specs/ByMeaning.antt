@@ -9,7 +9,8 @@ use Rattle.ei_spec.specs.Message.{Raw}
 use Rattle.ei_spec.specs.Groups.{Frame, Other, Free}
 use Rattle.ei_session.specs.Setup.{Setup}
 use Rattle.ei_session.specs.Handshake.{all_settled}
-use Rattle.ei_session.specs.Inputs.{Input, TextUtf8}
+use Rattle.ei_input.specs.declared.input_event.InputEvent.{InputEvent}
+use Rattle.ei_input.specs.declared.input_event.InputEvent.TheVariants as input_event
 use Rattle.ei_session.specs.Meaning.{Shake, Finishes, TellsContext, TellsName, Meaning, Shakes, Syncs, Disconnects, Pongs, ReleasesSeat, Binds, RequestsDevice}
 use Rattle.ei_session.specs.Meaning.{Closes, Starts, Stops, Frames, Readies, Releases, Inputs}
 use Rattle.ei_session.specs.Objects.{Entry}
@@ -17,7 +18,7 @@ use Rattle.ei_session.specs.Touches.{of_device}
 use Rattle.ei_session.specs.Refusals.{Refusal, Parse, Handshake, InvalidInterfaceVersion, may_give, came, bad_mask, bad_touch, bad_letters}
 use Rattle.ei_session.specs.Requests.{Bind, RequestDevice, Ready, DeviceClosed, DeviceStartEmulating, DeviceStopEmulating, Disconnect, Asking, input_item}
 
--- the interface of which it is asked, where that is one alone; else it is one of the seven of a device
+-- the interface of which it is asked, where that is one alone; else it is one that a device can have
 abbrev pub of_interface : Meaning → Option KnownInterface
 of_interface (Shakes shake) = Some known.Handshake
 of_interface (Syncs callback version) = Some known.Connection
@@ -38,7 +39,7 @@ releases (Some Releases) = true
 releases asked = false
 
 -- the input that is asked
-abbrev pub input_in : Option Meaning → Option Input
+abbrev pub input_in : Option Meaning → Option InputEvent
 input_in (Some (Inputs input)) = Some input
 input_in asked = None
 
@@ -103,8 +104,8 @@ sync_refusal before callback version =
     else Some (Parse (InvalidId callback))
 
 -- a touch that the device can't take, or a text that is too short or too long
-abbrev pub input_refusal : List Raw → ℕ → Option ℕ → Input → Option Refusal
-input_refusal before version device (TextUtf8 letters) = bad_letters (Some letters)
+abbrev pub input_refusal : List Raw → ℕ → Option ℕ → InputEvent → Option Refusal
+input_refusal before version device (input_event.TextUtf8 letters) = bad_letters (Some letters)
 input_refusal before version device input = bad_touch before version (of_device device (Some input))
 
 -- why a request that reads, to such an object, is refused

@@ -13,6 +13,7 @@ pub mod Refusals
 pub mod Requests
 pub mod ByMeaning
 pub mod Events
+pub mod Longest
 pub mod AnsweredByMeaning
 pub mod Kept
 pub mod Served

@@ -1,12 +1,12 @@
 -- What a request asks, told by the interface of its target, its opcode and its arguments.
-use Rattle.std.specs.Prelude.{ℕ, ℤ, List, [], ◌∷◌, Option, Some, None, codes}
+use Rattle.std.specs.Prelude.{◌≡◌, ℕ, true, List, [], ◌∷◌, Option, Some, None, codes}
 use Rattle.ei_spec.specs.declared.interface.KnownInterface.{KnownInterface}
 use Rattle.ei_spec.specs.declared.interface.KnownInterface.TheVariants as known
-use Rattle.ei_spec.specs.Value.{Value, Word, Long, Signed, Letters}
+use Rattle.ei_spec.specs.Value.{Value, Word, Long, Letters}
 use Rattle.ei_spec.specs.Message.{Raw}
 use Rattle.ei_session.specs.Asked.{asked, first, none, one, two, long, text}
-use Rattle.ei_session.specs.Inputs.{Input, PointerMotion, PointerMotionAbsolute, ScrollDelta, ScrollDiscrete, scroll_end, button, KeyboardKey, key_of}
-use Rattle.ei_session.specs.Inputs.{TouchDown, TouchMotion, TouchUp, TouchCancel, TextKeysym, TextUtf8, input_to}
+use Rattle.ei_input.specs.declared.input_event.InputEvent.{InputEvent}
+use Rattle.ei_session.specs.Inputs.{is_of_device, input_to, input_of}
 
 -- what a message of the handshake says
 pub data Shake : Type 0 where
@@ -31,7 +31,7 @@ pub data Meaning : Type 0 where
   Frames : (last_serial time : ℕ) → Meaning
   Readies : Meaning
   Releases : Meaning
-  Inputs : (input : Input) → Meaning
+  Inputs : (input : InputEvent) → Meaning
 
 -- ---- by rows
 
@@ -53,26 +53,8 @@ pub data Asks : KnownInterface → ℕ → List Value → Meaning → Type 0 whe
   Stop : (last_serial : ℕ) → Asks known.Device 2 (Word last_serial ∷ []) (Stops last_serial)
   Frame : (last_serial time : ℕ) → Asks known.Device 3 (Word last_serial ∷ Long time ∷ []) (Frames last_serial time)
   Ready : Asks known.Device 4 [] Readies
-  PointerRelease : Asks known.Pointer 0 [] Releases
-  MotionRelative : (x y : ℕ) → Asks known.Pointer 1 (Word x ∷ Word y ∷ []) (Inputs (PointerMotion x y))
-  PointerAbsoluteRelease : Asks known.PointerAbsolute 0 [] Releases
-  MotionAbsolute : (x y : ℕ) → Asks known.PointerAbsolute 1 (Word x ∷ Word y ∷ []) (Inputs (PointerMotionAbsolute x y))
-  ScrollRelease : Asks known.Scroll 0 [] Releases
-  Scroll : (x y : ℕ) → Asks known.Scroll 1 (Word x ∷ Word y ∷ []) (Inputs (ScrollDelta x y))
-  Discrete : (x y : ℤ) → Asks known.Scroll 2 (Signed x ∷ Signed y ∷ []) (Inputs (ScrollDiscrete x y))
-  ScrollStop : (x y is_cancel : ℕ) → Asks known.Scroll 3 (Word x ∷ Word y ∷ Word is_cancel ∷ []) (Inputs (scroll_end x y is_cancel))
-  ButtonRelease : Asks known.Button 0 [] Releases
-  Button : (code state : ℕ) → Asks known.Button 1 (Word code ∷ Word state ∷ []) (Inputs (button code state))
-  KeyboardRelease : Asks known.Keyboard 0 [] Releases
-  Key : (key state : ℕ) → Asks known.Keyboard 1 (Word key ∷ Word state ∷ []) (Inputs (KeyboardKey key (key_of state)))
-  TouchscreenRelease : Asks known.Touchscreen 0 [] Releases
-  Down : (touch x y : ℕ) → Asks known.Touchscreen 1 (Word touch ∷ Word x ∷ Word y ∷ []) (Inputs (TouchDown touch x y))
-  Motion : (touch x y : ℕ) → Asks known.Touchscreen 2 (Word touch ∷ Word x ∷ Word y ∷ []) (Inputs (TouchMotion touch x y))
-  Up : (touch : ℕ) → Asks known.Touchscreen 3 (Word touch ∷ []) (Inputs (TouchUp touch))
-  Cancel : (touch : ℕ) → Asks known.Touchscreen 4 (Word touch ∷ []) (Inputs (TouchCancel touch))
-  TextRelease : Asks known.Text 0 [] Releases
-  Keysym : (keysym state : ℕ) → Asks known.Text 1 (Word keysym ∷ Word state ∷ []) (Inputs (TextKeysym keysym (key_of state)))
-  Utf8 : (letters : List ℕ) → Asks known.Text 2 (Letters letters ∷ []) (Inputs (TextUtf8 letters))
+  Release : (k : KnownInterface) → is_of_device k ≡ true → Asks k 0 [] Releases
+  Input : (k : KnownInterface) (n : ℕ) (values : List Value) (input : InputEvent) → input_of k n values ≡ Some input → Asks k n values (Inputs input)
 
 -- ---- by names
 
@@ -97,7 +79,7 @@ framing (Some (Word last_serial ∷ Long time ∷ [])) = Some (Frames last_seria
 framing values = None
 
 -- an input, if it is one
-abbrev pub inputting : Option Input → Option Meaning
+abbrev pub inputting : Option InputEvent → Option Meaning
 inputting None = None
 inputting (Some input) = Some (Inputs input)
 

@@ -17,10 +17,12 @@ use Rattle.ei_spec.specs.History.{occurs}
 use Rattle.ei_spec.specs.Stream.{Verdict, Accepted, Final, Refused}
 use Rattle.ei_session.specs.Setup.{Setup, connection_id}
 use Rattle.ei_session.specs.Arguments.{body_of}
-use Rattle.ei_session.specs.Asked.{asked, asks, first, text}
+use Rattle.ei_session.specs.Asked.{asked, asks, first}
 use Rattle.ei_session.specs.Handshake.{connected}
 use Rattle.ei_session.specs.Handshake.{all_settled}
-use Rattle.ei_session.specs.Inputs.{TouchDown, TouchCancel, DeviceInput}
+use Rattle.ei_input.specs.declared.input_event.InputEvent.{InputEvent}
+use Rattle.ei_session.specs.Inputs.{DeviceInput, input_to}
+use Rattle.ei_input.specs.declared.input_event.InputEvent.TheVariants as input_event
 use Rattle.ei_session.specs.Devices.{asked_mask, exhausts}
 use Rattle.ei_session.specs.Objects.{Entry, object}
 use Rattle.ei_session.specs.Touches.{input, is_down, touches_down}
@@ -124,10 +126,10 @@ bad_capabilities capabilities m interface = None
 abbrev pub bad_touch : List Raw → ℕ → Option DeviceInput → Option Refusal
 bad_touch before version None = None
 bad_touch before version (Some i) = elim i.input [
-  | TouchDown touch x y ↦
+  | input_event.TouchDown touch x y ↦
       (if nat_le MOST_TOUCHES (length (touches_down before i.device)) then Some (Request request.TooManyTouches)
       else (if is_down before i.device touch then Some (Request request.DuplicatedTouchDown) else None))
-  | TouchCancel touch ↦ (if nat_lt version 2 then Some (InvalidInterfaceVersion (name_of known.Touchscreen) version) else None)
+  | input_event.TouchCancel touch ↦ (if nat_lt version 2 then Some (InvalidInterfaceVersion (name_of known.Touchscreen) version) else None)
   | _ ↦ None
 ]
 
@@ -136,9 +138,13 @@ bad_letters None = None
 bad_letters (Some letters) = if (length letters == 0) || nat_lt MOST_TEXT_BYTES (length letters) then Some (Request request.InvalidTextLength) else None
 
 -- a text of no bytes, or of more than may be
+abbrev pub unfit_text : Option InputEvent → Option Refusal
+unfit_text (Some (input_event.TextUtf8 letters)) = bad_letters (Some letters)
+unfit_text input = None
+
+-- an input that is such a text
 abbrev pub bad_text : Raw → KnownInterface → Option Refusal
-bad_text m known.Text = bad_letters (text (λ letters. letters) (asked known.Text (codes "utf8") m))
-bad_text m interface = None
+bad_text m interface = unfit_text (input_to interface m)
 
 -- ---- the verdict
 

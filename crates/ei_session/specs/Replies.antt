@@ -4,7 +4,7 @@ use Rattle.std.specs.Option.{option_map}
 use Rattle.std.specs.List.{filter_map}
 use Rattle.ei_spec.specs.declared.interface.KnownInterface.{KnownInterface}
 use Rattle.ei_spec.specs.declared.interface.KnownInterface.TheVariants as known
-use Rattle.ei_spec.specs.Interface.{name_of, the_twelve}
+use Rattle.ei_spec.specs.Interface.{name_of, the_settled}
 use Rattle.ei_spec.specs.Value.{Word, Long, Letters}
 use Rattle.ei_spec.specs.Message.{Raw}
 use Rattle.ei_types.specs.Capability.{capabilities, has_bit}
@@ -46,7 +46,7 @@ done_event seat = event known.Seat (codes "done") seat []
 
 -- one event for each settled interface, in the order of the list
 unfoldable pub settled_events : ℕ → (KnownInterface → Option ℕ) → List Raw
-settled_events handshake settled = filter_map (λ interface. option_map (settled_event handshake interface) (settled interface)) the_twelve
+settled_events handshake settled = filter_map (λ interface. option_map (settled_event handshake interface) (settled interface)) the_settled
 
 -- one event for each capability of the mask whose interface is settled, by rising bit
 unfoldable pub capability_events : ℕ → ℕ → (KnownInterface → Bool) → List Raw

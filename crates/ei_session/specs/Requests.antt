@@ -8,7 +8,9 @@ use Rattle.ei_spec.specs.History.{each}
 use Rattle.ei_spec.specs.Groups.{Item, Input as Waiting, Frame, Other, Free, Given, Slot, grouped}
 use Rattle.ei_session.specs.Setup.{Setup}
 use Rattle.ei_session.specs.Asked.{asked, first, none, one, two, long}
-use Rattle.ei_session.specs.Inputs.{Input, TouchMotion, TouchUp, TouchCancel, DeviceInput}
+use Rattle.ei_input.specs.declared.input_event.InputEvent.{InputEvent}
+use Rattle.ei_session.specs.Inputs.{DeviceInput}
+use Rattle.ei_input.specs.declared.input_event.InputEvent.TheVariants as input_event
 use Rattle.ei_session.specs.Objects.{Entry, object}
 use Rattle.ei_session.specs.Serial.{serial}
 use Rattle.ei_session.specs.Touches.{input, is_down}
@@ -25,10 +27,10 @@ pub data Plain : Type 0 where
 
 -- a request as it is handed out: an input with its time, a frame, or another
 abbrev pub Request : Type 0
-Request = Given ℕ Input Plain
+Request = Given ℕ InputEvent Plain
 
 abbrev pub Asking : Type 0
-Asking = Item Input Plain
+Asking = Item InputEvent Plain
 
 -- ---- what a message gives
 
@@ -55,10 +57,10 @@ seat_item seat m = first
     ∷ [])
 
 -- whether an input is heard: one that moves or ends a touch is where the touch is down
-abbrev pub is_heard : List Raw → ℕ → Input → Bool
-is_heard before device (TouchMotion touch x y) = is_down before device touch
-is_heard before device (TouchUp touch) = is_down before device touch
-is_heard before device (TouchCancel touch) = is_down before device touch
+abbrev pub is_heard : List Raw → ℕ → InputEvent → Bool
+is_heard before device (input_event.TouchMotion touch x y) = is_down before device touch
+is_heard before device (input_event.TouchUp touch) = is_down before device touch
+is_heard before device (input_event.TouchCancel touch) = is_down before device touch
 is_heard before device input = true
 
 abbrev pub input_item : List Raw → Option DeviceInput → Option Asking
@@ -81,7 +83,7 @@ unfoldable pub item : List Raw → Raw → Option Asking
 item before m = item_at before m (object before m.id)
 
 -- with the serial before it
-unfoldable pub slot : Setup → List Raw → Raw → Slot Input Plain
+unfoldable pub slot : Setup → List Raw → Raw → Slot InputEvent Plain
 slot setup before m = record { item = item before m; serial = serial setup before }
 
 -- the requests of the messages, the oldest first, with these readings of the clock

@@ -4,10 +4,12 @@ use Rattle.std.specs.List.{filter}
 use Rattle.std.specs.Set.{unique_keys}
 use Rattle.ei_spec.specs.Message.{Raw}
 use Rattle.ei_spec.specs.History.{last_said, joined}
-use Rattle.ei_session.specs.Inputs.{Input, TouchDown, TouchUp, TouchCancel, DeviceInput, input_to}
+use Rattle.ei_input.specs.declared.input_event.InputEvent.{InputEvent}
+use Rattle.ei_session.specs.Inputs.{DeviceInput, input_to}
+use Rattle.ei_input.specs.declared.input_event.InputEvent.TheVariants as input_event
 use Rattle.ei_session.specs.Objects.{Entry, object}
 
-abbrev pub of_device : Option ℕ → Option Input → Option DeviceInput
+abbrev pub of_device : Option ℕ → Option InputEvent → Option DeviceInput
 of_device (Some device) (Some input) = Some (record { device = device; input = input })
 of_device device input = None
 
@@ -21,10 +23,10 @@ unfoldable pub input : List Raw → Raw → Option DeviceInput
 input before m = input_of m (object before m.id)
 
 -- what an input says of the touch: that it goes down, or that it ends
-abbrev pub said_by : ℕ → Input → Option Bool
-said_by touch (TouchDown t x y) = if t == touch then Some true else None
-said_by touch (TouchUp t) = if t == touch then Some false else None
-said_by touch (TouchCancel t) = if t == touch then Some false else None
+abbrev pub said_by : ℕ → InputEvent → Option Bool
+said_by touch (input_event.TouchDown t x y) = if t == touch then Some true else None
+said_by touch (input_event.TouchUp t) = if t == touch then Some false else None
+said_by touch (input_event.TouchCancel t) = if t == touch then Some false else None
 said_by touch input = None
 
 abbrev pub said_of : ℕ → ℕ → Option DeviceInput → Option Bool
@@ -40,8 +42,8 @@ unfoldable pub is_down : List Raw → ℕ → ℕ → Bool
 is_down before device touch = unwrap_or (last_said (touches device touch) before) false
 
 -- the touch that an input puts down
-abbrev pub put_by : Input → List ℕ
-put_by (TouchDown t x y) = t ∷ []
+abbrev pub put_by : InputEvent → List ℕ
+put_by (input_event.TouchDown t x y) = t ∷ []
 put_by input = []
 
 abbrev pub put_of : ℕ → Option DeviceInput → List ℕ

@@ -1,16 +1,16 @@
--- A whole session: all interfaces, a device of each, two groups, and their end.
+-- A whole session: the interfaces of the protocol, a device of each, two groups, and their end; and one of gestures.
 use Rattle.std.specs.Prelude.{ℕ, List, [], ◌∷◌, codes}
 use Rattle.ei_spec.specs.Message.{le4, le8, header}
 use Rattle.ei_session.specs.Setup.{Setup, connection_id, seat_id}
-use Rattle.ei_session.specs.Worked.{parts, one_zero, three_zeros, finish, disconnect, sync, called, bind, device_id, release, destroyed}
+use Rattle.ei_session.specs.Worked.{parts, one_zero, three_zeros, finish, disconnect, sync, called, bind, device_id, interface_id, frame, release, destroyed}
 
--- a serial of 1, and a seat of all capabilities
+-- a serial of 1, and a seat of all capabilities but that of gestures
 abbrev pub all_setup : Setup
 all_setup = record { serial = 1; capabilities = 127; pieces = 100 }
 
--- the twelve interfaces with the versions of both ends, with opcode 4 of the client, and 1 of the server
-abbrev pub twelve_announced : ℕ → List ℕ
-twelve_announced opcode = parts
+-- the interfaces of the protocol with the versions of both ends, with opcode 4 of the client, and 1 of the server
+abbrev pub all_announced : ℕ → List ℕ
+all_announced opcode = parts
     (header 0 40 opcode ∷ le4 14 ∷ codes "ei_connection" ∷ three_zeros ∷ le4 1
     ∷ header 0 36 opcode ∷ le4 12 ∷ codes "ei_callback" ∷ one_zero ∷ le4 1
     ∷ header 0 36 opcode ∷ le4 12 ∷ codes "ei_pingpong" ∷ one_zero ∷ le4 1
@@ -25,11 +25,15 @@ twelve_announced opcode = parts
     ∷ header 0 32 opcode ∷ le4 8 ∷ codes "ei_text" ∷ one_zero ∷ le4 1
     ∷ [])
 
--- the version, the name `demo` and a sender; the twelve; the end
+-- the version, the name `demo` and a sender
+abbrev pub introduced : List ℕ
+introduced = parts (header 0 20 0 ∷ le4 1 ∷ header 0 28 3 ∷ le4 5 ∷ codes "demo" ∷ (0 ∷ 0 ∷ 0 ∷ 0 ∷ []) ∷ header 0 20 2 ∷ le4 2 ∷ [])
+
+-- these; the interfaces; the end
 abbrev pub all_shaken : List (List ℕ)
 all_shaken =
-    parts (header 0 20 0 ∷ le4 1 ∷ header 0 28 3 ∷ le4 5 ∷ codes "demo" ∷ (0 ∷ 0 ∷ 0 ∷ 0 ∷ []) ∷ header 0 20 2 ∷ le4 2 ∷ [])
-    ∷ twelve_announced 4
+    introduced
+    ∷ all_announced 4
     ∷ finish
     ∷ []
 
@@ -59,19 +63,21 @@ all_asked =
     ∷ disconnect
     ∷ []
 
--- what the server says of the seat
-abbrev pub seat_described : List ℕ
-seat_described = parts
-    (header connection_id 28 1 ∷ le8 seat_id ∷ le4 2
-    ∷ header seat_id 40 2 ∷ le8 1 ∷ le4 11 ∷ codes "ei_pointer" ∷ (0 ∷ 0 ∷ [])
+-- what the server says of the capabilities of the seat
+abbrev pub capabilities_described : List ℕ
+capabilities_described = parts
+    (header seat_id 40 2 ∷ le8 1 ∷ le4 11 ∷ codes "ei_pointer" ∷ (0 ∷ 0 ∷ [])
     ∷ header seat_id 48 2 ∷ le8 2 ∷ le4 20 ∷ codes "ei_pointer_absolute" ∷ one_zero
     ∷ header seat_id 40 2 ∷ le8 4 ∷ le4 12 ∷ codes "ei_keyboard" ∷ one_zero
     ∷ header seat_id 44 2 ∷ le8 8 ∷ le4 15 ∷ codes "ei_touchscreen" ∷ (0 ∷ 0 ∷ [])
     ∷ header seat_id 40 2 ∷ le8 16 ∷ le4 10 ∷ codes "ei_scroll" ∷ three_zeros
     ∷ header seat_id 40 2 ∷ le8 32 ∷ le4 10 ∷ codes "ei_button" ∷ three_zeros
     ∷ header seat_id 36 2 ∷ le8 64 ∷ le4 8 ∷ codes "ei_text" ∷ one_zero
-    ∷ header seat_id 16 3
     ∷ [])
+
+-- what it says of a seat of these
+abbrev pub seat_of : List ℕ → List ℕ
+seat_of capabilities = parts (header connection_id 28 1 ∷ le8 seat_id ∷ le4 2 ∷ capabilities ∷ header seat_id 16 3 ∷ [])
 
 -- and of the device
 abbrev pub device_described : List ℕ
@@ -89,14 +95,13 @@ device_described = parts
     ∷ header device_id 20 7 ∷ le4 2
     ∷ [])
 
+-- what hands over the connection
+abbrev pub handed_over : List ℕ
+handed_over = parts (header 0 32 2 ∷ le4 1 ∷ le8 connection_id ∷ le4 1 ∷ [])
+
 -- the greeting, and what answers the finish
 abbrev pub all_connected : List ℕ
-all_connected = parts
-    (header 0 20 0 ∷ le4 1
-    ∷ twelve_announced 1
-    ∷ header 0 32 2 ∷ le4 1 ∷ le8 connection_id ∷ le4 1
-    ∷ seat_described
-    ∷ [])
+all_connected = parts (header 0 20 0 ∷ le4 1 ∷ all_announced 1 ∷ handed_over ∷ seat_of capabilities_described ∷ [])
 
 -- all that the server sends
 abbrev pub all_replied : List ℕ
@@ -113,3 +118,39 @@ all_replied = parts
     ∷ destroyed 0xff00000000000009 9
     ∷ destroyed device_id 10
     ∷ [])
+
+-- ---- with gestures
+
+-- a serial of 1, and a seat of all capabilities
+abbrev pub gesture_setup : Setup
+gesture_setup = record { serial = 1; capabilities = 255; pieces = 100 }
+
+abbrev pub four_zeros : List ℕ
+four_zeros = 0 ∷ 0 ∷ 0 ∷ 0 ∷ []
+
+-- the interface of gestures, with opcode 4 of the client, and 1 of the server
+abbrev pub gestures_announced : ℕ → List ℕ
+gestures_announced opcode = parts (header 0 40 opcode ∷ le4 13 ∷ codes "ei_x_gesture" ∷ four_zeros ∷ le4 1 ∷ [])
+
+-- a handshake of all interfaces
+abbrev pub gestures_shaken : List (List ℕ)
+gestures_shaken = introduced ∷ all_announced 4 ∷ gestures_announced 4 ∷ finish ∷ []
+
+-- the greeting, and what answers the finish
+abbrev pub gestures_connected : List ℕ
+gestures_connected = parts
+    (header 0 20 0 ∷ le4 1
+    ∷ all_announced 1
+    ∷ gestures_announced 1
+    ∷ handed_over
+    ∷ seat_of (parts (capabilities_described ∷ header seat_id 44 2 ∷ le8 128 ∷ le4 13 ∷ codes "ei_x_gesture" ∷ four_zeros ∷ []))
+    ∷ [])
+
+-- a device of gestures, a swipe of three fingers and a pinch in one group
+abbrev pub gestures_asked : List (List ℕ)
+gestures_asked =
+    bind 128
+    ∷ parts (header interface_id 28 1 ∷ le4 3 ∷ le4 0x3f800000 ∷ le4 0 ∷ [])
+    ∷ parts (header interface_id 20 2 ∷ le4 0x40000000 ∷ [])
+    ∷ frame 6 9
+    ∷ []

@@ -15,12 +15,15 @@ ghost use Rattle.ei_spec.specs.Piece.{Piece};
 ghost use Rattle.ei_spec.specs.Groups.{Input as Waits, Frame, Other, Free, group, gives, frames_made};
 ghost use Rattle.ei_spec.specs.History.{each, occurs};
 ghost use Rattle.ei_spec.specs.Stream.{Accepted, Final, Waiting, Reading, go_on, IsReading, AreOpen, stream_of};
+ghost use Rattle.ei_wire.specs.declared.arg.RawFloat.{RawFloat};
 ghost use Rattle.ei_session.specs.Setup.{Setup, connection_id, seat_id};
 ghost use Rattle.ei_session.specs.Arguments.{event};
 ghost use Rattle.ei_session.specs.Asked.{asked, asks, first};
 ghost use Rattle.ei_session.specs.Handshake.{connected, is_finish, is_the_finish, settled, version};
-ghost use Rattle.ei_session.specs.Inputs.{Input, PointerMotion, PointerMotionAbsolute, ScrollDelta, ScrollDiscrete, scroll_end, button, KeyboardKey, key_of};
-ghost use Rattle.ei_session.specs.Inputs.{TouchDown, TouchMotion, TouchUp, TouchCancel, TextKeysym, TextUtf8, DeviceInput, input_to};
+ghost use Rattle.ei_input.specs.declared.input_event.InputEvent.TheVariants as input_event;
+ghost use Rattle.ei_input.specs.Inputs.{float, floats, touching, button_of, key_of, scroll_end};
+ghost use Rattle.ei_input.specs.declared.input_event.InputEvent.{InputEvent};
+ghost use Rattle.ei_session.specs.Inputs.{DeviceInput, input_to};
 ghost use Rattle.ei_session.specs.Devices.{seat_is_open, interfaces_of, made, ids_given, next_id, exhausts};
 ghost use Rattle.ei_session.specs.Objects.{Entry, new_device, handed_over, at_first, is_device, is_of, says, object, interfaces_left, gone};
 ghost use Rattle.ei_session.specs.Serial.{steps, serial};
@@ -31,8 +34,9 @@ ghost use Rattle.ei_session.specs.Requests.{is_heard, item, slot, framed};
 ghost use Rattle.ei_session.specs.Replies.{finish_events};
 ghost use Rattle.ei_session.specs.Events.{invalid_object_event, callback_event, device_events, destroyed_event, destroyed_events, reply, replies, AreTargets};
 ghost use Rattle.ei_session.specs.Events.{announcement, IsSaid};
+ghost use Rattle.ei_session.specs.Longest.{longest_reply};
 ghost use Rattle.ei_session.specs.Served.{AreUnrefused, accepted, reading_of, read_first, is_over, over_at, at_end, session};
-ghost use Rattle.ei_spec.specs.declared.limits.TheConstants.{MOST_MESSAGE_BYTES, MOST_TOUCHES};
+ghost use Rattle.ei_spec.specs.declared.limits.TheConstants.{CAPABILITIES, MOST_MESSAGE_BYTES, MOST_TOUCHES};
 
 /// A stream has one reading, and it doesn't matter how the stream was cut.
 pub fn all_streams()
@@ -191,9 +195,11 @@ pub fn bounds()
     ensures touches { (setup : Setup) (past : List Raw) (device : ℕ) → AreUnrefused setup past → length (touches_down past device) ≤ MOST_TOUCHES }
     ensures unread { (setup : Setup) (bytes : List ℕ) → IsBytes bytes → (reading_of setup bytes).stop ≡ Waiting
         → length (reading_of setup bytes).rest < MOST_MESSAGE_BYTES }
-    ensures interfaces { (mask : ℕ) → length (interfaces_of mask) ≤ 7 }
-    ensures gone { (before : List Raw) (m : Raw) → length (gone before m) ≤ 8 }
-    ensures reply { (setup : Setup) (before : List Raw) (m : Raw) → length (all_bytes (reply setup before m)) ≤ 804 }
+    ensures interfaces { (mask : ℕ) → length (interfaces_of mask) ≤ CAPABILITIES }
+    ensures gone { (before : List Raw) (m : Raw) → length (gone before m) ≤ CAPABILITIES + 1 }
+    ensures reply { (setup : Setup) (before : List Raw) (m : Raw) →
+        length (all_bytes (reply setup before m)) ≤ longest_reply }
+    ensures longest { longest_reply ≡ 888 }
 {}
 
 /// The interfaces that a device has left, after a message of each kind.
@@ -224,7 +230,8 @@ pub fn targets()
 
 /// The inputs that wait on a device, after a message of each kind.
 pub fn groups()
-    ensures input { (setup : Setup) (before : List Raw) (m : Raw) (device d : ℕ) (i : Input) → item before m ≡ Some (Waits d i) →
+    ensures input { (setup : Setup) (before : List Raw) (m : Raw) (device d : ℕ) (i : InputEvent) → item before m ≡
+        Some (Waits d i) →
         group device (each (slot setup) (m ∷ before))
         ≡ (if d == device then group device (each (slot setup) before) ++ (i ∷ []) else group device (each (slot setup) before)) }
     ensures frame { (setup : Setup) (before : List Raw) (m : Raw) (device d serial time : ℕ) → item before m ≡ Some (Frame d serial time) →
@@ -239,11 +246,14 @@ pub fn groups()
 
 /// The touches that are down, after a message of each kind.
 pub fn touches_after()
-    ensures down { (before : List Raw) (m : Raw) (d t a b : ℕ) → input before m ≡ Some (record { device = d; input = TouchDown t a b }) →
+    ensures down { (before : List Raw) (m : Raw) (d t : ℕ) (a b : RawFloat) → input before m ≡
+        Some (record { device = d; input = input_event.TouchDown t a b }) →
         (device touch : ℕ) → is_down (m ∷ before) device touch ≡ ((d == device && t == touch) || is_down before device touch) }
-    ensures up { (before : List Raw) (m : Raw) (d t : ℕ) → input before m ≡ Some (record { device = d; input = TouchUp t }) →
+    ensures up { (before : List Raw) (m : Raw) (d t : ℕ) → input before m ≡
+        Some (record { device = d; input = input_event.TouchUp t }) →
         (device touch : ℕ) → is_down (m ∷ before) device touch ≡ (not (d == device && t == touch) && is_down before device touch) }
-    ensures cancel { (before : List Raw) (m : Raw) (d t : ℕ) → input before m ≡ Some (record { device = d; input = TouchCancel t }) →
+    ensures cancel { (before : List Raw) (m : Raw) (d t : ℕ) → input before m ≡
+        Some (record { device = d; input = input_event.TouchCancel t }) →
         (device touch : ℕ) → is_down (m ∷ before) device touch ≡ (not (d == device && t == touch) && is_down before device touch) }
     ensures none { (before : List Raw) (m : Raw) → input before m ≡ None → (device touch : ℕ)
         → is_down (m ∷ before) device touch ≡ is_down before device touch }
@@ -265,34 +275,41 @@ pub fn devices_made()
 
 /// Which requests are inputs.
 pub fn inputs()
-    ensures there { (before : List Raw) (m : Raw) (e : Entry) (d : ℕ) (interface : KnownInterface) (i : Input) → object before m.id ≡ Some e
+    ensures there { (before : List Raw) (m : Raw) (e : Entry) (d : ℕ) (interface : KnownInterface) (i : InputEvent) →
+        object before m.id ≡ Some e
         → e.interface ≡ interface → e.device ≡ Some d →
         input_to interface m ≡ Some i → input before m ≡ Some (record { device = d; input = i }) }
     ensures motion_relative { (m : Raw) (x y : ℕ) → asked known.Pointer (codes "motion_relative") m ≡ Some (Word x ∷ Word y ∷ [])
-        → input_to known.Pointer m ≡ Some (PointerMotion x y) }
+        → input_to known.Pointer m ≡ Some (floats input_event.PointerMotion x y) }
     ensures motion_absolute { (m : Raw) (x y : ℕ) → asked known.PointerAbsolute (codes "motion_absolute") m ≡ Some (Word x ∷ Word y ∷ [])
-        → input_to known.PointerAbsolute m ≡ Some (PointerMotionAbsolute x y) }
+        → input_to known.PointerAbsolute m ≡ Some (floats input_event.PointerMotionAbsolute x y) }
     ensures scroll { (m : Raw) (x y : ℕ) → asked known.Scroll (codes "scroll") m ≡ Some (Word x ∷ Word y ∷ [])
-        → input_to known.Scroll m ≡ Some (ScrollDelta x y) }
+        → input_to known.Scroll m ≡ Some (floats input_event.ScrollDelta x y) }
     ensures scroll_discrete { (m : Raw) (x y : ℤ) → asked known.Scroll (codes "scroll_discrete") m ≡ Some (Signed x ∷ Signed y ∷ [])
-        → input_to known.Scroll m ≡ Some (ScrollDiscrete x y) }
+        → input_to known.Scroll m ≡ Some (input_event.ScrollDiscrete x y) }
     ensures scroll_stop { (m : Raw) (x y is_cancel : ℕ) → asked known.Scroll (codes "scroll_stop") m ≡ Some (Word x ∷ Word y ∷ Word is_cancel ∷ [])
         → input_to known.Scroll m ≡ Some (scroll_end x y is_cancel) }
     ensures button { (m : Raw) (code state : ℕ) → asked known.Button (codes "button") m ≡ Some (Word code ∷ Word state ∷ [])
-        → input_to known.Button m ≡ Some (button code state) }
+        → input_to known.Button m ≡ Some (input_event.Button code (button_of state)) }
     ensures key { (m : Raw) (key state : ℕ) → asked known.Keyboard (codes "key") m ≡ Some (Word key ∷ Word state ∷ [])
-        → input_to known.Keyboard m ≡ Some (KeyboardKey key (key_of state)) }
+        → input_to known.Keyboard m ≡ Some (input_event.KeyboardKey key (key_of state)) }
     ensures down { (m : Raw) (touch x y : ℕ) → asked known.Touchscreen (codes "down") m ≡ Some (Word touch ∷ Word x ∷ Word y ∷ [])
-        → input_to known.Touchscreen m ≡ Some (TouchDown touch x y) }
+        → input_to known.Touchscreen m ≡ Some (touching input_event.TouchDown touch x y) }
     ensures motion { (m : Raw) (touch x y : ℕ) → asked known.Touchscreen (codes "motion") m ≡ Some (Word touch ∷ Word x ∷ Word y ∷ [])
-        → input_to known.Touchscreen m ≡ Some (TouchMotion touch x y) }
-    ensures up { (m : Raw) (touch : ℕ) → asked known.Touchscreen (codes "up") m ≡ Some (Word touch ∷ []) → input_to known.Touchscreen m ≡ Some (TouchUp touch) }
+        → input_to known.Touchscreen m ≡ Some (touching input_event.TouchMotion touch x y) }
+    ensures up { (m : Raw) (touch : ℕ) → asked known.Touchscreen (codes "up") m ≡ Some (Word touch ∷ []) →
+        input_to known.Touchscreen m ≡ Some (input_event.TouchUp touch) }
     ensures cancel { (m : Raw) (touch : ℕ) → asked known.Touchscreen (codes "cancel") m ≡ Some (Word touch ∷ [])
-        → input_to known.Touchscreen m ≡ Some (TouchCancel touch) }
+        → input_to known.Touchscreen m ≡ Some (input_event.TouchCancel touch) }
     ensures keysym { (m : Raw) (keysym state : ℕ) → asked known.Text (codes "keysym") m ≡ Some (Word keysym ∷ Word state ∷ [])
-        → input_to known.Text m ≡ Some (TextKeysym keysym (key_of state)) }
+        → input_to known.Text m ≡ Some (input_event.TextKeysym keysym (key_of state)) }
     ensures utf8 { (m : Raw) (letters : List ℕ) → asked known.Text (codes "utf8") m ≡ Some (Letters letters ∷ [])
-        → input_to known.Text m ≡ Some (TextUtf8 letters) }
+        → input_to known.Text m ≡ Some (input_event.TextUtf8 letters) }
+    ensures swipe { (m : Raw) (fingers x y : ℕ) → asked known.Gesture (codes "swipe") m ≡
+        Some (Word fingers ∷ Word x ∷ Word y ∷ [])
+        → input_to known.Gesture m ≡ Some (touching input_event.GestureSwipe fingers x y) }
+    ensures pinch { (m : Raw) (scale : ℕ) → asked known.Gesture (codes "pinch") m ≡ Some (Word scale ∷ [])
+        → input_to known.Gesture m ≡ Some (input_event.GesturePinch (float scale)) }
 {}
 
 /// Why a message is refused, by what its target is.

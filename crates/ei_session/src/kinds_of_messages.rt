@@ -11,7 +11,8 @@ ghost use Rattle.ei_spec.specs.Groups.{with_frame};
 ghost use Rattle.ei_session.specs.Setup.{Setup, seat_id};
 ghost use Rattle.ei_session.specs.Asked.{asks};
 ghost use Rattle.ei_session.specs.Handshake.{connected, is_the_finish};
-ghost use Rattle.ei_session.specs.Inputs.{Input, DeviceInput};
+ghost use Rattle.ei_input.specs.declared.input_event.InputEvent.{InputEvent};
+ghost use Rattle.ei_session.specs.Inputs.{DeviceInput};
 ghost use Rattle.ei_session.specs.Devices.{seat_is_open, made, next_id, exhausts};
 ghost use Rattle.ei_session.specs.Objects.{Entry, object, interfaces_left, gone};
 ghost use Rattle.ei_session.specs.Serial.{steps, serial};
@@ -86,7 +87,7 @@ pub fn finish_message()
 
 /// What one more message gives, by its item.
 pub fn given_by_item()
-    ensures input { (setup : Setup) (readings : List ℕ) (before : List Raw) (m : Raw) (d : ℕ) (i : Input) →
+    ensures input { (setup : Setup) (readings : List ℕ) (before : List Raw) (m : Raw) (d : ℕ) (i : InputEvent) →
         item before m ≡ Some (Waits d i) →
         gives readings (each (slot setup) before) (slot setup before m) ≡ [] }
     ensures frame { (setup : Setup) (readings : List ℕ) (before : List Raw) (m : Raw) (d serial time : ℕ) →
@@ -107,7 +108,7 @@ pub fn given_by_item()
 
 /// How many frames are made with one more message, by its item: one where it closes a group that isn't empty.
 pub fn frames_made_by_item()
-    ensures input { (setup : Setup) (before : List Raw) (m : Raw) (d : ℕ) (i : Input) →
+    ensures input { (setup : Setup) (before : List Raw) (m : Raw) (d : ℕ) (i : InputEvent) →
         item before m ≡ Some (Waits d i) →
         frames_made (each (slot setup) (m ∷ before)) ≡ frames_made (each (slot setup) before) }
     ensures frame { (setup : Setup) (before : List Raw) (m : Raw) (d serial time : ℕ) →

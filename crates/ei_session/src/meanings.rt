@@ -12,7 +12,7 @@ ghost use Rattle.ei_spec.specs.Stream.{Accepted};
 ghost use Rattle.ei_session.specs.Setup.{Setup};
 ghost use Rattle.ei_session.specs.Arguments.{request_args};
 ghost use Rattle.ei_session.specs.Asked.{asked, asks};
-ghost use Rattle.ei_session.specs.Inputs.{Input, input_to};
+ghost use Rattle.ei_session.specs.Inputs.{input_to};
 ghost use Rattle.ei_session.specs.Meaning.{Meaning, Greets, Finishes, TellsContext, TellsName, TellsInterface};
 ghost use Rattle.ei_session.specs.Meaning.{Shakes, Syncs, Disconnects, Pongs, ReleasesSeat, Binds, RequestsDevice};
 ghost use Rattle.ei_session.specs.Meaning.{Closes, Starts, Stops, Frames, Readies, Releases, Inputs, Asks, meaning};

@@ -9,7 +9,7 @@ ghost use Rattle.ei_spec.specs.Message.{Raw};
 ghost use Rattle.ei_session.specs.Handshake.{Announced, announced, connected, settled};
 ghost use Rattle.ei_session.specs.SettledMap.{Versions, settled_map};
 
-/// The map has the version of each of the twelve interfaces that is settled, and no other key; and what a message
+/// The map has the version of each interface that is settled, and no other key; and what a message
 /// changes of it.
 pub fn settled_versions()
     ensures settled { (before : List Raw) (interface : KnownInterface) → interface ≢ known.Handshake →

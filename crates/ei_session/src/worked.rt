@@ -11,7 +11,8 @@ ghost use Rattle.ei_types.specs.declared.error.RequestError.TheVariants as reque
 ghost use Rattle.ei_types.specs.declared.enums.ButtonState.TheVariants as button_state;
 ghost use Rattle.ei_types.specs.declared.enums.KeyState.TheVariants as key_state;
 ghost use Rattle.ei_session.specs.Setup.{Setup, connection_id, seat_id};
-ghost use Rattle.ei_session.specs.Inputs.{Input, Button, KeyboardKey, PointerMotion, ScrollDiscrete, TouchDown, TouchMotion, TouchUp, TouchCancel};
+ghost use Rattle.ei_input.specs.declared.input_event.InputEvent.TheVariants as input_event;
+ghost use Rattle.ei_input.specs.Inputs.{float, floats, touching};
 ghost use Rattle.ei_session.specs.Refusals.{Handshake, Request, Parse, InvalidInterfaceVersion};
 ghost use Rattle.ei_session.specs.Requests.{Bind, DeviceClosed, DeviceStartEmulating, DeviceStopEmulating, Ready, Disconnect as Disconnects};
 ghost use Rattle.ei_session.specs.Served.{session, Disconnect, End, UnexpectedEof, PieceLimit, HandleLimit, Refused};
@@ -20,6 +21,7 @@ ghost use Rattle.ei_session.specs.Worked.{connected_with, disconnect, sync, call
 ghost use Rattle.ei_session.specs.Worked.{ready, release, destroyed, invalid_object, touch_down, touch_motion, touch_up, touch_cancel, sixteen_down};
 ghost use Rattle.ei_session.specs.Worked.{touchscreen_announced, three_announced, finish, longest_text, too_long_text, empty_text};
 ghost use Rattle.ei_session.specs.WorkedWhole.{all_setup, all_shaken, all_asked, all_connected, all_replied};
+ghost use Rattle.ei_session.specs.WorkedWhole.{gesture_setup, gestures_shaken, gestures_connected, gestures_asked};
 
 /// A handshake and a disconnect, whole and byte by byte.
 pub fn handshakes()
@@ -63,13 +65,16 @@ pub fn devices()
     ensures events { reply_bytes buttons (shaken ∷ bind 32 ∷ disconnect ∷ []) ≡ parts (connected_with 5 ∷ device_of_button ∷ resumed 6 ∷ []) }
     ensures requests { requests buttons [] (shaken ∷ bind 32 ∷ disconnect ∷ []) ≡ Plain (Bind seat_id 32) ∷ Plain Disconnects ∷ [] }
     ensures framed { requests buttons [] (shaken ∷ bind 32 ∷ press ∷ frame 6 9 ∷ frame 6 10 ∷ disconnect ∷ []) ≡
-        Plain (Bind seat_id 32) ∷ Timed device_id (Button 272 button_state.Press) 9 ∷ Framed device_id 6 9 ∷ Plain Disconnects ∷ [] }
+        Plain (Bind seat_id 32) ∷ Timed device_id (input_event.Button 272 button_state.Press) 9
+        ∷ Framed device_id 6 9 ∷ Plain Disconnects ∷ [] }
     ensures ready { requests buttons (77 ∷ []) (shaken ∷ bind 32 ∷ press ∷ ready ∷ disconnect ∷ []) ≡
-        Plain (Bind seat_id 32) ∷ Timed device_id (Button 272 button_state.Press) 77 ∷ Framed device_id 6 77 ∷ Plain
+        Plain (Bind seat_id 32) ∷ Timed device_id (input_event.Button 272 button_state.Press) 77
+        ∷ Framed device_id 6 77 ∷ Plain
         (Ready device_id) ∷ Plain Disconnects ∷ [] }
     ensures unframed { requests buttons [] (shaken ∷ bind 32 ∷ press ∷ disconnect ∷ []) ≡ Plain (Bind seat_id 32) ∷ Plain Disconnects ∷ [] }
     ensures closed { requests buttons (77 ∷ []) (shaken ∷ bind 32 ∷ press ∷ release interface_id ∷ release device_id ∷ disconnect ∷ []) ≡
-        Plain (Bind seat_id 32) ∷ Timed device_id (Button 272 button_state.Press) 77 ∷ Framed device_id 7 77 ∷ Plain
+        Plain (Bind seat_id 32) ∷ Timed device_id (input_event.Button 272 button_state.Press) 77
+        ∷ Framed device_id 7 77 ∷ Plain
         (DeviceClosed device_id) ∷ Plain Disconnects ∷ [] }
     ensures destroyed { reply_bytes buttons (shaken ∷ bind 32 ∷ press ∷ release interface_id ∷ release device_id ∷ disconnect ∷ []) ≡
         parts (connected_with 5 ∷ device_of_button ∷ resumed 6 ∷ destroyed interface_id 7 ∷ destroyed device_id 8 ∷ []) }
@@ -114,7 +119,8 @@ pub fn touches()
         ≡ Refused (InvalidInterfaceVersion (codes "ei_touchscreen") 1) }
     ensures unheard { requests (with_capabilities 8) []
         (touchscreen_announced ∷ shaken ∷ bind 8 ∷ touch_down 4 ∷ touch_motion 5 ∷ touch_up 4 ∷ touch_up 4 ∷ touch_cancel 4 ∷ frame 6 9 ∷ []) ≡
-        Plain (Bind seat_id 8) ∷ Timed device_id (TouchDown 4 0 0) 9 ∷ Timed device_id (TouchUp 4) 9 ∷ Framed device_id 6 9 ∷ [] }
+        Plain (Bind seat_id 8) ∷ Timed device_id (touching input_event.TouchDown 4 0 0) 9
+        ∷ Timed device_id (input_event.TouchUp 4) 9 ∷ Framed device_id 6 9 ∷ [] }
 {}
 
 /// Texts of 1 to 254 bytes.
@@ -124,7 +130,7 @@ pub fn texts()
     ensures empty { answer (with_capabilities 64) (shaken ∷ bind 64 ∷ empty_text ∷ []) ≡ Refused (Request request.InvalidTextLength) }
 {}
 
-/// A whole session of a client that has all interfaces.
+/// A whole session of a client that has the interfaces of the protocol.
 pub fn whole_session()
     ensures answer { answer all_setup (all_shaken ++ all_asked) ≡ Disconnect }
     ensures bytes_in { length (parts all_shaken) ≡ 524 }
@@ -134,13 +140,26 @@ pub fn whole_session()
     ensures requests { requests all_setup [] (all_shaken ++ all_asked) ≡
         Plain (Bind seat_id 127)
         ∷ Plain (DeviceStartEmulating device_id 2 1)
-        ∷ Timed device_id (KeyboardKey 30 key_state.Press) 1000
+        ∷ Timed device_id (input_event.KeyboardKey 30 key_state.Press) 1000
         ∷ Framed device_id 2 1000
-        ∷ Timed device_id (PointerMotion 0x3f800000 0xbf800000) 2000
-        ∷ Timed device_id (ScrollDiscrete (pos 0) (pos 120)) 2000
+        ∷ Timed device_id (floats input_event.PointerMotion 0x3f800000 0xbf800000) 2000
+        ∷ Timed device_id (input_event.ScrollDiscrete (pos 0) (pos 120)) 2000
         ∷ Framed device_id 2 2000
         ∷ Plain (DeviceStopEmulating device_id 2)
         ∷ Plain (DeviceClosed device_id)
         ∷ Plain Disconnects
+        ∷ [] }
+{}
+
+/// A client that has all interfaces, under all capabilities: no reply is longer than the one to its finish.
+pub fn gestures()
+    ensures answer { answer gesture_setup (gestures_shaken ++ gestures_asked) ≡ End }
+    ensures longest_reply { length gestures_connected ≡ 20 + 888 }
+    ensures replies { reply_bytes gesture_setup gestures_shaken ≡ gestures_connected }
+    ensures requests { requests gesture_setup [] (gestures_shaken ++ gestures_asked) ≡
+        Plain (Bind seat_id 128)
+        ∷ Timed device_id (touching input_event.GestureSwipe 3 0x3f800000 0) 9
+        ∷ Timed device_id (input_event.GesturePinch (float 0x40000000)) 9
+        ∷ Framed device_id 6 9
         ∷ [] }
 {}

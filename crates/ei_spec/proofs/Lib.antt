@@ -13,6 +13,11 @@ pub mod GroupsLaws
 pub mod Faults
 pub mod Handleless
 pub mod SameFault
+pub mod EachInterface
+pub mod NameLaws
+pub mod PlaceLaws
+pub mod NameMaps
+pub mod QuietRows
 pub mod TableLaws
 pub mod WrittenRows
 pub mod Cuts

@@ -4,7 +4,7 @@ use Rattle.std.specs.List.{find}
 use Rattle.std.specs.Str.{bytes_eq}
 use Rattle.std.proofs.lemmas.Slice.Eq.{bytes_eq-Decides}
 use Rattle.ei_spec.specs.declared.interface.KnownInterface.{KnownInterface}
-use Rattle.ei_spec.specs.Interface.{name_of, known_of, is_called, is_long, the_thirteen}
+use Rattle.ei_spec.specs.Interface.{name_of, known_of, is_called, is_long, the_interfaces}
 
 not_called : (q : List ℕ) (i : KnownInterface) → is_long (length q) i ≡ false → is_called q i ≡ false
 not_called q i e = by (bytes_eq q (name_of i)) refl
@@ -22,6 +22,6 @@ found_among q (i ∷ is) = by (is_long (length q) i) refl (found_among q is)
     by false e next = rw (e, not_called q i e) next
 
 -- the interface of a name
-pub known_among : (q : List ℕ) → find (is_called q) (filter (is_long (length q)) the_thirteen) ≡ known_of q
+pub known_among : (q : List ℕ) → find (is_called q) (filter (is_long (length q)) the_interfaces) ≡ known_of q
 unfolding known_of
-known_among q = found_among q the_thirteen
+known_among q = found_among q the_interfaces

@@ -1,18 +1,19 @@
 -- A message of the table has at most one handle. With one it announces nothing, and has at least 24 bytes.
-use Rattle.std.proofs.Common.{◌≡◌, ℕ, ◌+◌, ◌≤◌, Bool, true, false, cond, eqb, leb, ◌&&◌, ◌||◌, ◌⊎◌, inl, inr, List, [], ◌∷◌, ◌++◌, length, Some, refl, sym, ap}
+use Rattle.std.proofs.Common.{◌≡◌, ℕ, ◌+◌, ◌≤◌, Bool, true, false, eqb, leb, ◌&&◌, ◌||◌, ◌⊎◌, inl, inr, List, [], ◌∷◌, ◌++◌, length, Some, refl}
 use Rattle.std.proofs.Common.{◌∙◌, length-append, arith}
 use Rattle.std.specs.Prelude.{replicate}
 use Rattle.std.specs.Int.{w32, to_le_bytes}
 use Rattle.std.specs.List.{flat_map, list_all}
 use Rattle.std.proofs.lemmas.Bool.{eqb-true, leb-true, or_cases, and_parts}
-use Rattle.std.proofs.lemmas.Option.{same_Some}
 use Rattle.ei_spec.specs.declared.interface.KnownInterface.{KnownInterface}
-use Rattle.ei_spec.specs.declared.interface.KnownInterface.TheVariants as known
 use Rattle.ei_spec.specs.Value.{Kind, U32, I32, U64, I64, Float, Text, Nullable, Handle, New, Choice, OpenChoice, Value, Word, Long, Signed, SignedLong}
 use Rattle.ei_spec.specs.Value.{Letters, Null, Fd, IsOf, written, handles_of, padding}
-use Rattle.ei_spec.specs.Rows.{Row, Announces, Nothing, Fixed, Named, row_at}
+use Rattle.ei_spec.specs.Rows.{Row, Nothing, row_at}
+use Rattle.ei_spec.specs.Interface.{the_interfaces}
 use Rattle.ei_spec.specs.Table.{table}
 use Rattle.ei_spec.specs.Arguments.{AreOf, HasFewHandles}
+use Rattle.ei_spec.proofs.EachInterface.{each_row, of_each_row}
+use Rattle.ei_spec.proofs.QuietRows.{is_nothing, nothing_is}
 
 abbrev handles_as : Kind → ℕ
 handles_as Handle = 1
@@ -33,50 +34,8 @@ abbrev bytes_by : List Kind → ℕ
 bytes_by [] = 0
 bytes_by (k ∷ ks) = bytes_as k + bytes_by ks
 
-abbrev is_nothing : Announces → Bool
-is_nothing Nothing = true
-is_nothing _ = false
-
 abbrev few : Row → Bool
 few r = eqb (handles_by r.kinds) 0 || (eqb (handles_by r.kinds) 1 && (is_nothing r.announces && leb 8 (bytes_by r.kinds)))
-
-all_few : (events : Bool) (interface : KnownInterface) → list_all (λ (x : ℕ × Row). few x.1) (table events interface) ≡ true
-all_few false known.Handshake = refl
-all_few false known.Connection = refl
-all_few false known.Callback = refl
-all_few false known.Pingpong = refl
-all_few false known.Seat = refl
-all_few false known.Device = refl
-all_few false known.Pointer = refl
-all_few false known.PointerAbsolute = refl
-all_few false known.Scroll = refl
-all_few false known.Button = refl
-all_few false known.Keyboard = refl
-all_few false known.Touchscreen = refl
-all_few false known.Text = refl
-all_few true known.Handshake = refl
-all_few true known.Connection = refl
-all_few true known.Callback = refl
-all_few true known.Pingpong = refl
-all_few true known.Seat = refl
-all_few true known.Device = refl
-all_few true known.Pointer = refl
-all_few true known.PointerAbsolute = refl
-all_few true known.Scroll = refl
-all_few true known.Button = refl
-all_few true known.Keyboard = refl
-all_few true known.Touchscreen = refl
-all_few true known.Text = refl
-
-few_head : (b : Bool) (opcode : ℕ) (x : ℕ × Row) (xs : List (ℕ × Row)) (r : Row) → few x.1 ≡ true → (row_at opcode xs ≡ Some r → few r ≡ true) → cond b (Some x.1) (row_at opcode xs) ≡ Some r → few r ≡ true
-few_head true opcode x xs r h rest e = let same : x.1 ≡ r = same_Some x.1 r e in ap few (sym same) ∙ h
-few_head false opcode x xs r h rest e = rest e
-
-few_at : (opcode : ℕ) (rows : List (ℕ × Row)) (r : Row) → list_all (λ (x : ℕ × Row). few x.1) rows ≡ true → row_at opcode rows ≡ Some r → few r ≡ true
-few_at opcode [] r h e = absurd cc
-few_at opcode (x ∷ xs) r h e =
-    let parts = and_parts (few x.1) (list_all (λ (y : ℕ × Row). few y.1) xs) h in
-    few_head (eqb opcode x.0) opcode x xs r parts.0 (few_at opcode xs r parts.1) e
 
 -- ---- values
 
@@ -150,11 +109,6 @@ all_bytes (k ∷ ks) (v ∷ vs) h = omega (arith, length-append (written v) (fla
 
 -- ---- a message
 
-nothing_is : (a : Announces) → is_nothing a ≡ true → a ≡ Nothing
-nothing_is Nothing e = refl
-nothing_is (Fixed k) e = absurd cc
-nothing_is Named e = absurd cc
-
 few_cases : (r : Row) → few r ≡ true → (handles_by r.kinds ≡ 0) ⊎ ((handles_by r.kinds ≡ 1) × (r.announces ≡ Nothing) × (8 ≤ bytes_by r.kinds))
 few_cases r e = elim (or_cases _ _ e) [
   | inl p ↦ inl (eqb-true _ 0 p)
@@ -165,7 +119,11 @@ few_cases r e = elim (or_cases _ _ e) [
 ]
 
 few_row : (events : Bool) (interface : KnownInterface) (opcode : ℕ) (r : Row) → row_at opcode (table events interface) ≡ Some r → few r ≡ true
-few_row events interface opcode r e = few_at opcode (table events interface) r (all_few events interface) e
+few_row events interface opcode r e = of_each_row (λ k n r. few r) events (computed events) interface opcode r e
+  where
+    computed : (events : Bool) → list_all (each_row (λ k n r. few r) events) the_interfaces ≡ true
+    computed false = refl
+    computed true = refl
 
 pub few_handles : (events : Bool) (interface : KnownInterface) (opcode : ℕ) (r : Row) (values : List Value) → row_at opcode (table events interface) ≡ Some r → AreOf r.kinds values → HasFewHandles values
 few_handles events interface opcode r values row are =

@@ -1,13 +1,16 @@
 -- A row that is found by its name is the row of its opcode.
 use Rattle.std.proofs.Common.{◌≡◌, ℕ, ◌+◌, ◌<◌, ◌≤◌, Bool, true, false, cond, List, [], ◌∷◌, length, map, Option, Some, refl, sym, ap, ◌∙◌, inl, inr, arith}
-use Rattle.std.proofs.Common.{lit≤}
-use Rattle.std.specs.List.{range_with_len}
+use Rattle.std.proofs.Common.{leb}
+use Rattle.std.specs.List.{range_with_len, list_all}
 use Rattle.std.specs.Str.{bytes_eq}
+use Rattle.std.proofs.lemmas.Bool.{leb-true}
 use Rattle.std.proofs.lemmas.Bool.Decides.{eqb_tells}
 use Rattle.ei_spec.specs.declared.interface.KnownInterface.{KnownInterface}
-use Rattle.ei_spec.specs.declared.interface.KnownInterface.TheVariants as known
+use Rattle.ei_spec.specs.declared.limits.TheConstants.{MOST_OPCODES}
+use Rattle.ei_spec.specs.Interface.{the_interfaces}
 use Rattle.ei_spec.specs.Rows.{Row, row_at, row_named}
 use Rattle.ei_spec.specs.Table.{table}
+use Rattle.ei_spec.proofs.EachInterface.{of_each}
 use Rattle.ei_spec.proofs.TableLaws.{in_order}
 
 -- the opcodes rise by one from n on
@@ -42,35 +45,14 @@ by_name : (name : List ℕ) (rows : List (ℕ × Row)) (n : ℕ) (r : ℕ × Row
 by_name name [] n r up is = absurd cc
 by_name name (x ∷ xs) n r up is = by_name_at (bytes_eq name x.1.name) (row_named name xs) n x xs r up.0 is (by_name name xs (n + 1) r up.1)
 
-few : (events : Bool) (interface : KnownInterface) → length (table events interface) ≤ 13
-few false known.Handshake = lit≤ tt
-few false known.Connection = lit≤ tt
-few false known.Callback = lit≤ tt
-few false known.Pingpong = lit≤ tt
-few false known.Seat = lit≤ tt
-few false known.Device = lit≤ tt
-few false known.Pointer = lit≤ tt
-few false known.PointerAbsolute = lit≤ tt
-few false known.Scroll = lit≤ tt
-few false known.Button = lit≤ tt
-few false known.Keyboard = lit≤ tt
-few false known.Touchscreen = lit≤ tt
-few false known.Text = lit≤ tt
-few true known.Handshake = lit≤ tt
-few true known.Connection = lit≤ tt
-few true known.Callback = lit≤ tt
-few true known.Pingpong = lit≤ tt
-few true known.Seat = lit≤ tt
-few true known.Device = lit≤ tt
-few true known.Pointer = lit≤ tt
-few true known.PointerAbsolute = lit≤ tt
-few true known.Scroll = lit≤ tt
-few true known.Button = lit≤ tt
-few true known.Keyboard = lit≤ tt
-few true known.Touchscreen = lit≤ tt
-few true known.Text = lit≤ tt
+few : (events : Bool) (interface : KnownInterface) → length (table events interface) ≤ MOST_OPCODES
+few events interface = leb-true _ MOST_OPCODES (of_each (λ (i : KnownInterface). leb (length (table events i)) MOST_OPCODES) (computed events) interface)
+  where
+    computed : (events : Bool) → list_all (λ (i : KnownInterface). leb (length (table events i)) MOST_OPCODES) the_interfaces ≡ true
+    computed false = refl
+    computed true = refl
 
-pub row_of_name : (events : Bool) (interface : KnownInterface) (name : List ℕ) (r : ℕ × Row) → row_named name (table events interface) ≡ Some r → (r.0 < 13) × (row_at r.0 (table events interface) ≡ Some r.1)
+pub row_of_name : (events : Bool) (interface : KnownInterface) (name : List ℕ) (r : ℕ × Row) → row_named name (table events interface) ≡ Some r → (r.0 < MOST_OPCODES) × (row_at r.0 (table events interface) ≡ Some r.1)
 row_of_name events interface name r is =
     let there = by_name name (table events interface) 0 r (rises 0 (table events interface) (in_order events interface)) is in
     (omega (arith, there.1, few events interface), there.2)

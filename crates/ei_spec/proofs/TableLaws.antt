@@ -1,54 +1,22 @@
 -- The table's opcodes and names differ.
-use Rattle.std.proofs.Common.{◌≡◌, ℕ, Bool, true, false, cond, ◌||◌, List, [], ◌∷◌, length, refl, arith}
-use Rattle.std.specs.List.{IsDistinct, AllByRecursion, list_any, range_with_len, Contains}
+use Rattle.std.proofs.Common.{◌≡◌, ℕ, Bool, true, false, cond, ◌||◌, List, [], ◌∷◌, length, refl}
+use Rattle.std.specs.List.{IsDistinct, AllByRecursion, list_any, list_all, range_with_len}
 use Rattle.std.specs.Str.{bytes_eq}
+use Rattle.std.proofs.lemmas.Slice.Eq.{bytes_eq-Decides}
 use Rattle.ei_spec.specs.declared.interface.KnownInterface.{KnownInterface}
-use Rattle.ei_spec.specs.declared.interface.KnownInterface.TheVariants as known
-use Rattle.ei_spec.specs.Interface.{the_thirteen}
+use Rattle.ei_spec.specs.Interface.{the_interfaces}
 use Rattle.ei_spec.specs.Table.{table, opcodes, names}
+use Rattle.ei_spec.proofs.EachInterface.{of_each}
 
-pub interfaces : (interface : KnownInterface) → Contains the_thirteen interface
-interfaces known.Handshake = (0, omega arith, refl)
-interfaces known.Connection = (1, omega arith, refl)
-interfaces known.Callback = (2, omega arith, refl)
-interfaces known.Pingpong = (3, omega arith, refl)
-interfaces known.Seat = (4, omega arith, refl)
-interfaces known.Device = (5, omega arith, refl)
-interfaces known.Pointer = (6, omega arith, refl)
-interfaces known.PointerAbsolute = (7, omega arith, refl)
-interfaces known.Scroll = (8, omega arith, refl)
-interfaces known.Button = (9, omega arith, refl)
-interfaces known.Keyboard = (10, omega arith, refl)
-interfaces known.Touchscreen = (11, omega arith, refl)
-interfaces known.Text = (12, omega arith, refl)
+abbrev are_in_order : Bool → KnownInterface → Bool
+are_in_order events interface = bytes_eq (opcodes events interface) (range_with_len 0 (length (table events interface)))
 
 pub in_order : (events : Bool) (interface : KnownInterface) → opcodes events interface ≡ range_with_len 0 (length (table events interface))
-in_order false known.Handshake = refl
-in_order false known.Connection = refl
-in_order false known.Callback = refl
-in_order false known.Pingpong = refl
-in_order false known.Seat = refl
-in_order false known.Device = refl
-in_order false known.Pointer = refl
-in_order false known.PointerAbsolute = refl
-in_order false known.Scroll = refl
-in_order false known.Button = refl
-in_order false known.Keyboard = refl
-in_order false known.Touchscreen = refl
-in_order false known.Text = refl
-in_order true known.Handshake = refl
-in_order true known.Connection = refl
-in_order true known.Callback = refl
-in_order true known.Pingpong = refl
-in_order true known.Seat = refl
-in_order true known.Device = refl
-in_order true known.Pointer = refl
-in_order true known.PointerAbsolute = refl
-in_order true known.Scroll = refl
-in_order true known.Button = refl
-in_order true known.Keyboard = refl
-in_order true known.Touchscreen = refl
-in_order true known.Text = refl
+in_order events interface = (bytes_eq-Decides _ _).0 (of_each (are_in_order events) (computed events) interface)
+  where
+    computed : (events : Bool) → list_all (are_in_order events) the_interfaces ≡ true
+    computed false = refl
+    computed true = refl
 
 -- ---- names
 
@@ -75,32 +43,8 @@ distinct [] h = tt
 distinct (x ∷ xs) h = let two = distinct_head x xs (list_any (bytes_eq x) xs) refl h in (none_equal x xs two.0, distinct xs two.1)
 
 pub names_differ : (events : Bool) (interface : KnownInterface) → IsDistinct bytes_eq (names events interface)
-names_differ events interface = distinct (names events interface) (computed events interface)
+names_differ events interface = distinct (names events interface) (of_each (λ (i : KnownInterface). no_twice (names events i)) (computed events) interface)
   where
-    computed : (events : Bool) (interface : KnownInterface) → no_twice (names events interface) ≡ true
-    computed false known.Handshake = refl
-    computed false known.Connection = refl
-    computed false known.Callback = refl
-    computed false known.Pingpong = refl
-    computed false known.Seat = refl
-    computed false known.Device = refl
-    computed false known.Pointer = refl
-    computed false known.PointerAbsolute = refl
-    computed false known.Scroll = refl
-    computed false known.Button = refl
-    computed false known.Keyboard = refl
-    computed false known.Touchscreen = refl
-    computed false known.Text = refl
-    computed true known.Handshake = refl
-    computed true known.Connection = refl
-    computed true known.Callback = refl
-    computed true known.Pingpong = refl
-    computed true known.Seat = refl
-    computed true known.Device = refl
-    computed true known.Pointer = refl
-    computed true known.PointerAbsolute = refl
-    computed true known.Scroll = refl
-    computed true known.Button = refl
-    computed true known.Keyboard = refl
-    computed true known.Touchscreen = refl
-    computed true known.Text = refl
+    computed : (events : Bool) → list_all (λ (i : KnownInterface). no_twice (names events i)) the_interfaces ≡ true
+    computed false = refl
+    computed true = refl

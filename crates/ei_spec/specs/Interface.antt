@@ -1,10 +1,10 @@
 -- The interfaces: their names, their versions, and objects of them.
 use Rattle.std.specs.Prelude.{ℕ, Bool, List, [], ◌∷◌, Option, Some, None, codes, length, ◌==◌}
 use Rattle.std.specs.Str.{bytes_eq}
-use Rattle.std.specs.List.{find}
+use Rattle.std.specs.List.{find, position_or_len}
 use Rattle.ei_spec.specs.declared.interface.KnownInterface.{KnownInterface}
 use Rattle.ei_spec.specs.declared.interface.KnownInterface.TheVariants.{Handshake, Connection, Callback, Pingpong, Seat, Device, Pointer, PointerAbsolute}
-use Rattle.ei_spec.specs.declared.interface.KnownInterface.TheVariants.{Scroll, Button, Keyboard, Touchscreen, Text}
+use Rattle.ei_spec.specs.declared.interface.KnownInterface.TheVariants.{Scroll, Button, Keyboard, Touchscreen, Text, Gesture}
 
 -- an interface by its name: one of the protocol, or another
 pub data Interface : Type 0 where
@@ -47,14 +47,16 @@ about Button = capability (codes "ei_button") (codes "button") 1 32
 about Keyboard = capability (codes "ei_keyboard") (codes "keyboard") 1 4
 about Touchscreen = capability (codes "ei_touchscreen") (codes "touchscreen") 2 8
 about Text = capability (codes "ei_text") (codes "text") 1 64
+-- of this library's own
+about Gesture = capability (codes "ei_x_gesture") (codes "x_gesture") 1 128
 
--- the twelve interfaces that a handshake settles, in the order in which they are announced
-abbrev pub the_twelve : List KnownInterface
-the_twelve = Connection ∷ Callback ∷ Pingpong ∷ Seat ∷ Device ∷ Pointer ∷ PointerAbsolute ∷ Scroll ∷ Button ∷ Keyboard ∷ Touchscreen ∷ Text ∷ []
+-- the interfaces that a handshake settles, in the order in which they are announced
+abbrev pub the_settled : List KnownInterface
+the_settled = Connection ∷ Callback ∷ Pingpong ∷ Seat ∷ Device ∷ Pointer ∷ PointerAbsolute ∷ Scroll ∷ Button ∷ Keyboard ∷ Touchscreen ∷ Text ∷ Gesture ∷ []
 
--- all thirteen: that of the handshake, and the twelve that it settles
-abbrev pub the_thirteen : List KnownInterface
-the_thirteen = Handshake ∷ the_twelve
+-- all of them: that of the handshake, and those that it settles
+abbrev pub the_interfaces : List KnownInterface
+the_interfaces = Handshake ∷ the_settled
 
 -- the name on the wire
 abbrev pub name_of : KnownInterface → List ℕ
@@ -72,13 +74,17 @@ server_version interface = (about interface).version
 abbrev pub is_called : List ℕ → KnownInterface → Bool
 is_called name interface = bytes_eq name (name_of interface)
 
+-- the place of an interface in the list of all
+abbrev pub place_of : KnownInterface → ℕ
+place_of interface = position_or_len (is_called (name_of interface)) the_interfaces
+
 -- whether an interface's name has so many bytes
 abbrev pub is_long : ℕ → KnownInterface → Bool
 is_long len interface = length (name_of interface) == len
 
 -- the interface of a name
 unfoldable pub known_of : List ℕ → Option KnownInterface
-known_of name = find (is_called name) the_thirteen
+known_of name = find (is_called name) the_interfaces
 
 abbrev pub named_as : List ℕ → Option KnownInterface → Interface
 named_as n (Some k) = Known k

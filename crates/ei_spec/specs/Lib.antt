@@ -1,4 +1,5 @@
 pub mod Interface
+pub mod NameMap
 pub mod Value
 pub mod Reading
 pub mod Spelling

@@ -1,9 +1,9 @@
--- The table of all messages of the protocol, a line for each: 36 requests and 48 events. Everything else is checked against it.
+-- The table of all messages of the protocol, a line for each. Everything else is checked against it.
 use Rattle.std.specs.Prelude.{ℕ, Bool, true, false, List, [], ◌∷◌, map, length, codes}
 use Rattle.std.specs.List.{sum_by}
 use Rattle.ei_spec.specs.Value.{Kind, U32, I32, U64, Float, Text, Nullable, Handle, New, Choice, OpenChoice}
 use Rattle.ei_spec.specs.Rows.{Row, row, destructor, announcing, handing_over, Fixed, Named}
-use Rattle.ei_spec.specs.Interface.{the_thirteen}
+use Rattle.ei_spec.specs.Interface.{the_interfaces}
 use Rattle.ei_spec.specs.declared.interface.KnownInterface.{KnownInterface}
 use Rattle.ei_spec.specs.declared.interface.KnownInterface.TheVariants as known
 
@@ -114,6 +114,14 @@ keysym = row (codes "keysym") (U32 ∷ key_state ∷ [])
 -- text
 abbrev pub utf8 : Row
 utf8 = row (codes "utf8") (Text ∷ [])
+
+-- fingers, x, y
+abbrev pub swipe : Row
+swipe = row (codes "swipe") (U32 ∷ Float ∷ Float ∷ [])
+
+-- scale
+abbrev pub pinch : Row
+pinch = row (codes "pinch") (Float ∷ [])
 
 -- ---- the table
 
@@ -253,12 +261,23 @@ table true known.Text =
     ∷ (1, keysym)
     ∷ (2, utf8)
     ∷ []
+-- of this library's own
+table false known.Gesture =
+    (0, release)
+    ∷ (1, swipe)
+    ∷ (2, pinch)
+    ∷ []
+table true known.Gesture =
+    (0, destroyed)
+    ∷ (1, swipe)
+    ∷ (2, pinch)
+    ∷ []
 
 -- ---- how many there are
 
 -- how many messages the table has of one end
 abbrev pub count : Bool → ℕ
-count events = sum_by (λ interface. length (table events interface)) the_thirteen
+count events = sum_by (λ interface. length (table events interface)) the_interfaces
 
 -- the opcodes of the messages to an interface
 abbrev pub opcodes : Bool → KnownInterface → List ℕ

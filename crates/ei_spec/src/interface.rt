@@ -1,9 +1,11 @@
 //! The interfaces of the protocol.
 
-ghost use Rattle.std.specs.Prelude.{◌≡◌, filter};
+ghost use Rattle.std.specs.Prelude.{◌≡◌, ◌<◌, filter};
 ghost use Rattle.std.specs.Option.{option_copied};
 ghost use Rattle.std.specs.List.{find};
-ghost use Rattle.ei_spec.specs.Interface.{name_of, known_of, is_called, is_long, the_thirteen};
+ghost use Rattle.ei_spec.specs.Interface.{name_of, known_of, is_called, is_long, place_of, the_interfaces};
+
+use crate::limits::INTERFACES;
 
 /// An interface of the protocol.
 #[derive(Clone, Copy, Debug, PartialEq, Eq, Hash)]
@@ -21,11 +23,13 @@ pub enum KnownInterface {
     Keyboard,
     Touchscreen,
     Text,
+    /// Gestures of several fingers: an interface of this library's own.
+    Gesture,
 }
 
 impl KnownInterface {
-    /// All of them: that of the handshake, and the twelve that it settles, in the order in which they are announced.
-    pub const ALL: [KnownInterface; 13] = [
+    /// All of them: that of the handshake, and those that it settles, in the order in which they are announced.
+    pub const ALL: [KnownInterface; INTERFACES] = [
         KnownInterface::Handshake,
         KnownInterface::Connection,
         KnownInterface::Callback,
@@ -39,6 +43,7 @@ impl KnownInterface {
         KnownInterface::Keyboard,
         KnownInterface::Touchscreen,
         KnownInterface::Text,
+        KnownInterface::Gesture,
     ];
 
     /// The name on the wire, as `ei_seat`.
@@ -59,6 +64,7 @@ impl KnownInterface {
             KnownInterface::Keyboard => "ei_keyboard",
             KnownInterface::Touchscreen => "ei_touchscreen",
             KnownInterface::Text => "ei_text",
+            KnownInterface::Gesture => "ei_x_gesture",
         }
     }
 
@@ -75,11 +81,20 @@ impl KnownInterface {
     {
         first_named(of_length(name.len()), name).copied()
     }
+
+    /// The place in `ALL`.
+    pub fn place(self) -> usize
+        ensures value { result ≡ place_of self }
+        ensures within { result < INTERFACES }
+        ensures listed { Self.ALL ≡ the_interfaces }
+    {
+        self as usize
+    }
 }
 
 /// The interfaces whose names have so many bytes.
 fn of_length(len: usize) -> &'static [KnownInterface]
-    ensures { result.now ≡ filter (is_long len) the_thirteen }
+    ensures { result.now ≡ filter (is_long len) the_interfaces }
 {
     match len {
         7 => &[KnownInterface::Seat, KnownInterface::Text],
@@ -94,7 +109,7 @@ fn of_length(len: usize) -> &'static [KnownInterface]
             KnownInterface::Pingpong,
             KnownInterface::Keyboard,
         ],
-        12 => &[KnownInterface::Handshake],
+        12 => &[KnownInterface::Handshake, KnownInterface::Gesture],
         13 => &[KnownInterface::Connection],
         14 => &[KnownInterface::Touchscreen],
         19 => &[KnownInterface::PointerAbsolute],

@@ -3,19 +3,22 @@
 ghost use Rattle.std.specs.Prelude.{◌≡◌, ◌≢◌, ℕ, ◌<◌, ◌≤◌, ◌⊎◌, ◌++◌, [], ◌∷◌, drop, ◌==◌, if◌then◌else◌, List, Bool, true, false, Some, None, Ok, Err, length};
 ghost use Rattle.std.specs.Prelude.{nat_eq};
 ghost use Rattle.std.specs.List.{IsDistinct, range_with_len, Contains, list_any, flat_map};
-ghost use Rattle.std.specs.Str.{bytes_eq};
+ghost use Rattle.std.specs.Prelude.{◌^◌, slice_get};
+ghost use Rattle.std.specs.Str.{bytes_eq, is_utf8};
 ghost use Rattle.ei_spec.specs.declared.handle.Handle.{Handle};
 ghost use Rattle.ei_spec.specs.declared.interface.KnownInterface.{KnownInterface};
 ghost use Rattle.ei_spec.specs.Value.{Kind, U32, Choice, OpenChoice, Value, Word, IsOf, written, handles_of};
 ghost use Rattle.ei_spec.specs.Reading.{Unread, Fault, NoFd, InvalidVariant, read, all_at};
 ghost use Rattle.ei_spec.specs.Spelling.{Begins, Follows, AllBegin};
-ghost use Rattle.ei_spec.specs.Interface.{the_thirteen};
+ghost use Rattle.ei_spec.specs.Interface.{name_of, known_of, server_version, place_of, the_settled, the_interfaces};
 ghost use Rattle.ei_spec.specs.Arguments.{AreOf, HasFewHandles, before_values, behind_values};
 ghost use Rattle.ei_spec.specs.Rows.{Row, Nothing, row_at, row_named};
 ghost use Rattle.ei_spec.specs.Table.{table, opcodes, names, count};
 ghost use Rattle.ei_spec.specs.Groups.{Slot, Given, Input, Frame, Other, Free, group, gives, grouped, frames_made};
 ghost use Rattle.ei_spec.specs.History.{lasts, HasLasted};
 ghost use Rattle.ei_spec.specs.Message.{Raw, IsLawful, IsBytes, size, bytes_of, front, Short, Whole};
+
+use crate::limits::{INTERFACES, MOST_NAME_BYTES, MOST_OPCODES, SETTLED_INTERFACES};
 
 /// What is spelled is read, whatever follows it, and what is refused isn't spelled.
 pub fn spelling()
@@ -60,21 +63,35 @@ pub fn messages()
     ensures short { (bytes : List ℕ) → front bytes ≡ Short → length bytes < 1048576 }
 {}
 
-/// The table of all messages has 36 requests and 48 events, of each interface by opcodes from 0 on and by
+/// The table of all messages has so many requests and events, of each interface by opcodes from 0 on and by
 /// names that differ. A message has at most one handle, and one that announces an object has none.
 pub fn all_messages()
-    ensures interfaces { (interface : KnownInterface) → Contains the_thirteen interface }
-    ensures requests { count false ≡ 36 }
-    ensures events { count true ≡ 48 }
+    ensures interfaces { (interface : KnownInterface) → Contains the_interfaces interface }
+    ensures requests { count false ≡ 39 }
+    ensures events { count true ≡ 51 }
     ensures opcodes { (events : Bool) (interface : KnownInterface) → opcodes events interface ≡ range_with_len 0 (length (table events interface)) }
     ensures names { (events : Bool) (interface : KnownInterface) → IsDistinct bytes_eq (names events interface) }
     ensures by_name { (events : Bool) (interface : KnownInterface) (name : List ℕ) (r : ℕ × Row) → row_named name (table events interface) ≡ Some r →
-        (r.0 < 13) × (row_at r.0 (table events interface) ≡ Some r.1) }
+        (r.0 < MOST_OPCODES) × (row_at r.0 (table events interface) ≡ Some r.1) }
     // handles
     ensures handles { (events : Bool) (interface : KnownInterface) (opcode : ℕ) (r : Row) (values : List Value) →
         row_at opcode (table events interface) ≡ Some r → AreOf r.kinds values → HasFewHandles values }
     ensures announcing { (events : Bool) (interface : KnownInterface) (opcode : ℕ) (r : Row) (values : List Value) →
         row_at opcode (table events interface) ≡ Some r → AreOf r.kinds values → (length (flat_map handles_of values) ≡ 0) ⊎ (r.announces ≡ Nothing) }
+{}
+
+/// The names of the interfaces differ, and each is a short text. Each interface has a place of its own in the list of
+/// all, and its version fits a message.
+pub fn all_interfaces()
+    ensures settled { length the_settled ≡ SETTLED_INTERFACES }
+    ensures all { length the_interfaces ≡ INTERFACES }
+    ensures names { (interface : KnownInterface) → known_of (name_of interface) ≡ Some interface }
+    ensures named { (name : List ℕ) (interface : KnownInterface) → known_of name ≡ Some interface →
+        name ≡ name_of interface }
+    ensures texts { (interface : KnownInterface) → is_utf8 (name_of interface) ≡ true }
+    ensures short { (interface : KnownInterface) → length (name_of interface) ≤ MOST_NAME_BYTES }
+    ensures places { (interface : KnownInterface) → slice_get the_interfaces (place_of interface) ≡ Some interface }
+    ensures versions { (interface : KnownInterface) → server_version interface < 2 ^ 32 }
 {}
 
 /// What lasts was started at a position, and no later one ended it.

@@ -20,3 +20,21 @@ pub const MOST_TEXT_BYTES: usize = 254;
 
 /// The first id of a server; a client's ids lie below it (the protocol).
 pub const FIRST_SERVER_ID: u64 = 0xff00000000000000;
+
+/// How many interfaces a handshake settles.
+pub const SETTLED_INTERFACES: usize = 13;
+
+/// How many interfaces there are: that of the handshake, and those that it settles.
+pub const INTERFACES: usize = SETTLED_INTERFACES + 1;
+
+/// The most bytes of an interface's name.
+pub const MOST_NAME_BYTES: usize = 19;
+
+/// The most messages of one end to the objects of an interface.
+pub const MOST_OPCODES: usize = 13;
+
+/// How many interfaces stand for a capability of a device.
+pub const CAPABILITIES: usize = 8;
+
+/// The bits of all capabilities.
+pub const ALL_CAPABILITIES: u64 = (1 << CAPABILITIES) - 1;

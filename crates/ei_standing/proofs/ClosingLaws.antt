@@ -7,7 +7,7 @@ use Rattle.ei_spec.specs.Message.{Raw}
 use Rattle.ei_spec.specs.History.{each}
 use Rattle.ei_spec.specs.Groups.{Other, Plain as Given, group, frames_made, gives, with_frame}
 use Rattle.ei_session.specs.Setup.{Setup}
-use Rattle.ei_session.specs.Inputs.{Input as Asked}
+use Rattle.ei_input.specs.declared.input_event.InputEvent.{InputEvent}
 use Rattle.ei_session.specs.Meaning.{Meaning, Starts, Stops, Readies, meaning}
 use Rattle.ei_session.specs.ByMeaning.{of_interface, releases, input_in, item_for}
 use Rattle.ei_session.specs.AnsweredByMeaning.{reply_for}
@@ -25,14 +25,14 @@ use Rattle.ei_request.specs.Keys.{DeviceKey}
 use Rattle.ei_request.specs.Held.{DeviceView, is_device, changed_first, emptied, group_requests}
 use Rattle.ei_request.specs.Converter.{ConverterView}
 use Rattle.ei_request.specs.Handling.{closes, device_in, handled, start_of, stop_of, ready_of}
-use Rattle.ei_standing.specs.Standing.{device_of, inputs_of, IsDevice, AreDevices, IsHeld, TookOne, plain_in_code, request_in_code, used_by}
+use Rattle.ei_standing.specs.Standing.{device_of, IsDevice, AreDevices, IsHeld, TookOne, plain_in_code, request_in_code, used_by}
 use Rattle.ei_standing.proofs.HeldPlainly.{keeps_itself, held_plainly, not_zero, same_name, device_synced}
 use Rattle.ei_standing.proofs.ToDevices.{There, releases_so, item_so, input_so, reply_so, device_itself, held_there}
 use Rattle.ei_standing.proofs.FrameLaw.{devices_emptied, group_as, waits_there, quiet_bytes}
 
 -- ---- the reading of a made frame
 
-pub used_length : (g : List Asked) (time : ℕ) → length (used_by g time) ≡ frames_for g
+pub used_length : (g : List InputEvent) (time : ℕ) → length (used_by g time) ≡ frames_for g
 used_length [] time = refl
 used_length (x ∷ g) time = refl
 
@@ -40,8 +40,8 @@ next_reading : (readings later : List ℕ) (time : ℕ) → slice_index ((readin
 next_reading [] later time = refl
 next_reading (x ∷ readings) later time = next_reading readings later time
 
-group_out : (past : List Raw) (d s time : ℕ) (readings later : List ℕ) (n : ℕ) (g : List Asked) → length readings ≡ n →
-    group_requests (device_of past d) (inputs_of g) s time ≡ map (request_in_code past) (with_frame g d s (slice_index ((readings ++ used_by g time) ++ later) n))
+group_out : (past : List Raw) (d s time : ℕ) (readings later : List ℕ) (n : ℕ) (g : List InputEvent) → length readings ≡ n →
+    group_requests (device_of past d) g s time ≡ map (request_in_code past) (with_frame g d s (slice_index ((readings ++ used_by g time) ++ later) n))
 unfolding with_frame
 group_out past d s time readings later n [] e = refl
 group_out past d s time readings later n (x ∷ g) e =
@@ -60,10 +60,10 @@ module _ (setup : Setup) (past : List Raw) (m : Raw) (readings : List ℕ) (c : 
   pub closing_queue : (v : DeviceView) → IsDevice setup past d v → (later : List ℕ) → (c.queue ++ group_requests v.device v.waiting c.handle.last_serial time) ++ make v.device ∷ []
       ≡ c.queue ++ map (request_in_code past) (gives ((readings ++ used_by (group d (each (slot setup) past)) time) ++ later) (each (slot setup) past) (slot setup past m))
   closing_queue v is later =
-      let g : List Asked = group d (each (slot setup) past) in
+      let g : List InputEvent = group d (each (slot setup) past) in
       let all : List ℕ = (readings ++ used_by g time) ++ later in
       let first : group_requests v.device v.waiting c.handle.last_serial time ≡ map (request_in_code past) (with_frame g d (serial setup past) (slice_index all (frames_made (each (slot setup) past)))) =
-      waits_there setup past d c.handle.last_serial time v is ∙ ap (λ (s : ℕ). group_requests (device_of past d) (inputs_of g) s time) h.serial
+      waits_there setup past d c.handle.last_serial time v is ∙ ap (λ (s : ℕ). group_requests (device_of past d) g s time) h.serial
       ∙ group_out past d (serial setup past) time readings later (frames_made (each (slot setup) past)) g h.frames in
       let last : make v.device ≡ plain_in_code past y = ap make is.device ∙ makes in
       append_assoc c.queue (group_requests v.device v.waiting c.handle.last_serial time) (make v.device ∷ [])

@@ -1,7 +1,8 @@
 -- The converter after the finish stands for it, and what it sends is what answers it.
 use Rattle.std.proofs.Common.{◌≡◌, ◌≢◌, ◌≤◌, ◌<◌, ◌+◌, ◌%◌, ◌^◌, ℕ, Bool, true, false, cond, eqb, ◌&&◌, not, List, [], ◌∷◌, ◌++◌, Option, Some, None}
 use Rattle.std.proofs.Common.{refl, sym, ap, subst, ◌∙◌, append_assoc, arith}
-use Rattle.std.specs.Prelude.{is_some, unwrap_or, codes}
+use Rattle.std.specs.Prelude.{is_some, unwrap_or, map, codes}
+use Rattle.std.specs.List.{AllByRecursion}
 use Rattle.std.specs.Ordering.{nat_cmp}
 use Rattle.std.specs.FinMap.{get, empty, get-empty}
 use Rattle.std.specs.Option.{option_map}
@@ -15,7 +16,9 @@ use Rattle.ei_spec.specs.Interface.{Known, ObjectView}
 use Rattle.ei_spec.specs.Message.{Raw, bytes_of, all_bytes}
 use Rattle.ei_spec.specs.History.{each, total}
 use Rattle.ei_spec.specs.Groups.{frames_made}
-use Rattle.ei_types.specs.Capability.{capabilities, has_bit, all_bits}
+use Rattle.ei_types.specs.declared.capability.DeviceCapability.{DeviceCapability}
+use Rattle.ei_types.specs.declared.capability.DeviceCapability.TheVariants.{Pointer}
+use Rattle.ei_types.specs.Capability.{capability_list, capabilities, bit_of, interface_of, has_bit, all_bits}
 use Rattle.ei_backend.specs.Table.{TableView, first_server_id, first_object, new_table, found, with_own, without}
 use Rattle.ei_backend.specs.Backend.{BackendView, new_backend}
 use Rattle.ei_backend.specs.Endpoint.{Endpoint, endpoint_of}
@@ -38,7 +41,7 @@ use Rattle.ei_session.proofs.FirstObjects.{the_connection, not_the_finish, objec
 use Rattle.ei_session.proofs.GivenByItem.{frames_none}
 use Rattle.ei_session.proofs.NextLaws.{own_finish, peer_first, peer_other}
 use Rattle.ei_session.proofs.ObjectShape.{at_finish, now_connected, object_seat}
-use Rattle.ei_session.proofs.SettledMapLaws.{get_twelve, other_map}
+use Rattle.ei_session.proofs.SettledMapLaws.{get_settled, other_map}
 use Rattle.ei_request.specs.Held.{SeatView}
 use Rattle.ei_request.specs.Connection.{ConnectionView, new_connection, is_settled, version_in}
 use Rattle.ei_request.specs.Sending.{announces, next_object, sends_on}
@@ -88,19 +91,28 @@ offered seat mask settles c = cond (has_bit mask c.0 && settles c.1) (Some (capa
 abbrev settles : List Raw → KnownInterface → Bool
 settles before interface = is_some (settled before interface)
 
+-- no capability is of the handshake
+no_handshake : (d : DeviceCapability) → interface_of d ≢ known.Handshake
+no_handshake Pointer e = absurd cc
+no_handshake d e = absurd cc
+
 module _ (seat mask : ℕ) (before : List Raw) where
   one : (bit : ℕ) (interface : KnownInterface) → interface ≢ known.Handshake → offered seat mask (is_settled (settled_map before)) (bit, interface) ≡ offered seat mask (settles before) (bit, interface)
-  one bit interface h = ap (λ (o : Option ℕ). cond (has_bit mask bit && is_some o) (Some (capability_event seat (bit, interface))) None) (get_twelve before interface h)
+  one bit interface h = ap (λ (o : Option ℕ). cond (has_bit mask bit && is_some o) (Some (capability_event seat (bit, interface))) None) (get_settled before interface h)
+
+  all_alike : (ones : List DeviceCapability) →
+      AllByRecursion (λ c. offered seat mask (is_settled (settled_map before)) c ≡ offered seat mask (settles before) c) (map (λ d. (bit_of d, interface_of d)) ones)
+  all_alike [] = tt
+  all_alike (d ∷ ones) = (one (bit_of d) (interface_of d) (no_handshake d), all_alike ones)
 
   capabilities_alike : capability_events seat mask (is_settled (settled_map before)) ≡ capability_events seat mask (settles before)
   unfolding capability_events
   capabilities_alike =
-      alike (offered seat mask (is_settled (settled_map before))) (offered seat mask (settles before)) capabilities
-      (one _ known.Pointer (λ e. absurd cc), (one _ known.PointerAbsolute (λ e. absurd cc), (one _ known.Keyboard (λ e. absurd cc), (one _ known.Touchscreen (λ e. absurd cc), (one _ known.Scroll (λ e. absurd cc), (one _ known.Button (λ e. absurd cc), (one _ known.Text (λ e. absurd cc), tt)))))))
+      alike (offered seat mask (is_settled (settled_map before))) (offered seat mask (settles before)) capabilities (all_alike capability_list)
 
 seat_version : (before : List Raw) → version_in (settled_map before) known.Seat ≡ version before known.Seat
 unfolding version
-seat_version before = ap (λ (v : Option ℕ). unwrap_or v 1) (get_twelve before known.Seat (λ e. absurd cc))
+seat_version before = ap (λ (v : Option ℕ). unwrap_or v 1) (get_settled before known.Seat (λ e. absurd cc))
 
 -- behind what hands the connection over they are all that answers the finish
 pub finish_is : (setup : Setup) (before : List Raw) → (settled_events 0 (settled before) ++ connection_event 0 setup.serial connection_id ∷ []) ++ seat_events setup before ≡ finish_events setup before

@@ -7,7 +7,6 @@ use Rattle.ei_spec.specs.Message.{Raw, all_bytes}
 use Rattle.ei_spec.specs.History.{each}
 use Rattle.ei_spec.specs.Groups.{Frame, group, with_frame, timed as timed_of}
 use Rattle.ei_session.specs.Setup.{Setup}
-use Rattle.ei_session.specs.Inputs.{Input as Asked}
 use Rattle.ei_session.specs.Meaning.{Frames, meaning}
 use Rattle.ei_session.specs.Objects.{Entry, object}
 use Rattle.ei_session.specs.Touches.{is_down}
@@ -19,14 +18,13 @@ use Rattle.ei_session.proofs.WaitingLaws.{group_by, touch_none}
 use Rattle.ei_session.proofs.GivenByItem.{gives_frame, frames_frame}
 use Rattle.ei_request.specs.declared.event.EisRequest.{EisRequest}
 use Rattle.ei_request.specs.declared.event.EisRequest.TheVariants as handed
-use Rattle.ei_input.specs.declared.input_event.InputEvent.{InputEvent as Input}
+use Rattle.ei_input.specs.declared.input_event.InputEvent.{InputEvent}
 use Rattle.ei_request.specs.Keys.{DeviceKey}
-use Rattle.ei_request.specs.Coded.{input_in_code}
-use Rattle.ei_request.specs.Timed.{timed}
+use Rattle.ei_request.specs.Event.{timed}
 use Rattle.ei_request.specs.Held.{DeviceView, is_device, changed_first, emptied, group_requests}
 use Rattle.ei_request.specs.Converter.{ConverterView}
 use Rattle.ei_request.specs.Handling.{hands_out, device_in, handled}
-use Rattle.ei_standing.specs.Standing.{device_of, inputs_of, IsDevice, AreDevices, IsHeld, TookOne, request_in_code}
+use Rattle.ei_standing.specs.Standing.{device_of, IsDevice, AreDevices, IsHeld, TookOne, request_in_code}
 use Rattle.ei_standing.proofs.RisingDevices.{changed_if, first_is}
 use Rattle.ei_standing.proofs.HeldPlainly.{Follows, devices_more, keeps_itself, held_plainly, not_zero, same_name, device_synced}
 use Rattle.ei_standing.proofs.ToDevices.{There, releases_so, item_so, input_so, reply_so, device_itself, held_there}
@@ -73,20 +71,20 @@ module _ (setup : Setup) (past : List Raw) (m : Raw) (d : ℕ) (gone : (id : ℕ
 
 -- ---- a group and its frame as the code hands them out
 
-timed_as : (past : List Raw) (d t : ℕ) (xs : List Asked) → map (request_in_code past) (timed_of d t xs) ≡ map (timed (device_of past d) t) (inputs_of xs)
+timed_as : (past : List Raw) (d t : ℕ) (xs : List InputEvent) → map (request_in_code past) (timed_of d t xs) ≡ map (timed (device_of past d) t) xs
 unfolding timed_of
 timed_as past d t [] = refl
-timed_as past d t (x ∷ xs) = ap (λ (ys : List EisRequest). timed (device_of past d) t (input_in_code x) ∷ ys) (timed_as past d t xs)
+timed_as past d t (x ∷ xs) = ap (λ (ys : List EisRequest). timed (device_of past d) t x ∷ ys) (timed_as past d t xs)
 
-pub group_as : (past : List Raw) (d s t : ℕ) (xs : List Asked) → map (request_in_code past) (with_frame xs d s t) ≡ group_requests (device_of past d) (inputs_of xs) s t
+pub group_as : (past : List Raw) (d s t : ℕ) (xs : List InputEvent) → map (request_in_code past) (with_frame xs d s t) ≡ group_requests (device_of past d) xs s t
 unfolding with_frame
 group_as past d s t [] = refl
 group_as past d s t (x ∷ xs) =
     map-append (request_in_code past) (timed_of d t (x ∷ xs)) _ ∙ ap (λ (ys : List EisRequest). ys ++ handed.Frame (record { device = device_of past d; last_serial = s; time = t }) ∷ []) (timed_as past d t (x ∷ xs))
 
 -- what waits on a device that is held is the group of its history
-pub waits_there : (setup : Setup) (past : List Raw) (d s t : ℕ) (v : DeviceView) → IsDevice setup past d v → group_requests v.device v.waiting s t ≡ group_requests (device_of past d) (inputs_of (group d (each (slot setup) past))) s t
-waits_there setup past d s t v h = ap (λ (x : DeviceKey). group_requests x v.waiting s t) h.device ∙ ap (λ (ws : List Input). group_requests (device_of past d) ws s t) h.waiting
+pub waits_there : (setup : Setup) (past : List Raw) (d s t : ℕ) (v : DeviceView) → IsDevice setup past d v → group_requests v.device v.waiting s t ≡ group_requests (device_of past d) (group d (each (slot setup) past)) s t
+waits_there setup past d s t v h = ap (λ (x : DeviceKey). group_requests x v.waiting s t) h.device ∙ ap (λ (ws : List InputEvent). group_requests (device_of past d) ws s t) h.waiting
 
 pub quiet_bytes : (old : List ℕ) (events : List Raw) → events ≡ [] → old ≡ old ++ all_bytes events
 quiet_bytes old events e = rw e (sym (append-nil old))

@@ -8,38 +8,39 @@ use Rattle.std.proofs.lemmas.List.Folds.{list_any-append}
 use Rattle.std.proofs.lemmas.Map.Keys.{IsDistinct-push}
 use Rattle.ei_spec.specs.Message.{Raw}
 use Rattle.ei_session.specs.Setup.{Setup}
-use Rattle.ei_session.specs.Inputs.{Input as Asked, TouchDown, TouchMotion, TouchUp, TouchCancel}
+use Rattle.ei_wire.specs.declared.arg.RawFloat.{RawFloat}
+use Rattle.ei_input.specs.declared.input_event.InputEvent.{InputEvent}
+use Rattle.ei_input.specs.declared.input_event.InputEvent.TheVariants.{TouchDown, TouchMotion, TouchUp, TouchCancel}
 use Rattle.ei_session.specs.Touches.{said_by, is_down}
 use Rattle.ei_session.specs.Requests.{is_heard}
 use Rattle.ei_session.proofs.Choices.{turned, or_true}
-use Rattle.ei_request.specs.Coded.{input_in_code}
 use Rattle.ei_request.specs.Held.{DeviceView, has_touch, without_first, takes_input}
 use Rattle.ei_standing.specs.Standing.{IsDevice}
 
 -- ---- an input and its device
 
 -- whether the device hears it
-abbrev pub heard_by : Asked → DeviceView → Bool
+abbrev pub heard_by : InputEvent → DeviceView → Bool
 heard_by (TouchMotion t x y) v = has_touch t v
 heard_by (TouchUp t) v = has_touch t v
 heard_by (TouchCancel t) v = has_touch t v
 heard_by i v = true
 
 -- the touches that are down after it
-abbrev pub touched : Asked → List ℕ → List ℕ
+abbrev pub touched : InputEvent → List ℕ → List ℕ
 touched (TouchDown t x y) ts = ts ++ t ∷ []
 touched (TouchUp t) ts = without_first (nat_eq t) ts
 touched (TouchCancel t) ts = without_first (nat_eq t) ts
 touched i ts = ts
 
 -- the device that heard it
-abbrev pub heard : Asked → DeviceView → DeviceView
-heard i v = record v { waiting = v.waiting ++ input_in_code i ∷ []; touches = touched i v.touches }
+abbrev pub heard : InputEvent → DeviceView → DeviceView
+heard i v = record v { waiting = v.waiting ++ i ∷ []; touches = touched i v.touches }
 
-pub takes_as : (i : Asked) (v : DeviceView) → takes_input (input_in_code i) v ≡ cond (heard_by i v) (heard i v) v
+pub takes_as : (i : InputEvent) (v : DeviceView) → takes_input i v ≡ cond (heard_by i v) (heard i v) v
 takes_as i v = by i
   where
-    by : (i : Asked) → takes_input (input_in_code i) v ≡ cond (heard_by i v) (heard i v) v
+    by : (i : InputEvent) → takes_input i v ≡ cond (heard_by i v) (heard i v) v
     by (TouchDown t x y) = refl
     by (TouchMotion t x y) = refl
     by (TouchUp t) = refl
@@ -47,7 +48,7 @@ takes_as i v = by i
     by i = refl
 
 -- and it does where the definitions do
-pub heard_as : (setup : Setup) (past : List Raw) (d : ℕ) (i : Asked) (v : DeviceView) → IsDevice setup past d v → heard_by i v ≡ is_heard past d i
+pub heard_as : (setup : Setup) (past : List Raw) (d : ℕ) (i : InputEvent) (v : DeviceView) → IsDevice setup past d v → heard_by i v ≡ is_heard past d i
 heard_as setup past d (TouchMotion t x y) v h = h.touches t
 heard_as setup past d (TouchUp t) v h = h.touches t
 heard_as setup past d (TouchCancel t) v h = h.touches t
@@ -91,7 +92,7 @@ taken_out true old = refl
 taken_out false old = refl
 
 -- those that are down after an input, by what it says of each
-pub touched_as : (i : Asked) (ts : List ℕ) (q : ℕ) → IsDistinct nat_eq ts → list_any (nat_eq q) (touched i ts) ≡ unwrap_or (said_by q i) (list_any (nat_eq q) ts)
+pub touched_as : (i : InputEvent) (ts : List ℕ) (q : ℕ) → IsDistinct nat_eq ts → list_any (nat_eq q) (touched i ts) ≡ unwrap_or (said_by q i) (list_any (nat_eq q) ts)
 touched_as (TouchDown t x y) ts q once =
     list_any-append (nat_eq q) ts (t ∷ []) ∙ ap (λ (b : Bool). list_any (nat_eq q) ts || (b || false)) (turned q t) ∙ put_in (eqb t q) (list_any (nat_eq q) ts)
 touched_as (TouchUp t) ts q once = left_out t q ts once ∙ taken_out (eqb t q) (list_any (nat_eq q) ts)
@@ -116,14 +117,14 @@ distinct_without p (x ∷ ts) h = by (p x) (distinct_without p ts h.1)
     by false next = (all_without (λ y. nat_eq x y ≡ false) p ts h.0, next)
 
 -- each is listed once, where one that goes down isn't down
-pub touched_once : (i : Asked) (ts : List ℕ) → IsDistinct nat_eq ts → ((t x y : ℕ) → i ≡ TouchDown t x y → list_any (nat_eq t) ts ≡ false) → IsDistinct nat_eq (touched i ts)
+pub touched_once : (i : InputEvent) (ts : List ℕ) → IsDistinct nat_eq ts → ((t : ℕ) (x y : RawFloat) → i ≡ TouchDown t x y → list_any (nat_eq t) ts ≡ false) → IsDistinct nat_eq (touched i ts)
 touched_once (TouchDown t x y) ts once fresh = IsDistinct-push nat_eq_equiv ts t once (fresh t x y refl)
 touched_once (TouchUp t) ts once fresh = distinct_without (nat_eq t) ts once
 touched_once (TouchCancel t) ts once fresh = distinct_without (nat_eq t) ts once
 touched_once i ts once fresh = once
 
 -- an input that isn't heard ends no touch that is down
-pub unheard : (past : List Raw) (d : ℕ) (i : Asked) (q : ℕ) → is_heard past d i ≡ false → unwrap_or (said_by q i) (is_down past d q) ≡ is_down past d q
+pub unheard : (past : List Raw) (d : ℕ) (i : InputEvent) (q : ℕ) → is_heard past d i ≡ false → unwrap_or (said_by q i) (is_down past d q) ≡ is_down past d q
 unheard past d (TouchMotion t x y) q h = refl
 unheard past d (TouchUp t) q h = by (eqb t q) refl
   where

@@ -34,7 +34,7 @@ use Rattle.ei_request.specs.Keys.{DeviceKey}
 use Rattle.ei_request.specs.Held.{DeviceView, SeatView, is_device, has_interface}
 use Rattle.ei_request.specs.Connection.{ConnectionView}
 use Rattle.ei_request.specs.Converter.{ConverterView}
-use Rattle.ei_standing.specs.Standing.{object_of, device_of, seat_held, was_named, inputs_of, IsDevice, IsHeldAt, RiseFrom, AreDevices, IsHeld}
+use Rattle.ei_standing.specs.Standing.{object_of, device_of, seat_held, was_named, IsDevice, IsHeldAt, RiseFrom, AreDevices, IsHeld}
 use Rattle.ei_standing.proofs.RisingDevices.{all_found, all_of, find_same, find_nothing, find_mapped, rises_mapped}
 
 -- ---- devices by their ids alone
@@ -90,7 +90,7 @@ module _ (setup : Setup) (past : List Raw) (ds : List DeviceView) (rise : RiseFr
 
 -- what a device holds of the messages is what it holds of one more
 pub record Follows (setup : Setup) (past : List Raw) (m : Raw) (id : ℕ) (w : DeviceView) : Type 0 where
-  pub waiting : w.waiting ≡ inputs_of (group id (each (slot setup) (m ∷ past)))
+  pub waiting : w.waiting ≡ group id (each (slot setup) (m ∷ past))
   pub touches : (touch : ℕ) → list_any (nat_eq touch) w.touches ≡ is_down (m ∷ past) id touch
   pub once : IsDistinct nat_eq w.touches
 

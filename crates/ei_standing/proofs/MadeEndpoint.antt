@@ -27,7 +27,7 @@ use Rattle.ei_session.specs.Events.{device_event as announced_as, device_type_ev
 use Rattle.ei_session.specs.Kept.{is_bare}
 use Rattle.ei_session.proofs.Choices.{not_both, or_none}
 use Rattle.ei_session.proofs.MaskLaws.{masked_none}
-use Rattle.ei_session.proofs.SettledMapLaws.{get_twelve}
+use Rattle.ei_session.proofs.SettledMapLaws.{get_settled}
 use Rattle.ei_request.specs.Held.{DeviceView}
 use Rattle.ei_request.specs.Connection.{version_in}
 use Rattle.ei_request.specs.Sending.{announces, next_object}
@@ -152,7 +152,7 @@ objects_alike v w same e (i ∷ is) none =
 -- the versions that were settled are those of the history
 pub version_same : (past : List Raw) (i : KnownInterface) → is_bare i ≡ false → version_in (settled_map past) i ≡ version past i
 unfolding version
-version_same past i bare = ap (λ (v : Option ℕ). unwrap_or v 1) (get_twelve past i (λ e. not_both (is_bare i) (ap is_bare e) bare))
+version_same past i bare = ap (λ (v : Option ℕ). unwrap_or v 1) (get_settled past i (λ e. not_both (is_bare i) (ap is_bare e) bare))
 
 pub none_bare : (mask : ℕ) → list_any is_bare (interfaces_of mask) ≡ false
 unfolding interfaces_of

@@ -34,7 +34,7 @@ use Rattle.ei_session.proofs.WaitingLaws.{touch_none}
 use Rattle.ei_request.specs.Held.{DeviceView, is_device}
 use Rattle.ei_request.specs.Connection.{version_in}
 use Rattle.ei_request.specs.Making.{new_device, objects_of}
-use Rattle.ei_standing.specs.Standing.{object_of, seat_of, device_of, inputs_of, IsDevice, IsHeldAt, RiseFrom, AreDevices}
+use Rattle.ei_standing.specs.Standing.{object_of, seat_of, device_of, IsDevice, IsHeldAt, RiseFrom, AreDevices}
 use Rattle.ei_request.proofs.FirstOnes.{any_some}
 use Rattle.ei_standing.proofs.HeldPlainly.{has_left, all_held, are_devices}
 use Rattle.ei_standing.proofs.MadeEndpoint.{ids_of, found_placed, objects_alike, version_same, none_bare}
@@ -124,7 +124,7 @@ module _ (setup : Setup) (past : List Raw) (m : Raw) (mask : ℕ) (y : Plain) (o
     unnamed = refl;
     interfaces = ids_of (version_in (settled_map past)) behind is ∙ ap (λ (n : ℕ). range_with_len (n + 1) (length is)) next ∙ sym (left_new past m mask mk);
     objects = objects_there;
-    waiting = sym (ap inputs_of (group_same here ∙ fresh_group setup past here (omega arith)));
+    waiting = sym ((group_same here ∙ fresh_group setup past here (omega arith)));
     touches = λ touch. sym (down_same here touch ∙ fresh_down past here touch (omega arith));
     once = no_touch;
   }
@@ -172,7 +172,7 @@ module _ (setup : Setup) (past : List Raw) (m : Raw) (mask : ℕ) (y : Plain) (o
     unnamed = h.unnamed;
     interfaces = h.interfaces ∙ sym (left_other past m mask id mk (λ same. omega (arith, old id v h, same)));
     objects = still_there id v h;
-    waiting = h.waiting ∙ ap inputs_of (sym (group_same id));
+    waiting = h.waiting ∙ sym (group_same id);
     touches = λ touch. h.touches touch ∙ sym (down_same id touch);
     once = h.once;
   }

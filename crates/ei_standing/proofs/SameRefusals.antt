@@ -16,7 +16,8 @@ use Rattle.ei_types.specs.declared.error.RequestError.TheVariants as request_err
 use Rattle.ei_backend.specs.Table.{TableView, Announced, accept, peer_end}
 use Rattle.ei_backend.proofs.GivenOnce.{accepted_is}
 use Rattle.ei_session.specs.Setup.{Setup, connection_id, seat_id}
-use Rattle.ei_session.specs.Inputs.{Input, TouchDown, TouchCancel, TextUtf8}
+use Rattle.ei_input.specs.declared.input_event.InputEvent.{InputEvent}
+use Rattle.ei_input.specs.declared.input_event.InputEvent.TheVariants.{TouchDown, TouchCancel, TextUtf8}
 use Rattle.ei_session.specs.Meaning.{Shake, Meaning, meaning, Shakes, Syncs, Binds, RequestsDevice, Inputs}
 use Rattle.ei_session.specs.Objects.{Entry, object}
 use Rattle.ei_session.specs.Touches.{touches_down}
@@ -25,12 +26,11 @@ use Rattle.ei_session.specs.ByMeaning.{callback_in, sync_refusal, input_refusal,
 use Rattle.ei_session.specs.NextIds.{next_peer}
 use Rattle.ei_session.specs.Kept.{is_bare, home}
 use Rattle.ei_session.proofs.Choices.{none_some, some_is, and_false}
-use Rattle.ei_session.proofs.AskedByMeaning.{its_interface, one_of_seven}
+use Rattle.ei_session.proofs.AskedByMeaning.{its_interface, its_kind}
 use Rattle.ei_session.proofs.FirstObjects.{the_handshake, object_handshake}
 use Rattle.ei_session.proofs.NextLaws.{may_give_by}
 use Rattle.ei_session.proofs.Placed.{object_placed, object_owned}
 use Rattle.ei_session.proofs.TouchCounts.{down_count}
-use Rattle.ei_request.specs.Coded.{input_in_code}
 use Rattle.ei_request.specs.Held.{SeatView, DeviceView, is_seat, has_interface}
 use Rattle.ei_request.specs.Handling.{set_of}
 use Rattle.ei_request.specs.Refusing.{BadVersion, Bad, mask_refusal, refusal}
@@ -75,9 +75,9 @@ module _ (past : List Raw) (t : TableView) (server : t.client ≡ false) (peer :
 told_mask : (mask given : ℕ) (s : SeatView) (b : Bool) → given ≤ all_bits → s.capabilities ≡ set_of given → eqb (bit_and mask given) mask ≡ b → option_map refusal_told (mask_refusal mask (Some s)) ≡ bad_mask given (Some mask)
 told_mask mask given s true le is e =
     let same : bit_and mask given ≡ mask = eqb-true (bit_and mask given) mask e in
-    let below : leb mask 127 ≡ true = grind (arith, nat_tests, and_le_r mask given) in
+    let below : leb mask all_bits ≡ true = grind (arith, nat_tests, and_le_r mask given) in
     rw (is, and_comm given mask, e, below) refl
-told_mask mask given s false le is e = rw (is, and_comm given mask, e, and_false (leb mask 127)) refl
+told_mask mask given s false le is e = rw (is, and_comm given mask, e, and_false (leb mask all_bits)) refl
 
 -- ---- inputs
 
@@ -97,7 +97,7 @@ told_text : (bad : Bool) → option_map refusal_told (cond bad (Some (Bad reques
 told_text true = refl
 told_text false = refl
 
-told_input : (setup : Setup) (past : List Raw) (d : ℕ) (v : DeviceView) → IsDevice setup past d v → (version : ℕ) (i : Input) → option_map refusal_told (input_refused version (input_in_code i) (Some v)) ≡ input_refusal past version (Some d) i
+told_input : (setup : Setup) (past : List Raw) (d : ℕ) (v : DeviceView) → IsDevice setup past d v → (version : ℕ) (i : InputEvent) → option_map refusal_told (input_refused version i (Some v)) ≡ input_refusal past version (Some d) i
 told_input setup past d v h version (TouchDown touch x y) =
     let many : length v.touches ≡ length (touches_down past d) = down_count past d v.touches h.once h.touches in
     rw (many, h.touches touch) (told_press _ _)
@@ -127,12 +127,12 @@ module _ (setup : Setup) (past : List Raw) (m : Raw) (readings : List ℕ) (c : 
   mask_told : (mask : ℕ) → e.interface ≡ known.Seat → option_map refusal_told (mask_refusal mask (find (is_seat m.id) c.handle.seats)) ≡ bad_mask setup.capabilities (Some mask)
   mask_told mask i = ap (λ (o : Option SeatView). option_map refusal_told (mask_refusal mask o)) (seat_there i) ∙ told_mask mask setup.capabilities (seat_held setup past) _ h.lawful refl refl
 
-  input_told : (i : Input) → meaning e.interface m ≡ Some (Inputs i) → option_map refusal_told (input_refused e.version (input_in_code i) (find (has_interface m.id) c.handle.devices)) ≡ input_refusal past e.version e.device i
+  input_told : (i : InputEvent) → meaning e.interface m ≡ Some (Inputs i) → option_map refusal_told (input_refused e.version i (find (has_interface m.id) c.handle.devices)) ≡ input_refusal past e.version e.device i
   input_told i a =
-      let seven = one_of_seven e.interface m (Inputs i) a refl in
-      let owned = object_owned past m.id e k seven.1 in
+      let kind = its_kind e.interface m (Inputs i) a refl in
+      let owned = object_owned past m.id e k kind.1 in
       let t = held_there setup past c.handle.devices m.id owned.0 e h.devices k owned.1 in
-      ap (λ (o : Option DeviceView). option_map refusal_told (input_refused e.version (input_in_code i) o)) (h.devices.owners m.id owned.0 e k owned.1 seven.0 ∙ t.found)
+      ap (λ (o : Option DeviceView). option_map refusal_told (input_refused e.version i o)) (h.devices.owners m.id owned.0 e k owned.1 kind.0 ∙ t.found)
       ∙ told_input setup past owned.0 t.device t.is e.version i
       ∙ ap (λ (o : Option ℕ). input_refusal past e.version o i) (sym owned.1)
 

@@ -40,7 +40,7 @@ use Rattle.ei_request.specs.Held.{SeatView, DeviceView, is_seat, is_device, rele
 use Rattle.ei_request.specs.Connection.{next_serial}
 use Rattle.ei_request.specs.Handling.{handled}
 use Rattle.ei_request.specs.Converter.{ConverterView}
-use Rattle.ei_standing.specs.Standing.{object_of, seat_held, inputs_of, IsDevice, IsHeldAt, AreDevices, IsHeld, TookOne}
+use Rattle.ei_standing.specs.Standing.{object_of, seat_held, IsDevice, IsHeldAt, AreDevices, IsHeld, TookOne}
 use Rattle.ei_request.proofs.FirstOnes.{any_some}
 use Rattle.ei_standing.proofs.HeldPlainly.{has_left, are_devices}
 use Rattle.ei_standing.proofs.NamedBefore.{named_after}
@@ -118,7 +118,7 @@ module _ (setup : Setup) (past : List Raw) (m : Raw) (readings : List ℕ) (c : 
     unnamed = v.unnamed;
     interfaces = v.interfaces ∙ sym (seat_left past m on at asks_it id);
     objects = still_there id d v;
-    waiting = v.waiting ∙ ap inputs_of (sym (free_group setup past m None item_is id));
+    waiting = v.waiting ∙ sym (free_group setup past m None item_is id);
     touches = λ touch. v.touches touch ∙ sym (touch_none past m no_input id touch);
     once = v.once;
   }

@@ -18,7 +18,7 @@ use Rattle.ei_session.proofs.ObjectShape as shape
 use Rattle.ei_session.proofs.GoneLaws.{object_device}
 use Rattle.ei_session.proofs.Placed.{object_owned}
 use Rattle.ei_session.proofs.AskedMeans.{release_asked}
-use Rattle.ei_session.proofs.AskedByMeaning.{its_interface, one_of_seven}
+use Rattle.ei_session.proofs.AskedByMeaning.{its_interface, its_kind}
 use Rattle.ei_session.proofs.ItemMeans.{item_asked, input_by}
 use Rattle.ei_session.proofs.AnsweredMeans.{reply_asked}
 use Rattle.ei_request.specs.Keys.{DeviceKey}
@@ -49,10 +49,10 @@ module _ (setup : Setup) (past : List Raw) (m : Raw) (e : Entry) (x : Meaning) (
 
   -- a request that interfaces of devices have
   pub to_interface : of_interface x ≡ None → is_of_device e.interface ≡ false
-  to_interface o = (one_of_seven e.interface m x w o).0
+  to_interface o = (its_kind e.interface m x w o).0
 
   pub device_of_it : of_interface x ≡ None → (d : ℕ) × (e.device ≡ Some d)
-  device_of_it o = object_owned past m.id e k (one_of_seven e.interface m x w o).1
+  device_of_it o = object_owned past m.id e k (its_kind e.interface m x w o).1
 
 pub release_is : (m : Raw) (e : Entry) → asks e.interface (codes "release") m ≡ true → is_release (Some e) m ≡ true
 unfolding is_release

@@ -1,9 +1,9 @@
 -- What a typed request asks is what its message asks.
-use Rattle.std.proofs.Common.{◌≡◌, Some}
+use Rattle.std.proofs.Common.{◌≡◌, ℕ, true, List, [], Option, Some, None, refl, sym, ap, ◌∙◌}
+use Rattle.ei_spec.specs.declared.interface.KnownInterface.{KnownInterface}
 use Rattle.ei_spec.specs.declared.interface.KnownInterface.TheVariants as known
+use Rattle.ei_spec.specs.Value.{Value}
 use Rattle.ei_spec.specs.Message.{Raw}
-use Rattle.ei_types.specs.declared.enums.ButtonState.TheVariants as button_state
-use Rattle.ei_types.specs.declared.enums.KeyState.TheVariants as key_state
 use Rattle.ei_types.specs.Enums.{context_type_number}
 use Rattle.ei_server.specs.declared.request.Request.{Request}
 use Rattle.ei_server.specs.declared.request.Request.TheVariants as request
@@ -12,22 +12,28 @@ use Rattle.ei_server.specs.declared.connection.Request.TheVariants as connection
 use Rattle.ei_server.specs.declared.pingpong.Request.TheVariants as pingpong
 use Rattle.ei_server.specs.declared.seat.Request.TheVariants as seat
 use Rattle.ei_server.specs.declared.device.Request.TheVariants as device
-use Rattle.ei_server.specs.declared.pointer.Request.TheVariants as pointer
-use Rattle.ei_server.specs.declared.pointer_absolute.Request.TheVariants as pointer_absolute
-use Rattle.ei_server.specs.declared.scroll.Request.TheVariants as scroll
-use Rattle.ei_server.specs.declared.button.Request.TheVariants as button
-use Rattle.ei_server.specs.declared.keyboard.Request.TheVariants as keyboard
-use Rattle.ei_server.specs.declared.touchscreen.Request.TheVariants as touchscreen
-use Rattle.ei_server.specs.declared.text.Request.TheVariants as text
 use Rattle.ei_server.specs.Request.{opcode_of, values_of}
+use Rattle.ei_input.specs.declared.input_event.InputEvent.{InputEvent}
 use Rattle.ei_session.specs.Arguments.{request_args}
-use Rattle.ei_session.specs.Meaning.{meaning, Greeting, Finish, ContextType, Name, InterfaceVersion, Sync, Disconnect, Pong, SeatRelease, Bind}
-use Rattle.ei_session.specs.Meaning.{RequestDevice, DeviceRelease, Start, Stop, Frame, Ready, PointerRelease, MotionRelative, PointerAbsoluteRelease}
-use Rattle.ei_session.specs.Meaning.{MotionAbsolute, ScrollRelease, Scroll, Discrete, ScrollStop, ButtonRelease, Button, KeyboardRelease, Key}
-use Rattle.ei_session.specs.Meaning.{TouchscreenRelease, Down, Motion, Up, Cancel, TextRelease, Keysym, Utf8}
+use Rattle.ei_session.specs.Inputs.{is_of_device, input_of}
+use Rattle.ei_session.specs.Meaning.{meaning, Releases, Inputs, Greeting, Finish, ContextType, Name, InterfaceVersion, Sync, Disconnect, Pong, SeatRelease, Bind}
+use Rattle.ei_session.specs.Meaning.{RequestDevice, DeviceRelease, Start, Stop, Frame, Ready, Release, Input}
+use Rattle.ei_session.proofs.AskedRows.{reads_as}
+use Rattle.ei_session.proofs.DeviceInterfaces.{AsksSo, OfRelease, OfInput, asks_one, no_first_input}
 use Rattle.ei_session.proofs.RowsMean.{asks_means}
-use Rattle.ei_request.specs.Typed.{meaning_of}
-use Rattle.ei_standing.specs.Standing.{interface_asked}
+use Rattle.ei_request.specs.Typed.{interface_asked, interface_meaning, meaning_of}
+
+-- a request to an interface of a device asks its input, or else its release
+interface_meant : (m : Raw) (k : KnownInterface) (values : List Value) → is_of_device k ≡ true → request_args k m ≡ Some values → meaning k m ≡ Some (interface_meaning (input_of k m.opcode values))
+interface_meant m k values d a =
+    let r = reads_as k m values a in
+    by (asks_one k m.opcode r.row values d r.is_row r.held)
+  where
+    by : AsksSo k m.opcode values → meaning k m ≡ Some (interface_meaning (input_of k m.opcode values))
+    by (OfRelease o e) =
+        let none : input_of k m.opcode values ≡ None = ap (λ (n : ℕ). input_of k n values) o ∙ no_first_input k values in
+        asks_means m k 0 [] Releases (Release k d) o (a ∙ ap (λ (vs : List Value). Some vs) e) ∙ ap (λ (i : Option InputEvent). Some (interface_meaning i)) (sym none)
+    by (OfInput i h) = asks_means m k m.opcode values (Inputs i) (Input k m.opcode values i h) refl a ∙ ap (λ (j : Option InputEvent). Some (interface_meaning j)) (sym h)
 
 -- the message of a typed request: its opcode and its arguments
 pub record Spells (m : Raw) (r : Request) : Type 0 where
@@ -51,26 +57,4 @@ meant m (request.Device proxy (device.StartEmulating serial sequence)) h = asks_
 meant m (request.Device proxy (device.StopEmulating serial)) h = asks_means m known.Device 2 _ _ (Stop serial) h.opcode h.args
 meant m (request.Device proxy (device.Frame serial time)) h = asks_means m known.Device 3 _ _ (Frame serial time) h.opcode h.args
 meant m (request.Device proxy device.Ready) h = asks_means m known.Device 4 _ _ Ready h.opcode h.args
-meant m (request.Pointer proxy pointer.Release) h = asks_means m known.Pointer 0 _ _ PointerRelease h.opcode h.args
-meant m (request.Pointer proxy (pointer.MotionRelative x y)) h = asks_means m known.Pointer 1 _ _ (MotionRelative x.0 y.0) h.opcode h.args
-meant m (request.PointerAbsolute proxy pointer_absolute.Release) h = asks_means m known.PointerAbsolute 0 _ _ PointerAbsoluteRelease h.opcode h.args
-meant m (request.PointerAbsolute proxy (pointer_absolute.MotionAbsolute x y)) h = asks_means m known.PointerAbsolute 1 _ _ (MotionAbsolute x.0 y.0) h.opcode h.args
-meant m (request.Scroll proxy scroll.Release) h = asks_means m known.Scroll 0 _ _ ScrollRelease h.opcode h.args
-meant m (request.Scroll proxy (scroll.Scroll x y)) h = asks_means m known.Scroll 1 _ _ (Scroll x.0 y.0) h.opcode h.args
-meant m (request.Scroll proxy (scroll.ScrollDiscrete x y)) h = asks_means m known.Scroll 2 _ _ (Discrete x y) h.opcode h.args
-meant m (request.Scroll proxy (scroll.ScrollStop x y is_cancel)) h = asks_means m known.Scroll 3 _ _ (ScrollStop x y is_cancel) h.opcode h.args
-meant m (request.Button proxy button.Release) h = asks_means m known.Button 0 _ _ ButtonRelease h.opcode h.args
-meant m (request.Button proxy (button.Button code button_state.Released)) h = asks_means m known.Button 1 _ _ (Button code 0) h.opcode h.args
-meant m (request.Button proxy (button.Button code button_state.Press)) h = asks_means m known.Button 1 _ _ (Button code 1) h.opcode h.args
-meant m (request.Keyboard proxy keyboard.Release) h = asks_means m known.Keyboard 0 _ _ KeyboardRelease h.opcode h.args
-meant m (request.Keyboard proxy (keyboard.Key key key_state.Released)) h = asks_means m known.Keyboard 1 _ _ (Key key 0) h.opcode h.args
-meant m (request.Keyboard proxy (keyboard.Key key key_state.Press)) h = asks_means m known.Keyboard 1 _ _ (Key key 1) h.opcode h.args
-meant m (request.Touchscreen proxy touchscreen.Release) h = asks_means m known.Touchscreen 0 _ _ TouchscreenRelease h.opcode h.args
-meant m (request.Touchscreen proxy (touchscreen.Down touch x y)) h = asks_means m known.Touchscreen 1 _ _ (Down touch x.0 y.0) h.opcode h.args
-meant m (request.Touchscreen proxy (touchscreen.Motion touch x y)) h = asks_means m known.Touchscreen 2 _ _ (Motion touch x.0 y.0) h.opcode h.args
-meant m (request.Touchscreen proxy (touchscreen.Up touch)) h = asks_means m known.Touchscreen 3 _ _ (Up touch) h.opcode h.args
-meant m (request.Touchscreen proxy (touchscreen.Cancel touch)) h = asks_means m known.Touchscreen 4 _ _ (Cancel touch) h.opcode h.args
-meant m (request.Text proxy text.Release) h = asks_means m known.Text 0 _ _ TextRelease h.opcode h.args
-meant m (request.Text proxy (text.Keysym keysym key_state.Released)) h = asks_means m known.Text 1 _ _ (Keysym keysym 0) h.opcode h.args
-meant m (request.Text proxy (text.Keysym keysym key_state.Press)) h = asks_means m known.Text 1 _ _ (Keysym keysym 1) h.opcode h.args
-meant m (request.Text proxy (text.Utf8 letters)) h = asks_means m known.Text 2 _ _ (Utf8 letters) h.opcode h.args
+meant m r h = interface_meant m (interface_asked r) (values_of r) refl h.args ∙ ap (λ (n : ℕ). Some (interface_meaning (input_of (interface_asked r) n (values_of r)))) h.opcode

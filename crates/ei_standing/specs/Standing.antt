@@ -11,8 +11,6 @@ use Rattle.ei_spec.specs.History.{each, occurs}
 use Rattle.ei_spec.specs.Groups.{Timed, Framed, Plain as Given, group, frames_made, gives}
 use Rattle.ei_types.specs.Capability.{all_bits}
 use Rattle.ei_types.specs.declared.error.HandshakeError.TheVariants as handshake
-use Rattle.ei_server.specs.declared.request.Request.{Request as Typed}
-use Rattle.ei_server.specs.declared.request.Request.TheVariants as typed
 use Rattle.ei_backend.specs.Table.{TableView, found}
 use Rattle.ei_backend.specs.Backend.{BackendView}
 use Rattle.ei_handshake.specs.declared.server.EisHandshakeResp.{EisHandshakeResp}
@@ -20,7 +18,6 @@ use Rattle.ei_session.specs.Setup.{Setup, connection_id, seat_id}
 use Rattle.ei_session.specs.Handshake.{connected, settled, version}
 use Rattle.ei_session.specs.SettledMap.{settled_map}
 use Rattle.ei_session.specs.NextIds.{next_own, next_peer}
-use Rattle.ei_session.specs.Inputs.{Input as Asked}
 use Rattle.ei_session.specs.Devices.{seat_is_open}
 use Rattle.ei_session.specs.Objects.{Entry, object, was_device, is_device as is_of_device, interfaces_left}
 use Rattle.ei_session.specs.Serial.{serial}
@@ -32,10 +29,9 @@ use Rattle.ei_session.specs.Replies.{seat_event, capability_events, done_event}
 use Rattle.ei_session.specs.Events.{reply}
 use Rattle.ei_request.specs.declared.event.EisRequest.{EisRequest}
 use Rattle.ei_request.specs.declared.event.EisRequest.TheVariants as asked
-use Rattle.ei_input.specs.declared.input_event.InputEvent.{InputEvent as Input}
+use Rattle.ei_input.specs.declared.input_event.InputEvent.{InputEvent}
 use Rattle.ei_request.specs.Keys.{DeviceKey}
-use Rattle.ei_request.specs.Coded.{input_in_code}
-use Rattle.ei_request.specs.Timed.{timed}
+use Rattle.ei_request.specs.Event.{timed}
 use Rattle.ei_request.specs.Held.{SeatView, DeviceView, is_device, has_interface}
 use Rattle.ei_request.specs.Connection.{ConnectionView}
 use Rattle.ei_request.specs.Sending.{says, no_object_event}
@@ -65,10 +61,6 @@ seat_held setup past = record { proxy = seat_of past; capabilities = set_of setu
 
 -- ---- what is held of devices
 
--- the inputs of a group as they wait
-abbrev pub inputs_of : List Asked → List Input
-inputs_of inputs = map input_in_code inputs
-
 -- what is held of the device of that id: its interfaces that are left, the inputs since its last closing, and the touches that are down
 pub record IsDevice (setup : Setup) (past : List Raw) (id : ℕ) (d : DeviceView) : Type 0 where
   pub there : was_device (object past id) ≡ true
@@ -76,7 +68,7 @@ pub record IsDevice (setup : Setup) (past : List Raw) (id : ℕ) (d : DeviceView
   pub unnamed : d.name ≡ None
   pub interfaces : map (λ o. o.id) d.interfaces ≡ interfaces_left past id
   pub objects : (i : ℕ) (o : ObjectView) → find (λ x. nat_eq x.id i) d.interfaces ≡ Some o → option_map (object_of i) (object past i) ≡ Some o
-  pub waiting : d.waiting ≡ inputs_of (group id (each (slot setup) past))
+  pub waiting : d.waiting ≡ group id (each (slot setup) past)
   pub touches : (touch : ℕ) → list_any (nat_eq touch) d.touches ≡ is_down past id touch
   pub once : IsDistinct nat_eq d.touches
 
@@ -157,7 +149,7 @@ plain_as versions (DeviceStopEmulating d serial) = stop_of serial (key_by versio
 plain_as versions Disconnect = asked.Disconnect
 
 abbrev pub handed_as : (KnownInterface → ℕ) → Request → EisRequest
-handed_as versions (Timed d i time) = timed (key_by versions d) time (input_in_code i)
+handed_as versions (Timed d i time) = timed (key_by versions d) time i
 handed_as versions (Framed d serial time) = asked.Frame (record { device = key_by versions d; last_serial = serial; time = time })
 handed_as versions (Given y) = plain_as versions y
 
@@ -178,7 +170,7 @@ pub record TookOne (setup : Setup) (past : List Raw) (m : Raw) (readings used : 
   pub handles : new.handle.ctx.handles ≡ c.handle.ctx.handles
 
 -- the reading that a made frame takes, where something waits on the device of that id
-abbrev pub used_by : List Asked → ℕ → List ℕ
+abbrev pub used_by : List InputEvent → ℕ → List ℕ
 used_by [] time = []
 used_by (x ∷ xs) time = time ∷ []
 
@@ -198,22 +190,7 @@ tells_no_object c id = record c { ctx = says c.ctx (no_object_event c.proxy.id c
 abbrev pub with_table : ConverterView → TableView → ConverterView
 with_table c table = record c { handle = record c.handle { ctx = record c.handle.ctx { table = table } } }
 
--- ---- what is asked
-
--- the interface that a typed request is one of
-abbrev pub interface_asked : Typed → KnownInterface
-interface_asked (typed.Handshake proxy m) = known.Handshake
-interface_asked (typed.Connection proxy m) = known.Connection
-interface_asked (typed.Pingpong proxy m) = known.Pingpong
-interface_asked (typed.Seat proxy m) = known.Seat
-interface_asked (typed.Device proxy m) = known.Device
-interface_asked (typed.Pointer proxy m) = known.Pointer
-interface_asked (typed.PointerAbsolute proxy m) = known.PointerAbsolute
-interface_asked (typed.Scroll proxy m) = known.Scroll
-interface_asked (typed.Button proxy m) = known.Button
-interface_asked (typed.Keyboard proxy m) = known.Keyboard
-interface_asked (typed.Touchscreen proxy m) = known.Touchscreen
-interface_asked (typed.Text proxy m) = known.Text
+-- ---- what is refused
 
 -- a refusal as the session tells it; none is for the handshake, since its object goes with the finish
 abbrev pub refusal_told : Reason → Refusal

@@ -33,7 +33,7 @@ ghost use Rattle.ei_session.specs.Refusals.{may_give, came, refusal};
 ghost use Rattle.ei_session.specs.Requests.{slot};
 ghost use Rattle.ei_session.specs.Replies.{settled_events, connection_event, finish_events};
 ghost use Rattle.ei_session.specs.Events.{resumed_event, reply};
-ghost use Rattle.ei_request.specs.Typed.{meaning_of};
+ghost use Rattle.ei_request.specs.Typed.{interface_asked, meaning_of};
 ghost use Rattle.ei_request.specs.Held.{is_seat};
 ghost use Rattle.ei_request.specs.Connection.{ConnectionView, new_connection, holds_device};
 ghost use Rattle.ei_request.specs.Sending.{tells};
@@ -43,7 +43,7 @@ ghost use Rattle.ei_request.specs.Refusing.{refusal as refused};
 ghost use Rattle.ei_request.specs.Handling.{handled, queues, set_of, bind_of, request_device_of};
 ghost use Rattle.ei_request.specs.Converter.{ConverterView};
 ghost use Rattle.ei_standing.specs.Standing.{connection_object, seat_of, seat_held, IsHeld, HandedOver, TookOne, request_in_code};
-ghost use Rattle.ei_standing.specs.Standing.{seat_events, tells_no_object, with_table, interface_asked, refusal_told};
+ghost use Rattle.ei_standing.specs.Standing.{seat_events, tells_no_object, with_table, refusal_told};
 
 /// A typed request asks what its message asks.
 pub fn meanings()

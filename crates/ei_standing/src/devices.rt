@@ -7,7 +7,7 @@ ghost use Rattle.ei_spec.specs.Message.{Raw};
 ghost use Rattle.ei_spec.specs.History.{each};
 ghost use Rattle.ei_spec.specs.Groups.{group};
 ghost use Rattle.ei_session.specs.Setup.{Setup};
-ghost use Rattle.ei_session.specs.Inputs.{Input as Asked};
+ghost use Rattle.ei_input.specs.declared.input_event.InputEvent.{InputEvent};
 ghost use Rattle.ei_session.specs.Meaning.{Meaning, meaning, Syncs, Disconnects, Pongs, ReleasesSeat, Binds};
 ghost use Rattle.ei_session.specs.Meaning.{RequestsDevice, Closes, Starts, Stops, Frames, Readies, Releases, Inputs};
 ghost use Rattle.ei_session.specs.Objects.{Entry, object};
@@ -21,7 +21,7 @@ ghost use Rattle.ei_standing.specs.Standing.{IsHeld, TookOne, device_of, used_by
 
 /// One more message to a device or to an interface of one.
 pub fn device_messages()
-    ensures input { (setup : Setup) (past : List Raw) (m : Raw) (readings : List ℕ) (c : ConverterView) (e : Entry) (i : Asked) (time : ℕ) →
+    ensures input { (setup : Setup) (past : List Raw) (m : Raw) (readings : List ℕ) (c : ConverterView) (e : Entry) (i : InputEvent) (time : ℕ) →
         IsHeld setup past readings c → object past m.id ≡ Some e → meaning e.interface m ≡ Some (Inputs i) → refusal setup past m ≡ None →
         TookOne setup past m readings [] c (handled c m.id (Inputs i) time) }
     ensures frame { (setup : Setup) (past : List Raw) (m : Raw) (readings : List ℕ) (c : ConverterView) (e : Entry) (s t time : ℕ) →

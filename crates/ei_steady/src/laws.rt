@@ -4,7 +4,7 @@ ghost use Rattle.std.specs.Prelude.{◌≡◌, ℕ, ◌+◌, ◌≤◌, Bool, tr
 ghost use Rattle.ei_spec.specs.declared.interface.KnownInterface.{KnownInterface};
 ghost use Rattle.ei_types.specs.declared.enums.DisconnectReason.{DisconnectReason};
 ghost use Rattle.std.specs.Prelude.{Option, None};
-ghost use Rattle.ei_types.specs.Inputs.{Input};
+ghost use Rattle.ei_input.specs.declared.input_event.InputEvent.{InputEvent};
 ghost use Rattle.ei_reported.specs.Said.{Said, Told, Aside, Disconnects, SeatGoes, DeviceTells, DeviceGoes, Inputs, Modifies, Goes};
 ghost use Rattle.ei_reported.specs.Reported.{refusal};
 ghost use Rattle.ei_steady.specs.Steady.{NoneRefused, GoingDevice, devices_go_events, without_devices, AreHeldByAll, IdsRise, EachHeld, brought_by, chosen};
@@ -29,7 +29,7 @@ pub fn quiet()
         Stands before next h → GoesOn before (Disconnects last why text ∷ []) next h }
     ensures told { (before : List Said) (next device serial : ℕ) (h : Held) (told : Told) → Stands before next h → h.device device ≡ true →
         GoesOn before (DeviceTells device serial told ∷ []) next h }
-    ensures input { (before : List Said) (next id device : ℕ) (h : Held) (input : Input) → Stands before next h → h.interface id ≡ Some device →
+    ensures input { (before : List Said) (next id device : ℕ) (h : Held) (input : InputEvent) → Stands before next h → h.interface id ≡ Some device →
         GoesOn before (Inputs id input ∷ []) next h }
     ensures modifiers { (before : List Said) (next id device serial depressed locked latched layout : ℕ) (h : Held) →
         Stands before next h → h.interface id ≡ Some device →

@@ -1,38 +1,39 @@
 -- Sets of capabilities as masks.
-use Rattle.std.proofs.Common.{◌≡◌, ℕ, zero, suc, ◌<◌, ◌≤◌, ◌%◌, max, min, true, ◌||◌, eqb, bit_and, refl, sym, ap, ◌∙◌, arith}
+use Rattle.std.proofs.Common.{◌≡◌, ℕ, zero, suc, ◌+◌, ◌<◌, ◌≤◌, ◌%◌, max, min, Bool, true, ◌||◌, ◌&&◌, eqb, bit_and, List, [], ◌∷◌, length, get_or, refl, sym, ap, ◌∙◌, subst, arith}
 use Rattle.std.specs.Int.{bit_at}
 use Rattle.std.specs.Int.RustNames.{bit_or}
 use Rattle.std.proofs.lemmas.Nat.{and_mask, and_le_r, or_lt}
 use Rattle.std.proofs.lemmas.Nat.Bits.{bit_at_and, bit_at_or, bit_at-lt, same_from_bits_below}
-use Rattle.std.proofs.lemmas.Bool.{eqb-true, eq-eqb}
+use Rattle.std.proofs.lemmas.Bool.{eqb-true, eq-eqb, and_parts}
 use Rattle.ei_types.specs.declared.capability.DeviceCapability.{DeviceCapability}
-use Rattle.ei_types.specs.declared.capability.DeviceCapability.TheVariants.{Pointer, PointerAbsolute, Keyboard, Touch, Scroll, Button, Text}
-use Rattle.ei_types.specs.Capability.{bit_of, has_bit, index_of, all_bits}
+use Rattle.ei_types.specs.declared.capability.DeviceCapability.TheVariants.{Pointer}
+use Rattle.ei_spec.specs.declared.limits.TheConstants.{CAPABILITIES}
+use Rattle.ei_types.specs.Capability.{bit_of, has_bit, index_of, capability_list, all_bits}
 
--- a number has no bit beyond the seven where it is at most 127
-pub seven_bits : (n : ℕ) → bit_and n 127 ≡ n % 128
-seven_bits n = and_mask n 7
+-- a number has no bit beyond these where it is no larger than all of them
+pub known_bits : (n : ℕ) → bit_and n all_bits ≡ n % (all_bits + 1)
+known_bits n = and_mask n CAPABILITIES
 
 -- a capability's bit is the one at its place
 at_place : (n : ℕ) (one : DeviceCapability) → has_bit n (bit_of one) ≡ eqb (bit_at n (index_of one)) 1
 at_place n Pointer = refl
-at_place n PointerAbsolute = refl
-at_place n Keyboard = refl
-at_place n Touch = refl
-at_place n Scroll = refl
-at_place n Button = refl
-at_place n Text = refl
+at_place n one = refl
 
--- what holds at the place of each capability holds at each place below 7
-at_each : (P : ℕ → Type 0) → ((one : DeviceCapability) → P (index_of one)) → (i : ℕ) → i < 7 → P i
-at_each P h zero lt = h Pointer
-at_each P h (suc zero) lt = h PointerAbsolute
-at_each P h (suc (suc zero)) lt = h Keyboard
-at_each P h (suc (suc (suc zero))) lt = h Touch
-at_each P h (suc (suc (suc (suc zero)))) lt = h Scroll
-at_each P h (suc (suc (suc (suc (suc zero))))) lt = h Button
-at_each P h (suc (suc (suc (suc (suc (suc zero)))))) lt = h Text
-at_each P h (suc (suc (suc (suc (suc (suc (suc i))))))) lt = absurd (omega arith)
+-- the places rise by one from n on
+abbrev rise : ℕ → List DeviceCapability → Bool
+rise n [] = true
+rise n (one ∷ more) = eqb (index_of one) n && rise (n + 1) more
+
+place_in : (n : ℕ) (all : List DeviceCapability) (i : ℕ) (d : DeviceCapability) → rise n all ≡ true → i < length all → index_of (get_or all i d) ≡ n + i
+place_in n [] i d h lt = absurd (omega arith)
+place_in n (one ∷ more) zero d h lt = omega (arith, eqb-true (index_of one) n (and_parts (eqb (index_of one) n) (rise (n + 1) more) h).0)
+place_in n (one ∷ more) (suc i) d h lt = omega (arith, place_in (n + 1) more i d (and_parts (eqb (index_of one) n) (rise (n + 1) more) h).1 (omega arith))
+
+-- what holds at the place of each capability holds at each place
+at_each : (P : ℕ → Type 0) → ((one : DeviceCapability) → P (index_of one)) → (i : ℕ) → i < CAPABILITIES → P i
+at_each P h i lt =
+    let here : index_of (get_or capability_list i Pointer) ≡ i = omega (arith, place_in 0 capability_list i Pointer refl lt) in
+    subst P here (h (get_or capability_list i Pointer))
 
 either : (x y : ℕ) → x < 2 → y < 2 → eqb (max x y) 1 ≡ (eqb x 1 || eqb y 1)
 either zero zero p q = refl
@@ -54,7 +55,7 @@ union_has a b one =
     rw (at_place (bit_or a b) one, at_place a one, at_place b one, bit_at_or a b (index_of one)) (either (bit_at a i) (bit_at b i) (bit_at-lt a i) (bit_at-lt b i))
 
 pub union_known : (a b : ℕ) → a ≤ all_bits → b ≤ all_bits → bit_or a b ≤ all_bits
-union_known a b p q = omega (arith, or_lt 7 a b (omega arith) (omega arith))
+union_known a b p q = omega (arith, or_lt CAPABILITIES a b (omega arith) (omega arith))
 
 -- a set that contains another has each of its capabilities
 pub contained : (a b : ℕ) → bit_and a b ≡ b → (one : DeviceCapability) → has_bit b (bit_of one) ≡ true → has_bit a (bit_of one) ≡ true
@@ -64,9 +65,9 @@ contained a b e one h =
     let both : bit_at b i ≡ min (bit_at a i) (bit_at b i) = ap (λ (n : ℕ). bit_at n i) (sym e) ∙ bit_at_and a b i in
     at_place a one ∙ eq-eqb _ _ (omega (arith, bit_at-lt a i))
 
--- and a set of the seven is contained where each of its capabilities is
+-- and a set of capabilities is contained where each of its capabilities is
 pub contains_known : (a b : ℕ) → b ≤ all_bits → ((one : DeviceCapability) → has_bit b (bit_of one) ≡ true → has_bit a (bit_of one) ≡ true) → bit_and a b ≡ b
-contains_known a b le h = same_from_bits_below 7 (bit_and a b) b (omega (arith, and_le_r a b)) (omega arith) (at_each (λ i. bit_at (bit_and a b) i ≡ bit_at b i) at_one)
+contains_known a b le h = same_from_bits_below CAPABILITIES (bit_and a b) b (omega (arith, and_le_r a b)) (omega arith) (at_each (λ i. bit_at (bit_and a b) i ≡ bit_at b i) at_one)
   where
     at_one : (one : DeviceCapability) → bit_at (bit_and a b) (index_of one) ≡ bit_at b (index_of one)
     at_one one =

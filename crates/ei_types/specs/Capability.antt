@@ -2,14 +2,15 @@
 use Rattle.std.specs.Prelude.{ℕ, ◌/◌, ◌%◌, ◌==◌, Bool, List, [], ◌∷◌, Option, Some, None, option_and_then, unwrap_or, map, IsTrue}
 use Rattle.ei_spec.specs.declared.interface.KnownInterface.{KnownInterface}
 use Rattle.ei_spec.specs.declared.interface.KnownInterface.TheVariants as known
+use Rattle.ei_spec.specs.declared.limits.TheConstants.{ALL_CAPABILITIES}
 use Rattle.ei_spec.specs.Interface.{about, name_of, known_of}
 use Rattle.ei_types.specs.declared.capability.DeviceCapability.{DeviceCapability}
-use Rattle.ei_types.specs.declared.capability.DeviceCapability.TheVariants.{Pointer, PointerAbsolute, Keyboard, Touch, Scroll, Button, Text}
+use Rattle.ei_types.specs.declared.capability.DeviceCapability.TheVariants.{Pointer, PointerAbsolute, Keyboard, Touch, Scroll, Button, Text, Gesture}
 use Rattle.ei_types.specs.declared.capability.DeviceCapabilities.{DeviceCapabilities}
 
 -- the capabilities by rising bit
 abbrev pub capability_list : List DeviceCapability
-capability_list = Pointer ∷ PointerAbsolute ∷ Keyboard ∷ Touch ∷ Scroll ∷ Button ∷ Text ∷ []
+capability_list = Pointer ∷ PointerAbsolute ∷ Keyboard ∷ Touch ∷ Scroll ∷ Button ∷ Text ∷ Gesture ∷ []
 
 -- the place of a capability in this list
 abbrev pub index_of : DeviceCapability → ℕ
@@ -20,6 +21,7 @@ index_of Touch = 3
 index_of Scroll = 4
 index_of Button = 5
 index_of Text = 6
+index_of Gesture = 7
 
 -- the interface that a capability names
 abbrev pub interface_of : DeviceCapability → KnownInterface
@@ -30,6 +32,7 @@ interface_of Touch = known.Touchscreen
 interface_of Scroll = known.Scroll
 interface_of Button = known.Button
 interface_of Text = known.Text
+interface_of Gesture = known.Gesture
 
 -- its bit: that of its interface
 abbrev pub bit_of : DeviceCapability → ℕ
@@ -52,6 +55,7 @@ capability_of known.Touchscreen = Some Touch
 capability_of known.Scroll = Some Scroll
 capability_of known.Button = Some Button
 capability_of known.Text = Some Text
+capability_of known.Gesture = Some Gesture
 capability_of interface = None
 
 -- the capability whose interface has a name, if there is one
@@ -62,9 +66,9 @@ capability_named name = option_and_then capability_of (known_of name)
 abbrev pub bits_of : DeviceCapabilities → ℕ
 bits_of set = set.0
 
--- the bits of all seven; a number is a set of capabilities where it is no larger
+-- the bits of all of them; a number is a set of capabilities where it is no larger
 abbrev pub all_bits : ℕ
-all_bits = 127
+all_bits = ALL_CAPABILITIES
 
 -- whether a set of these bits has this bit
 abbrev pub has_bit : ℕ → ℕ → Bool

@@ -1,10 +1,9 @@
 pub mod Enums
 pub mod Capability
-pub mod Twelve
+pub mod Settled
 pub mod Operations
 pub mod Errors
 pub mod Texts
-pub mod Inputs
 -- what the clauses cite of the crates below
 pub use Rattle.ei_spec.specs.Reading
 pub use Rattle.ei_spec.specs.Spelling

@@ -1,12 +1,13 @@
 //! Capabilities of devices.
 
-ghost use Rattle.std.specs.Prelude.{⊤, ◌≡◌, true, false, ◌||◌, IsTrue, ◌==◌, ◌≤◌, ◌↔◌, [], ◌∷◌, codes, Some, IfSome, IsSome, slice_get};
+ghost use Rattle.std.specs.Prelude.{⊤, ◌≡◌, true, false, ◌||◌, IsTrue, ◌==◌, ◌≤◌, ◌↔◌, [], ◌∷◌, codes, Some, IfSome, IsSome, length, slice_get};
 ghost use Rattle.std.specs.Int.RustNames.{bit_and, bit_or};
 ghost use Rattle.ei_types.specs.Capability.{all_bits, bit_of, bits_of, capabilities, capability_list, capability_named, has_bit, holds, HoldsEach, index_of};
 ghost use Rattle.ei_types.specs.Capability.{interface_name_of, interface_of};
 
 use bitflags::{Flag, Flags, bitflag_items};
 use ei_spec::KnownInterface;
+use ei_spec::limits::CAPABILITIES;
 
 /// What a device can do.
 #[derive(Clone, Copy, Debug, PartialEq, Eq, Hash)]
@@ -25,11 +26,13 @@ pub enum DeviceCapability {
     Button,
     /// Keysyms and text.
     Text,
+    /// Gestures of several fingers.
+    Gesture,
 }
 
 impl DeviceCapability {
     /// The capabilities by rising bit.
-    pub const ALL: [DeviceCapability; 7] = [
+    pub const ALL: [DeviceCapability; CAPABILITIES] = [
         DeviceCapability::Pointer,
         DeviceCapability::PointerAbsolute,
         DeviceCapability::Keyboard,
@@ -37,6 +40,7 @@ impl DeviceCapability {
         DeviceCapability::Scroll,
         DeviceCapability::Button,
         DeviceCapability::Text,
+        DeviceCapability::Gesture,
     ];
 
     /// The interface that bears this capability on the wire.
@@ -52,6 +56,7 @@ impl DeviceCapability {
             DeviceCapability::Scroll => KnownInterface::Scroll,
             DeviceCapability::Button => KnownInterface::Button,
             DeviceCapability::Text => KnownInterface::Text,
+            DeviceCapability::Gesture => KnownInterface::Gesture,
         }
     }
 
@@ -79,15 +84,17 @@ impl DeviceCapability {
             KnownInterface::Scroll => Some(DeviceCapability::Scroll),
             KnownInterface::Button => Some(DeviceCapability::Button),
             KnownInterface::Text => Some(DeviceCapability::Text),
+            KnownInterface::Gesture => Some(DeviceCapability::Gesture),
             _ => None,
         }
     }
 
-    /// The place in the order of rising bits, from 0 to 6.
+    /// The place in the order of rising bits, from 0 on.
     pub fn index(self) -> usize
         ensures value { result ≡ index_of self }
         ensures place { slice_get capability_list result ≡ Some self }
         ensures order { Self.ALL ≡ capability_list }
+        ensures count { length capability_list ≡ CAPABILITIES }
     {
         match self {
             DeviceCapability::Pointer => 0,
@@ -97,6 +104,7 @@ impl DeviceCapability {
             DeviceCapability::Scroll => 4,
             DeviceCapability::Button => 5,
             DeviceCapability::Text => 6,
+            DeviceCapability::Gesture => 7,
         }
     }
 
@@ -121,6 +129,7 @@ bitflag_items! {
         const SCROLL = 16;
         const BUTTON = 32;
         const TEXT = 64;
+        const GESTURE = 128;
     }
 }
 
@@ -130,7 +139,7 @@ impl Flags for DeviceCapabilities {
     ghost exact = { ⊤ };
 
     ghost table = { (codes "POINTER", 1) ∷ (codes "POINTER_ABSOLUTE", 2) ∷ (codes "KEYBOARD", 4) ∷ (codes "TOUCH", 8) ∷ (codes "SCROLL", 16) ∷
-        (codes "BUTTON", 32) ∷ (codes "TEXT", 64) ∷ [] };
+        (codes "BUTTON", 32) ∷ (codes "TEXT", 64) ∷ (codes "GESTURE", 128) ∷ [] };
 
     ghost set_of = { bits_of };
 
@@ -156,7 +165,7 @@ impl DeviceCapabilities {
         <DeviceCapabilities as Flags>::empty()
     }
 
-    /// The set of all seven.
+    /// The set of all capabilities.
     #[tactic(auto, unfolding(bitflags::specs::Sets::known_from))]
     pub fn all() -> DeviceCapabilities
         ensures value { bits_of result ≡ all_bits }
@@ -173,7 +182,7 @@ impl DeviceCapabilities {
     }
 
     /// The set of these bits; `None` where one of them is no capability's.
-    #[tactic(auto, using(crate::proofs::Masks::seven_bits), unfolding(bitflags::specs::Sets::known_from))]
+    #[tactic(auto, using(crate::proofs::Masks::known_bits), unfolding(bitflags::specs::Sets::known_from))]
     pub fn from_bits(bits: u64) -> Option<DeviceCapabilities>
         ensures known { IsSome result ↔ (bits ≤ all_bits) }
         ensures value { IfSome result (λ set. bits_of set ≡ bits) }

@@ -1,13 +1,14 @@
 //! The interfaces that a handshake settles.
 
 ghost use Rattle.std.specs.Prelude.{◌≡◌, ℕ, List, map};
-ghost use Rattle.ei_types.specs.Twelve.{named_versions, versions};
+ghost use Rattle.ei_types.specs.Settled.{named_versions, versions};
 
 use ei_spec::KnownInterface;
+use ei_spec::limits::SETTLED_INTERFACES;
 
-/// The twelve interfaces that a handshake settles, with the versions that both ends speak, in the
+/// The interfaces that a handshake settles, with the versions that both ends speak, in the
 /// order in which they are announced.
-pub fn known_interfaces() -> [(KnownInterface, u32); 12]
+pub fn known_interfaces() -> [(KnownInterface, u32); SETTLED_INTERFACES]
     ensures { result ≡ versions }
 {
     [
@@ -23,11 +24,12 @@ pub fn known_interfaces() -> [(KnownInterface, u32); 12]
         (KnownInterface::Keyboard, 1),
         (KnownInterface::Touchscreen, 2),
         (KnownInterface::Text, 1),
+        (KnownInterface::Gesture, 1),
     ]
 }
 
-/// The names and the versions of the twelve, in that order.
-pub fn interfaces() -> [(&'static str, u32); 12]
+/// Their names and their versions, in that order.
+pub fn interfaces() -> [(&'static str, u32); SETTLED_INTERFACES]
     ensures { map {B = List ℕ × ℕ} (λ p. (p.0.now, p.1)) result ≡ named_versions }
 {
     [
@@ -43,5 +45,6 @@ pub fn interfaces() -> [(&'static str, u32); 12]
         ("ei_keyboard", 1),
         ("ei_touchscreen", 2),
         ("ei_text", 1),
+        ("ei_x_gesture", 1),
     ]
 }

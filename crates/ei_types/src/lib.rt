@@ -1,5 +1,5 @@
 //! The small types that both ends share: enums of the protocol, capabilities and sets of them, the
-//! twelve interfaces that a handshake settles, and the errors of a session.
+//! interfaces that a handshake settles, and the errors of a session.
 //!
 //! There are no messages here and no state. Begin with `DeviceCapability` and `Error`.
 #![tactic(auto)]

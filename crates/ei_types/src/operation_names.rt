@@ -66,6 +66,7 @@ fn request_name(interface: KnownInterface, opcode: u32) -> Option<&'static str>
         KnownInterface::Keyboard => nth(opcode, &["release", "key"]),
         KnownInterface::Touchscreen => nth(opcode, &["release", "down", "motion", "up", "cancel"]),
         KnownInterface::Text => nth(opcode, &["release", "keysym", "utf8"]),
+        KnownInterface::Gesture => nth(opcode, &["release", "swipe", "pinch"]),
     }
 }
 
@@ -102,6 +103,7 @@ fn event_name(interface: KnownInterface, opcode: u32) -> Option<&'static str>
             &["destroyed", "down", "motion", "up", "cancel"],
         ),
         KnownInterface::Text => nth(opcode, &["destroyed", "keysym", "utf8"]),
+        KnownInterface::Gesture => nth(opcode, &["destroyed", "swipe", "pinch"]),
     }
 }
 

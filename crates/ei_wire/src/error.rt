@@ -1,6 +1,7 @@
 //! Why a message can't be read or sent, and why reading and flushing stop.
 
 ghost use Rattle.std.specs.Prelude.{◌≡◌};
+ghost use Rattle.ei_wire.specs.Texts.{send_error_text, read_error_text, flush_error_text};
 ghost use Rattle.ei_wire.specs.declared.error.ParseError.TheVariants as error;
 ghost use Rattle.ei_wire.specs.declared.error.SendError.TheVariants as send_error;
 ghost use Rattle.ei_wire.specs.declared.error.ReadError.TheVariants as read_error;
@@ -9,6 +10,7 @@ ghost use Rattle.ei_wire.specs.declared.error.FlushError.TheVariants as flush_er
 use crate::text::EiText;
 use std::alloc::{AllocError, AllocFailed};
 use std::fmt;
+use thiserror::Error;
 
 /// Memory ran out.
 #[derive(Clone, Copy, Debug, PartialEq, Eq, Hash)]
@@ -100,7 +102,8 @@ impl fmt::Display for ParseError {
 impl std::error::Error for ParseError {}
 
 /// Why a message isn't sent. Nothing is written then.
-#[derive(Debug, PartialEq, Eq, Drop)]
+#[derive(Debug, PartialEq, Eq, Drop, Error)]
+#[error("{}", self.text())]
 pub enum SendError {
     /// The message would have more than 1048576 bytes.
     MessageTooLong,
@@ -110,25 +113,22 @@ pub enum SendError {
     NoMemory,
 }
 
-impl fmt::Display for SendError {
-    ghost use Rattle.std.specs.Prelude.{Some};
-    ghost use Rattle.ei_wire.specs.Texts.{send_error_text};
-
-    ghost output = { λ e. Some (send_error_text e) };
-
-    fn fmt<W: fmt::Write>(&self, f: &mut fmt::Formatter<W>) -> fmt::Result {
+impl SendError {
+    /// Why the message isn't sent, as a text for people.
+    pub fn text(&self) -> &'static str
+        ensures { result.now ≡ send_error_text self.now }
+    {
         match self {
-            SendError::MessageTooLong => f.write_str("message too long"),
-            SendError::IdsExhausted => f.write_str("no object id is left"),
-            SendError::NoMemory => f.write_str("out of memory"),
+            SendError::MessageTooLong => "message too long",
+            SendError::IdsExhausted => "no object id is left",
+            SendError::NoMemory => "out of memory",
         }
     }
 }
 
-impl std::error::Error for SendError {}
-
 /// Why no piece was read.
-#[derive(Debug, PartialEq, Eq, Drop)]
+#[derive(Debug, PartialEq, Eq, Drop, Error)]
+#[error("{}", self.text())]
 pub enum ReadError {
     /// The source is at its end, or the endpoint is closed.
     UnexpectedEof,
@@ -140,26 +140,23 @@ pub enum ReadError {
     NoMemory,
 }
 
-impl fmt::Display for ReadError {
-    ghost use Rattle.std.specs.Prelude.{Some};
-    ghost use Rattle.ei_wire.specs.Texts.{read_error_text};
-
-    ghost output = { λ e. Some (read_error_text e) };
-
-    fn fmt<W: fmt::Write>(&self, f: &mut fmt::Formatter<W>) -> fmt::Result {
+impl ReadError {
+    /// Why no piece was read, as a text for people.
+    pub fn text(&self) -> &'static str
+        ensures { result.now ≡ read_error_text self.now }
+    {
         match self {
-            ReadError::UnexpectedEof => f.write_str("IO error: unexpected EOF reading ei socket"),
-            ReadError::ReadFault => f.write_str("IO error: read fault"),
-            ReadError::HandleLimit => f.write_str("too many unread handles"),
-            ReadError::NoMemory => f.write_str("out of memory"),
+            ReadError::UnexpectedEof => "IO error: unexpected EOF reading ei socket",
+            ReadError::ReadFault => "IO error: read fault",
+            ReadError::HandleLimit => "too many unread handles",
+            ReadError::NoMemory => "out of memory",
         }
     }
 }
 
-impl std::error::Error for ReadError {}
-
 /// Why not all was written. The rest stays buffered.
-#[derive(Debug, PartialEq, Eq, Drop)]
+#[derive(Debug, PartialEq, Eq, Drop, Error)]
+#[error("{}", self.text())]
 pub enum FlushError {
     /// The sink failed.
     WriteFault,
@@ -167,21 +164,17 @@ pub enum FlushError {
     NoMemory,
 }
 
-impl fmt::Display for FlushError {
-    ghost use Rattle.std.specs.Prelude.{Some};
-    ghost use Rattle.ei_wire.specs.Texts.{flush_error_text};
-
-    ghost output = { λ e. Some (flush_error_text e) };
-
-    fn fmt<W: fmt::Write>(&self, f: &mut fmt::Formatter<W>) -> fmt::Result {
+impl FlushError {
+    /// Why not all was written, as a text for people.
+    pub fn text(&self) -> &'static str
+        ensures { result.now ≡ flush_error_text self.now }
+    {
         match self {
-            FlushError::WriteFault => f.write_str("IO error: write fault"),
-            FlushError::NoMemory => f.write_str("out of memory"),
+            FlushError::WriteFault => "IO error: write fault",
+            FlushError::NoMemory => "out of memory",
         }
     }
 }
-
-impl std::error::Error for FlushError {}
 
 impl<E: MemoryError> From<E> for ParseError {
     ghost from_gives = { λ _ e. e ≡ error.NoMemory };

@@ -1,10 +1,10 @@
 //! The client's end: its context, its proxies with their requests, and a server's events.
 
 pub use ei_client::{
-    Button, Callback, Connection, Context, Device, Event, Handshake, Interface, Keyboard, Pingpong,
-    Pointer, PointerAbsolute, Proxy, Release, Scroll, Seat, Sent, Text, Touchscreen, button,
-    callback, connection, device, handshake, keyboard, pingpong, pointer, pointer_absolute, scroll,
-    seat, text, touchscreen,
+    Button, Callback, Connection, Context, Device, Event, Gesture, Handshake, Interface, Keyboard,
+    Pingpong, Pointer, PointerAbsolute, Proxy, Release, Scroll, Seat, Sent, Text, Touchscreen,
+    button, callback, connection, device, gesture, handshake, keyboard, pingpong, pointer,
+    pointer_absolute, scroll, seat, text, touchscreen,
 };
 pub use ei_types::{
     ButtonState, ContextType, DeviceType, DisconnectReason, KeyState, KeymapType, OtherReason,

@@ -3,8 +3,8 @@
 pub use ei_request::{
     Bind, Button, Connection, Device, DeviceClosed, DeviceEvent, DeviceInterface, DeviceSetup,
     DeviceStartEmulating, DeviceStopEmulating, EisRequest, EisRequestConverter, EventTime, Frame,
-    KeyboardKey, PointerMotion, PointerMotionAbsolute, Ready, RequestDevice, ScrollCancel,
-    ScrollDelta, ScrollDiscrete, ScrollStop, Seat, SeatEvent, TextKeysym, TextUtf8, TouchCancel,
-    TouchDown, TouchMotion, TouchUp,
+    GesturePinch, GestureSwipe, KeyboardKey, PointerMotion, PointerMotionAbsolute, Ready,
+    RequestDevice, ScrollCancel, ScrollDelta, ScrollDiscrete, ScrollStop, Seat, SeatEvent,
+    TextKeysym, TextUtf8, TouchCancel, TouchDown, TouchMotion, TouchUp,
 };
 pub use ei_types::{DeviceCapabilities, DeviceCapability, RequestError};

@@ -95,7 +95,7 @@ fn push_announced(context: &mut Context, count: u32, said: &mut Tray) -> Result<
     push_motions(context, &pointer, count, said)
 }
 
-/// What a client says that tells so many versions of the twelve interfaces, one after another, and ends the handshake.
+/// What a client says that tells so many versions of twelve interfaces, one after another, and ends the handshake.
 pub(crate) fn versions(alloc: Global, count: u32) -> Result<Tray, Error> {
     let mut said = Tray::new(alloc);
     say_versions(alloc, count, &mut said)?;

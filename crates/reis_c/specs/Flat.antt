@@ -63,6 +63,8 @@ flat (request.TouchUp r) = of_device 19 r.device r.time (one r.touch_id)
 flat (request.TouchCancel r) = of_device 20 r.device r.time (one r.touch_id)
 flat (request.TextKeysym r) = of_device 21 r.device r.time (two r.keysym (key_state_number r.state))
 flat (request.TextUtf8 r) = of_device 22 r.device r.time (one (length r.text))
+flat (request.GestureSwipe r) = of_device 23 r.device r.time (three r.fingers r.dx.0 r.dy.0)
+flat (request.GesturePinch r) = of_device 24 r.device r.time (one r.scale.0)
 
 -- the text that a request bears, if it bears one
 abbrev pub text_in : EisRequest → Option (List ℕ)

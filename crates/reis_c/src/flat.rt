@@ -1,4 +1,4 @@
-//! A request as C reads it.
+//! A request as C reads it, with the numbers of the kinds.
 
 ghost use Rattle.std.specs.Prelude.{◌≡◌, [], ◌∷◌};
 ghost use Rattle.std.specs.Option.{option_copied};
@@ -6,11 +6,60 @@ ghost use Rattle.std.specs.Int.{cast_unsigned, w32};
 ghost use Rattle.ei_types.specs.Enums.{button_state_number, key_state_number};
 ghost use Rattle.reis_c.specs.Flat.{of_device, of_seat, flat, text_in, truth};
 
-use crate::numbers as kind;
 use ei_backend::Interface;
 use ei_request::{Device, EisRequest, Seat};
 use ei_types::DeviceCapabilities;
 use ei_wire::RawFloat;
+
+// ---- the kinds of requests
+
+pub const DISCONNECT: u32 = 1;
+
+pub const BIND: u32 = 2;
+
+pub const DEVICE_CLOSED: u32 = 3;
+
+pub const REQUEST_DEVICE: u32 = 4;
+
+pub const FRAME: u32 = 5;
+
+pub const READY: u32 = 6;
+
+pub const START_EMULATING: u32 = 7;
+
+pub const STOP_EMULATING: u32 = 8;
+
+pub const POINTER_MOTION: u32 = 9;
+
+pub const POINTER_MOTION_ABSOLUTE: u32 = 10;
+
+pub const BUTTON: u32 = 11;
+
+pub const SCROLL_DELTA: u32 = 12;
+
+pub const SCROLL_STOP: u32 = 13;
+
+pub const SCROLL_CANCEL: u32 = 14;
+
+pub const SCROLL_DISCRETE: u32 = 15;
+
+pub const KEY: u32 = 16;
+
+pub const TOUCH_DOWN: u32 = 17;
+
+pub const TOUCH_MOTION: u32 = 18;
+
+pub const TOUCH_UP: u32 = 19;
+
+pub const TOUCH_CANCEL: u32 = 20;
+
+pub const TEXT_KEYSYM: u32 = 21;
+
+pub const TEXT_UTF8: u32 = 22;
+
+pub const GESTURE_SWIPE: u32 = 23;
+
+pub const GESTURE_PINCH: u32 = 24;
 
 /// A request, flat. The header says which fields each kind has; the others are 0.
 #[repr(C)]
@@ -98,7 +147,7 @@ fn truth(is: bool) -> u64
 /// A request with a time: its kind, its device and its time, and behind these what else it says.
 macro_rules! timed {
     ($of:ident, $kind:ident, $request:ident: $($said:expr),+) => {
-        $of(kind::$kind, &$request.device, $request.time, $($said),+)
+        $of($kind, &$request.device, $request.time, $($said),+)
     };
 }
 
@@ -108,26 +157,26 @@ pub(crate) fn flat(request: &EisRequest) -> ReisRequest
 {
     match request {
         EisRequest::Disconnect => ReisRequest {
-            kind: kind::DISCONNECT,
+            kind: DISCONNECT,
             seat: 0,
             device: 0,
             time: 0,
             fields: [0, 0, 0, 0],
         },
-        EisRequest::Bind(r) => of_seat(kind::BIND, &r.seat, &r.capabilities),
-        EisRequest::DeviceClosed(r) => change(kind::DEVICE_CLOSED, &r.device, 0, 0, 0),
-        EisRequest::RequestDevice(r) => of_seat(kind::REQUEST_DEVICE, &r.seat, &r.capabilities),
+        EisRequest::Bind(r) => of_seat(BIND, &r.seat, &r.capabilities),
+        EisRequest::DeviceClosed(r) => change(DEVICE_CLOSED, &r.device, 0, 0, 0),
+        EisRequest::RequestDevice(r) => of_seat(REQUEST_DEVICE, &r.seat, &r.capabilities),
         EisRequest::Frame(r) => timed!(change, FRAME, r: r.last_serial, 0),
-        EisRequest::Ready(r) => change(kind::READY, &r.device, 0, 0, 0),
+        EisRequest::Ready(r) => change(READY, &r.device, 0, 0, 0),
         EisRequest::DeviceStartEmulating(r) => change(
-            kind::START_EMULATING,
+            START_EMULATING,
             &r.device,
             0,
             r.last_serial,
             r.sequence,
         ),
         EisRequest::DeviceStopEmulating(r) => {
-            change(kind::STOP_EMULATING, &r.device, 0, r.last_serial, 0)
+            change(STOP_EMULATING, &r.device, 0, r.last_serial, 0)
         }
         EisRequest::PointerMotion(r) => timed!(point, POINTER_MOTION, r: r.dx, r.dy),
         EisRequest::PointerMotionAbsolute(r) => {
@@ -151,6 +200,8 @@ pub(crate) fn flat(request: &EisRequest) -> ReisRequest
             let length = r.text.len() as u64;
             timed!(of_device, TEXT_UTF8, r: [length, 0, 0, 0])
         }
+        EisRequest::GestureSwipe(r) => timed!(touch, GESTURE_SWIPE, r: r.fingers, r.dx, r.dy),
+        EisRequest::GesturePinch(r) => timed!(change, GESTURE_PINCH, r: r.scale.0, 0),
     }
 }
 

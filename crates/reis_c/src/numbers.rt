@@ -1,4 +1,4 @@
-//! The numbers that cross to C. `include/reis.h` repeats them.
+//! The numbers that cross to C, but for the kinds of requests, which stand in `flat`. `include/reis.h` repeats them.
 
 ghost use Rattle.std.specs.Prelude.{◌≡◌};
 ghost use Rattle.reis_c.specs.Answers.{answer_number};
@@ -35,52 +35,6 @@ pub const NOT_UNSENT: u32 = 11;
 
 /// So many pieces are no limit.
 pub const NO_LIMIT: u32 = 4294967295;
-
-// ---- the kinds of requests
-
-pub const DISCONNECT: u32 = 1;
-
-pub const BIND: u32 = 2;
-
-pub const DEVICE_CLOSED: u32 = 3;
-
-pub const REQUEST_DEVICE: u32 = 4;
-
-pub const FRAME: u32 = 5;
-
-pub const READY: u32 = 6;
-
-pub const START_EMULATING: u32 = 7;
-
-pub const STOP_EMULATING: u32 = 8;
-
-pub const POINTER_MOTION: u32 = 9;
-
-pub const POINTER_MOTION_ABSOLUTE: u32 = 10;
-
-pub const BUTTON: u32 = 11;
-
-pub const SCROLL_DELTA: u32 = 12;
-
-pub const SCROLL_STOP: u32 = 13;
-
-pub const SCROLL_CANCEL: u32 = 14;
-
-pub const SCROLL_DISCRETE: u32 = 15;
-
-pub const KEY: u32 = 16;
-
-pub const TOUCH_DOWN: u32 = 17;
-
-pub const TOUCH_MOTION: u32 = 18;
-
-pub const TOUCH_UP: u32 = 19;
-
-pub const TOUCH_CANCEL: u32 = 20;
-
-pub const TEXT_KEYSYM: u32 = 21;
-
-pub const TEXT_UTF8: u32 = 22;
 
 // ---- how a session ended
 

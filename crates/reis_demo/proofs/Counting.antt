@@ -8,10 +8,10 @@ use Rattle.ei_spec.specs.declared.interface.KnownInterface.{KnownInterface}
 use Rattle.ei_spec.specs.Message.{Raw}
 use Rattle.ei_spec.specs.History.{each, joined}
 use Rattle.ei_spec.specs.Groups.{Item, Input as Waiting, Frame, Other, Free, Timed, Framed, Plain, Slot, group, timed, with_frame, frames_made, gives, grouped}
+use Rattle.ei_input.specs.declared.input_event.InputEvent.{InputEvent}
+use Rattle.ei_input.specs.declared.input_event.InputEvent.TheVariants as input_event
 use Rattle.ei_session.specs.Setup.{Setup}
 use Rattle.ei_session.specs.Handshake.{version}
-use Rattle.ei_session.specs.Inputs.{Input, PointerMotion, PointerMotionAbsolute, Button, ScrollDelta, ScrollStop, ScrollCancel, ScrollDiscrete}
-use Rattle.ei_session.specs.Inputs.{KeyboardKey, TouchDown, TouchMotion, TouchUp, TouchCancel, TextKeysym, TextUtf8}
 use Rattle.ei_session.specs.Requests.{Request, slot, framed, Plain as Asked, Bind, RequestDevice, Ready, DeviceClosed, DeviceStartEmulating}
 use Rattle.ei_session.specs.Requests.{DeviceStopEmulating, Disconnect}
 use Rattle.ei_standing.specs.Standing.{handed_as, request_in_code}
@@ -40,20 +40,20 @@ same_length test xs ys e = sym (length-map xs test) ∙ ap (λ (bs : List Bool).
 abbrev kinds : List Request → List Bool
 kinds rs = map is_input rs
 
-abbrev inputs_and_frame : List Input → List Bool
+abbrev inputs_and_frame : List InputEvent → List Bool
 inputs_and_frame xs = map (λ _. true) xs ++ (false ∷ [])
 
-timed_kinds : (d time serial : ℕ) (xs : List Input) → kinds (timed d time xs ++ (Framed d serial time ∷ [])) ≡ inputs_and_frame xs
+timed_kinds : (d time serial : ℕ) (xs : List InputEvent) → kinds (timed d time xs ++ (Framed d serial time ∷ [])) ≡ inputs_and_frame xs
 unfolding timed
 timed_kinds d time serial [] = refl
 timed_kinds d time serial (x ∷ xs) = ap (λ (bs : List Bool). true ∷ bs) (timed_kinds d time serial xs)
 
-framed_kinds : (d serial time later : ℕ) (xs : List Input) → kinds (with_frame xs d serial time) ≡ kinds (with_frame xs d serial later)
+framed_kinds : (d serial time later : ℕ) (xs : List InputEvent) → kinds (with_frame xs d serial time) ≡ kinds (with_frame xs d serial later)
 unfolding with_frame
 framed_kinds d serial time later [] = refl
 framed_kinds d serial time later (x ∷ xs) = timed_kinds d time serial (x ∷ xs) ∙ sym (timed_kinds d later serial (x ∷ xs))
 
-gives_at : (readings : List ℕ) (before : List (Slot Input Asked)) (o : Option (Item Input Asked)) (serial : ℕ) →
+gives_at : (readings : List ℕ) (before : List (Slot InputEvent Asked)) (o : Option (Item InputEvent Asked)) (serial : ℕ) →
     kinds (gives readings before (record { item = o; serial = serial })) ≡ kinds (gives [] before (record { item = o; serial = serial }))
 unfolding gives
 gives_at readings before None serial = refl
@@ -68,7 +68,7 @@ gives_at readings before (Some (Other d y)) serial =
     ∙ sym (map-append is_input (with_frame w d serial none) (Plain y ∷ []))
 gives_at readings before (Some (Free y)) serial = refl
 
-grouped_kinds : (readings : List ℕ) (slots : List (Slot Input Asked)) → kinds (grouped readings slots) ≡ kinds (grouped [] slots)
+grouped_kinds : (readings : List ℕ) (slots : List (Slot InputEvent Asked)) → kinds (grouped readings slots) ≡ kinds (grouped [] slots)
 unfolding grouped joined
 grouped_kinds readings [] = refl
 grouped_kinds readings (s ∷ before) =
@@ -92,21 +92,9 @@ plain_kind versions (DeviceStartEmulating d serial sequence) = refl
 plain_kind versions (DeviceStopEmulating d serial) = refl
 plain_kind versions Disconnect = refl
 
-timed_kind : (versions : KnownInterface → ℕ) (d time : ℕ) (x : Input) → is_input_request (handed_as versions (Timed d x time)) ≡ true
-timed_kind versions d time (PointerMotion dx dy) = refl
-timed_kind versions d time (PointerMotionAbsolute dx dy) = refl
-timed_kind versions d time (Button b state) = refl
-timed_kind versions d time (ScrollDelta dx dy) = refl
-timed_kind versions d time (ScrollStop x y) = refl
-timed_kind versions d time (ScrollCancel x y) = refl
-timed_kind versions d time (ScrollDiscrete dx dy) = refl
-timed_kind versions d time (KeyboardKey key state) = refl
-timed_kind versions d time (TouchDown touch x y) = refl
-timed_kind versions d time (TouchMotion touch x y) = refl
-timed_kind versions d time (TouchUp touch) = refl
-timed_kind versions d time (TouchCancel touch) = refl
-timed_kind versions d time (TextKeysym keysym state) = refl
-timed_kind versions d time (TextUtf8 letters) = refl
+timed_kind : (versions : KnownInterface → ℕ) (d time : ℕ) (x : InputEvent) → is_input_request (handed_as versions (Timed d x time)) ≡ true
+timed_kind versions d time (input_event.PointerMotion dx dy) = refl
+timed_kind versions d time x = refl
 
 same_kind : (versions : KnownInterface → ℕ) (r : Request) → is_input_request (handed_as versions r) ≡ is_input r
 same_kind versions (Timed d x time) = timed_kind versions d time x

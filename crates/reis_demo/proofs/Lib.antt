@@ -5,5 +5,7 @@ pub mod Saying
 pub mod Passing
 pub mod Disconnecting
 pub mod Counting
+pub mod Tallying
 pub mod Telling
 pub mod DisconnectTold
+mod Fronts

@@ -11,7 +11,8 @@ use Rattle.ei_spec.specs.Stream.{Accepted, Final, Waiting, Reading, reading, rea
 use Rattle.ei_spec.specs.Table.{motion_relative, button, key, scroll_discrete, frame}
 use Rattle.ei_spec.proofs.FrontLaws.{front_again}
 use Rattle.ei_spec.proofs.GoesOn as goes_on
-use Rattle.ei_types.specs.Inputs.{PointerMotion, ScrollDiscrete, KeyboardKey, key_of, button as button_input}
+use Rattle.ei_input.specs.declared.input_event.InputEvent.TheVariants as input_event
+use Rattle.ei_input.specs.Inputs.{floats, button_of, key_of}
 use Rattle.ei_session.specs.Setup.{connection_id}
 use Rattle.ei_session.specs.Worked.{device_id}
 use Rattle.ei_session.specs.WorkedWhole.{pointer_id, keyboard_id, scroll_id}
@@ -21,7 +22,7 @@ use Rattle.ei_session.specs.Handshake.{connected}
 use Rattle.ei_session.specs.Devices.{exhausts}
 use Rattle.ei_session.specs.Objects.{Entry, object}
 use Rattle.ei_session.specs.Refusals.{judge}
-use Rattle.ei_session.specs.Meaning.{Meaning, Inputs, Frames, Disconnects, meaning, MotionRelative, Discrete, Button, Key, Frame, Disconnect}
+use Rattle.ei_session.specs.Meaning.{Meaning, Inputs, Frames, Disconnects, meaning, Input, Frame, Disconnect}
 use Rattle.ei_session.specs.ByMeaning.{refusal_for, disconnects, mask_in}
 use Rattle.ei_session.proofs.AllOpen.{all_open}
 use Rattle.ei_session.proofs.FirstObjects.{object_connection, the_connection}
@@ -100,32 +101,32 @@ unfolding request_args asks asked
 motion_passes past x small r =
     let m = requested known.Pointer (codes "motion_relative") pointer_id (Word x ∷ Word x ∷ []) in
     let args : request_args known.Pointer m ≡ Some (Word x ∷ Word x ∷ []) = reads_back motion_relative pointer_id 1 (Word x ∷ Word x ∷ []) (small, (small, tt)) (tt, (tt, tt)) in
-    passes_by past m (part known.Pointer) (Inputs (PointerMotion x x)) r (record { id = omega arith; opcode = omega arith; size = omega (arith, two_words x x) }) refl
-    (record { there = r.pointer; means = asks_means m known.Pointer 1 _ _ (MotionRelative x x) refl args; allowed = refl; goes_on = refl; makes_nothing = refl; releases_nothing = refl })
+    passes_by past m (part known.Pointer) (Inputs (floats input_event.PointerMotion x x)) r (record { id = omega arith; opcode = omega arith; size = omega (arith, two_words x x) }) refl
+    (record { there = r.pointer; means = asks_means m known.Pointer 1 _ _ (Input known.Pointer 1 _ _ refl) refl args; allowed = refl; goes_on = refl; makes_nothing = refl; releases_nothing = refl })
 
 button_passes : (past : List Raw) (s : ℕ) → s < 2 → IsReady past → Passes past (requested known.Button (codes "button") button_id (Word 272 ∷ Word s ∷ []))
 unfolding request_args asks asked
 button_passes past s small r =
     let m = requested known.Button (codes "button") button_id (Word 272 ∷ Word s ∷ []) in
     let args : request_args known.Button m ≡ Some (Word 272 ∷ Word s ∷ []) = reads_back button button_id 1 (Word 272 ∷ Word s ∷ []) (omega arith, ((omega (arith, small), two_states s small), tt)) (tt, (tt, tt)) in
-    passes_by past m (part known.Button) (Inputs (button_input 272 s)) r (record { id = omega arith; opcode = omega arith; size = omega (arith, two_words 272 s) }) refl
-    (record { there = r.button_there; means = asks_means m known.Button 1 _ _ (Button 272 s) refl args; allowed = refl; goes_on = refl; makes_nothing = refl; releases_nothing = refl })
+    passes_by past m (part known.Button) (Inputs (input_event.Button 272 (button_of s))) r (record { id = omega arith; opcode = omega arith; size = omega (arith, two_words 272 s) }) refl
+    (record { there = r.button_there; means = asks_means m known.Button 1 _ _ (Input known.Button 1 _ _ refl) refl args; allowed = refl; goes_on = refl; makes_nothing = refl; releases_nothing = refl })
 
 key_passes : (past : List Raw) (s : ℕ) → s < 2 → IsReady past → Passes past (requested known.Keyboard (codes "key") keyboard_id (Word 30 ∷ Word s ∷ []))
 unfolding request_args asks asked
 key_passes past s small r =
     let m = requested known.Keyboard (codes "key") keyboard_id (Word 30 ∷ Word s ∷ []) in
     let args : request_args known.Keyboard m ≡ Some (Word 30 ∷ Word s ∷ []) = reads_back key keyboard_id 1 (Word 30 ∷ Word s ∷ []) (omega arith, ((omega (arith, small), two_states s small), tt)) (tt, (tt, tt)) in
-    passes_by past m (part known.Keyboard) (Inputs (KeyboardKey 30 (key_of s))) r (record { id = omega arith; opcode = omega arith; size = omega (arith, two_words 30 s) }) refl
-    (record { there = r.keyboard; means = asks_means m known.Keyboard 1 _ _ (Key 30 s) refl args; allowed = refl; goes_on = refl; makes_nothing = refl; releases_nothing = refl })
+    passes_by past m (part known.Keyboard) (Inputs (input_event.KeyboardKey 30 (key_of s))) r (record { id = omega arith; opcode = omega arith; size = omega (arith, two_words 30 s) }) refl
+    (record { there = r.keyboard; means = asks_means m known.Keyboard 1 _ _ (Input known.Keyboard 1 _ _ refl) refl args; allowed = refl; goes_on = refl; makes_nothing = refl; releases_nothing = refl })
 
 scroll_passes : (past : List Raw) → IsReady past → Passes past (requested known.Scroll (codes "scroll_discrete") scroll_id (Signed (pos 120) ∷ Signed (negsuc 119) ∷ []))
 unfolding request_args asks asked
 scroll_passes past r =
     let m = requested known.Scroll (codes "scroll_discrete") scroll_id (Signed (pos 120) ∷ Signed (negsuc 119) ∷ []) in
     let args : request_args known.Scroll m ≡ Some (Signed (pos 120) ∷ Signed (negsuc 119) ∷ []) = reads_back scroll_discrete scroll_id 2 (Signed (pos 120) ∷ Signed (negsuc 119) ∷ []) (omega arith, (omega arith, tt)) (tt, (tt, tt)) in
-    passes_by past m (part known.Scroll) (Inputs (ScrollDiscrete (pos 120) (negsuc 119))) r (record { id = omega arith; opcode = omega arith; size = omega arith }) refl
-    (record { there = r.scroll; means = asks_means m known.Scroll 2 _ _ (Discrete (pos 120) (negsuc 119)) refl args; allowed = refl; goes_on = refl; makes_nothing = refl; releases_nothing = refl })
+    passes_by past m (part known.Scroll) (Inputs (input_event.ScrollDiscrete (pos 120) (negsuc 119))) r (record { id = omega arith; opcode = omega arith; size = omega arith }) refl
+    (record { there = r.scroll; means = asks_means m known.Scroll 2 _ _ (Input known.Scroll 2 _ _ refl) refl args; allowed = refl; goes_on = refl; makes_nothing = refl; releases_nothing = refl })
 
 frame_passes : (past : List Raw) (time : ℕ) → time < 2 ^ 64 → IsReady past → Passes past (frame_at time)
 unfolding request_args asks asked frame_at

@@ -1,4 +1,4 @@
--- The stream that the program makes up: a client that shakes hands, binds all capabilities, and sends groups of inputs
+-- The stream that the program makes up: a client that shakes hands, binds its capabilities, and sends groups of inputs
 -- that numbers choose.
 use Rattle.std.specs.Prelude.{ℕ, zero, suc, ◌+◌, ◌*◌, ◌/◌, ◌%◌, ◌^◌, false, pos, negsuc, List, [], ◌∷◌, ◌++◌, map, take, drop, length, codes}
 use Rattle.std.specs.List.{range_with_len}
@@ -74,15 +74,32 @@ capabilities_announced =
     ∷ announcement (codes "ei_text") 1
     ∷ []
 
+-- the interfaces that the client has, with their versions, in that order
+abbrev pub own_versions : List (List ℕ × ℕ)
+own_versions =
+    (codes "ei_connection", 1)
+    ∷ (codes "ei_callback", 1)
+    ∷ (codes "ei_pingpong", 1)
+    ∷ (codes "ei_seat", 2)
+    ∷ (codes "ei_device", 3)
+    ∷ (codes "ei_pointer", 1)
+    ∷ (codes "ei_pointer_absolute", 1)
+    ∷ (codes "ei_scroll", 1)
+    ∷ (codes "ei_button", 1)
+    ∷ (codes "ei_keyboard", 1)
+    ∷ (codes "ei_touchscreen", 2)
+    ∷ (codes "ei_text", 1)
+    ∷ []
+
 -- the end of the handshake
 unfoldable pub finish_message : Raw
 finish_message = requested known.Handshake (codes "finish") 0 []
 
--- the button of the device that the server makes of all capabilities
+-- the button of the device that the server makes of them
 abbrev pub button_id : ℕ
 button_id = 0xff00000000000008
 
--- all capabilities are bound, and the device begins to send
+-- the client's capabilities are bound, and the device begins to send
 unfoldable pub begins_to_send : List Raw
 begins_to_send =
     requested known.Seat (codes "bind") seat_id (Long 127 ∷ [])
@@ -154,6 +171,6 @@ generated_bytes groups start = all_bytes (generated_messages groups start)
 abbrev pub generated : ℕ → ℕ → List Piece
 generated groups start = cut 4096 (generated_bytes groups start)
 
--- the setup that it is served with: an initial serial of 1, all capabilities, and any number of pieces
+-- the setup that it is served with: an initial serial of 1, the capabilities that the client knows, and any number of pieces
 abbrev pub demo_setup : Setup
 demo_setup = record { serial = 1; capabilities = 127; pieces = 4294967295 }

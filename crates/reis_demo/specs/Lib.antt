@@ -1,5 +1,6 @@
 pub mod Generated
 pub mod Script
+pub mod Tally
 pub mod Summary
 -- what the clauses cite of the crates below
 pub use Rattle.ei_spec.specs.Message

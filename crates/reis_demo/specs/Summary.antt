@@ -50,20 +50,14 @@ demo_lines groups start answer =
 
 -- ---- requests as the program has them
 
--- whether a request is one of the fourteen inputs
+-- whether a request is an input: any but these
 abbrev pub is_input_request : EisRequest → Bool
-is_input_request (request.PointerMotion r) = true
-is_input_request (request.PointerMotionAbsolute r) = true
-is_input_request (request.Button r) = true
-is_input_request (request.ScrollDelta r) = true
-is_input_request (request.ScrollStop r) = true
-is_input_request (request.ScrollCancel r) = true
-is_input_request (request.ScrollDiscrete r) = true
-is_input_request (request.KeyboardKey r) = true
-is_input_request (request.TouchDown r) = true
-is_input_request (request.TouchMotion r) = true
-is_input_request (request.TouchUp r) = true
-is_input_request (request.TouchCancel r) = true
-is_input_request (request.TextKeysym r) = true
-is_input_request (request.TextUtf8 r) = true
-is_input_request r = false
+is_input_request request.Disconnect = false
+is_input_request (request.Bind r) = false
+is_input_request (request.RequestDevice r) = false
+is_input_request (request.DeviceClosed r) = false
+is_input_request (request.Frame r) = false
+is_input_request (request.Ready r) = false
+is_input_request (request.DeviceStartEmulating r) = false
+is_input_request (request.DeviceStopEmulating r) = false
+is_input_request r = true

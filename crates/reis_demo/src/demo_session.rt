@@ -9,10 +9,12 @@ ghost use Rattle.reis_demo.specs.Generated.{demo_setup};
 ghost use Rattle.reis_demo.specs.Summary.{demo_session, demo_lines};
 
 use crate::generated::Generated;
-use crate::lines::{Counts, count_inputs, six_lines};
+use crate::lines::{Counts, six_lines};
+use crate::opening::OWN_CAPABILITIES;
 use crate::replies::Replies;
+use crate::tally::{Tally, serve_counted};
 use ei_backend::Clock;
-use ei_serve::{Ended, Setup, serve};
+use ei_serve::{Ended, Setup};
 use ei_types::{DeviceCapabilities, Error};
 use ei_wire::NoMemory;
 use std::alloc::Global;
@@ -26,20 +28,20 @@ pub struct Summary {
     pub answer: Result<Ended, Error>,
 }
 
-/// The setup: an initial serial of 1, all capabilities, and any number of pieces.
+/// The setup: an initial serial of 1, the capabilities that its client knows, and any number of pieces.
 fn setup() -> Setup
     ensures { setup_of result ≡ demo_setup }
 {
     Setup {
         initial_serial: 1,
-        capabilities: DeviceCapabilities::all(),
+        capabilities: DeviceCapabilities::from_bits(OWN_CAPABILITIES).unwrap(),
         pieces: u32::MAX,
     }
 }
 
 /// Serves the stream of so many groups that the numbers after `start` make up, and tells what the session came to.
 ///
-/// The stream is a client's that shakes hands, binds all capabilities, sends the groups and disconnects; `Generated`
+/// The stream is a client's that shakes hands, binds its capabilities, sends the groups and disconnects; `Generated`
 /// hands it out. It prints nothing.
 ///
 /// `NoMemory` where memory runs out; nothing else fails.
@@ -59,22 +61,14 @@ pub fn demo<C: Clock>(
     let mut source = Generated::new(alloc, groups, start)?;
     let bytes_in = source.bytes_left();
     let mut replies = Replies::new(alloc);
-    let mut requests = Vec::new(alloc);
-    let answer = serve(
-        alloc,
-        &mut source,
-        &mut replies,
-        clock,
-        setup(),
-        &mut requests,
-    );
+    let mut tally = Tally::none();
+    let answer = serve_counted(alloc, &mut source, &mut replies, clock, setup(), &mut tally);
     if let Err(Error::NoMemory) = answer {
         return Err(NoMemory);
     }
     let counts = Counts {
         groups,
-        inputs: count_inputs(&requests),
-        requests: requests.len(),
+        tally,
         bytes_in,
         bytes_out: replies.len(),
     };

@@ -22,7 +22,7 @@ const PIECE_BYTES: usize = 4096;
 /// Room for a piece and a group behind it.
 const ROOM: usize = PIECE_BYTES + GROUP_BYTES;
 
-/// A source of a stream that numbers make up: a client that shakes hands, binds all capabilities and sends groups of
+/// A source of a stream that numbers make up: a client that shakes hands, binds its capabilities and sends groups of
 /// inputs, each with its frame.
 ///
 /// It hands out pieces of 4096 bytes and a shorter last one, and never fails. No more of the stream is in memory than a
@@ -76,6 +76,18 @@ impl Generated {
     }
 }
 
+/// Takes the first bytes out: those behind them, less than a group's, move to the front.
+#[tactic(auto, using(crate::proofs::Fronts::moved_down))]
+fn drop_front(waiting: &mut Vec<u8>, count: usize)
+    requires within { count ≤ vec_len waiting.old }
+    ensures left { waiting.new.items ≡ drop count waiting.old.items }
+    ensures capacity { vec_capacity waiting.new ≡ vec_capacity waiting.old }
+{
+    let end = waiting.len();
+    waiting.copy_within(count..end, 0);
+    waiting.truncate(end - count);
+}
+
 /// Takes the first bytes out, to the front of a slice, and notes them as a piece if there are any.
 fn hand_out(waiting: &mut Vec<u8>, count: usize, bytes: &mut [u8], given: &mut GivenPieces)
     requires within { count ≤ vec_len waiting.old }
@@ -86,7 +98,7 @@ fn hand_out(waiting: &mut Vec<u8>, count: usize, bytes: &mut [u8], given: &mut G
     ensures capacity { vec_capacity waiting.new ≡ vec_capacity waiting.old }
 {
     bytes[..count].copy_from_slice(&waiting[..count]);
-    waiting.drain(..count);
+    drop_front(waiting, count);
     if count > 0 {
         given.note(&bytes[..count], &[]);
     }

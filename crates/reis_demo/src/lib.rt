@@ -11,6 +11,7 @@ mod lines;
 mod opening;
 mod replies;
 mod script;
+mod tally;
 pub mod worked;
 
 pub use demo_session::{Summary, demo};

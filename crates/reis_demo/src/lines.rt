@@ -3,6 +3,7 @@
 ghost use Rattle.std.specs.Prelude.{◌≡◌, ◌++◌, count_by, OnOk, IfOk};
 ghost use Rattle.reis_demo.specs.Summary.{is_input_request, number_line, six_lines};
 
+use crate::tally::Tally;
 use ei_request::EisRequest;
 use ei_serve::Ended;
 use ei_types::Error;
@@ -14,31 +15,16 @@ use std::alloc::Global;
 #[derive(Clone, Copy)]
 pub(crate) struct Counts {
     pub(crate) groups: u32,
-    pub(crate) inputs: usize,
-    pub(crate) requests: usize,
+    pub(crate) tally: Tally,
     pub(crate) bytes_in: u64,
     pub(crate) bytes_out: usize,
 }
 
-/// Whether a request is one of the fourteen inputs.
+/// Whether a request is an input: any but these.
 fn is_input(request: &EisRequest) -> bool
     ensures { result ≡ is_input_request request.now }
 {
     match request {
-        EisRequest::PointerMotion(_)
-        | EisRequest::PointerMotionAbsolute(_)
-        | EisRequest::Button(_)
-        | EisRequest::ScrollDelta(_)
-        | EisRequest::ScrollStop(_)
-        | EisRequest::ScrollCancel(_)
-        | EisRequest::ScrollDiscrete(_)
-        | EisRequest::KeyboardKey(_)
-        | EisRequest::TouchDown(_)
-        | EisRequest::TouchMotion(_)
-        | EisRequest::TouchUp(_)
-        | EisRequest::TouchCancel(_)
-        | EisRequest::TextKeysym(_)
-        | EisRequest::TextUtf8(_) => true,
         EisRequest::Disconnect
         | EisRequest::Bind(_)
         | EisRequest::RequestDevice(_)
@@ -47,6 +33,7 @@ fn is_input(request: &EisRequest) -> bool
         | EisRequest::Ready(_)
         | EisRequest::DeviceStartEmulating(_)
         | EisRequest::DeviceStopEmulating(_) => false,
+        _ => true,
     }
 }
 
@@ -64,7 +51,7 @@ pub(crate) fn count_inputs(requests: &[EisRequest]) -> usize
 }
 
 /// Puts the line of a name and a number behind the others.
-fn push_number(alloc: Global, out: &mut Vec<u8>, name: &str, number: u64) -> Result<(), NoMemory>
+fn push_number(alloc: Global, out: &mut Vec<u8>, name: &str, number: u128) -> Result<(), NoMemory>
     ensures { OnOk result (out.new.items ≡ out.old.items ++ number_line name.now number) }
 {
     let line = format!(in alloc; "{name} {number}")?;
@@ -78,14 +65,14 @@ pub(crate) fn six_lines(
     answer: &Result<Ended, Error>,
 ) -> Result<Vec<u8>, NoMemory>
     ensures { IfOk result (λ text. text.items ≡
-        six_lines counts.now.groups counts.now.inputs counts.now.requests counts.now.bytes_in counts.now.bytes_out answer.now) }
+        six_lines counts.now.groups counts.now.tally.inputs counts.now.tally.requests counts.now.bytes_in counts.now.bytes_out answer.now) }
 {
     let mut out = Vec::new(alloc);
-    push_number(alloc, &mut out, "groups", u64::from(counts.groups))?;
-    push_number(alloc, &mut out, "inputs", counts.inputs as u64)?;
-    push_number(alloc, &mut out, "requests", counts.requests as u64)?;
-    push_number(alloc, &mut out, "bytes in", counts.bytes_in)?;
-    push_number(alloc, &mut out, "bytes out", counts.bytes_out as u64)?;
+    push_number(alloc, &mut out, "groups", u128::from(counts.groups))?;
+    push_number(alloc, &mut out, "inputs", counts.tally.inputs)?;
+    push_number(alloc, &mut out, "requests", counts.tally.requests)?;
+    push_number(alloc, &mut out, "bytes in", u128::from(counts.bytes_in))?;
+    push_number(alloc, &mut out, "bytes out", counts.bytes_out as u128)?;
     let end = answer_text(alloc, answer)?;
     push_line(&mut out, end.as_str())?;
     Ok(out)

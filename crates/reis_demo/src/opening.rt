@@ -1,12 +1,11 @@
 //! What the client says before the groups.
 
-ghost use Rattle.std.specs.Prelude.{◌≡◌, ◌≤◌, ◌++◌, ◌∷◌, [], length, map, vec_capacity, OnOk, IfOk};
+ghost use Rattle.std.specs.Prelude.{◌≡◌, ◌≤◌, ◌++◌, ◌∷◌, [], ℕ, List, length, map, vec_capacity, OnOk, IfOk};
 ghost use Rattle.ei_spec.specs.Message.{message, bytes_of, all_bytes};
 ghost use Rattle.ei_wire.specs.Gives.{value_of_arg};
 ghost use Rattle.ei_backend.specs.Outgoing.{args_body};
-ghost use Rattle.reis_demo.specs.Generated.{announcement, introduction, objects_announced, capabilities_announced, finish_message, begins_to_send, opening};
+ghost use Rattle.reis_demo.specs.Generated.{announcement, introduction, objects_announced, capabilities_announced, own_versions, finish_message, begins_to_send, opening};
 
-use ei_types::interfaces;
 use ei_wire::{Arg, Header, NoMemory};
 use std::alloc::Global;
 
@@ -18,6 +17,9 @@ const SEAT: u64 = 0xff00000000000001;
 
 /// The device that it makes.
 const DEVICE: u64 = 0xff00000000000002;
+
+/// The capabilities that the client knows, and binds. Others that a server may have it doesn't know.
+pub(crate) const OWN_CAPABILITIES: u64 = 127;
 
 /// How many bytes the arguments have.
 fn body_len(args: &[Arg<'_>]) -> u32
@@ -101,12 +103,32 @@ fn push_introduction(alloc: Global, out: &mut Vec<u8>) -> Result<(), NoMemory>
     Ok(())
 }
 
-/// Appends the announcements of all interfaces: those of a connection, and then those of a device.
+/// The interfaces that the client has, with their versions. Others that a server may have it doesn't know.
+fn own_interfaces() -> [(&'static str, u32); 12]
+    ensures { map {B = List ℕ × ℕ} (λ p. (p.0.now, p.1)) result ≡ own_versions }
+{
+    [
+        ("ei_connection", 1),
+        ("ei_callback", 1),
+        ("ei_pingpong", 1),
+        ("ei_seat", 2),
+        ("ei_device", 3),
+        ("ei_pointer", 1),
+        ("ei_pointer_absolute", 1),
+        ("ei_scroll", 1),
+        ("ei_button", 1),
+        ("ei_keyboard", 1),
+        ("ei_touchscreen", 2),
+        ("ei_text", 1),
+    ]
+}
+
+/// Appends the announcements of the client's interfaces: those of a connection, and then those of a device.
 fn push_announcements(alloc: Global, out: &mut Vec<u8>) -> Result<(), NoMemory>
     ensures ok { OnOk result (out.new.items ≡ out.old.items ++ all_bytes (objects_announced ++ capabilities_announced)) }
     ensures capacity { vec_capacity out.old ≤ vec_capacity out.new }
 {
-    let interfaces = interfaces();
+    let interfaces = own_interfaces();
     for (name, version) in &interfaces {
         push_announcement(alloc, out, name, *version)?;
     }
@@ -120,7 +142,7 @@ fn push_device(alloc: Global, out: &mut Vec<u8>) -> Result<(), NoMemory>
     ensures capacity { vec_capacity out.old ≤ vec_capacity out.new }
 {
     push_message(alloc, out, HANDSHAKE, 1, &[])?;
-    push_message(alloc, out, SEAT, 1, &[Arg::Uint64(127)])?;
+    push_message(alloc, out, SEAT, 1, &[Arg::Uint64(OWN_CAPABILITIES)])?;
     push_message(alloc, out, DEVICE, 1, &[Arg::Uint32(2), Arg::Uint32(1)])?;
     Ok(())
 }

@@ -12,6 +12,7 @@ use Rattle.reis_lines.specs.Text.{has_newline, before_newline, onto, split, Spel
 use Rattle.reis_lines.specs.Given.{given_since, line_at, HasBadLine, MetBadLine}
 use Rattle.reis_lines.specs.HexSource.{Reading, fresh, joined_lines, AreLines, KnowsEnd, HoldsBadLine, LaterReading}
 use Rattle.reis_lines.specs.Lent.{LentInput}
+use Rattle.reis_lines.specs.Taken.{GaveLines}
 use Rattle.reis_lines.proofs.TextLaws.{split_all}
 use Rattle.reis_lines.proofs.GaveLaws.{since_is, since_gave}
 use Rattle.reis_lines.proofs.GivenLaws.{AreEnded, split_lines}
@@ -106,6 +107,15 @@ module _ {I : Type 0} (text : I → Option (List ℕ)) (given : I → List ℕ) 
             (has_bad_line l.lines y.held l.pieces y.ended y.line n l.are_lines l.spelled h));
         number = omega (arith, h.number, l.grown);
       }
+
+  -- what an input gave are the lines of the pieces that the source gave, and then the bytes that it holds
+  pub gave_lines : (old : I) (y : Reading I) → LaterReading text given last faults later (fresh old) y → GaveLines (given_since given old y.input) y.pieces y.held
+  gave_lines old y r = record {
+    lines = r.lines.lines;
+    same = since_is given old y.input r.bytes r.gave ∙ r.lines.same;
+    spelled = subst (λ (v : List Piece). Spell (map before_newline r.lines.lines) v) (sym r.pieces) r.lines.spelled;
+    room = r.fits (omega arith);
+  }
 
   -- what a call says of an input that a source read
   pub lent_by : (old : I) (y : Reading I) → LaterReading text given last faults later (fresh old) y → LentInput text given faults later old y.input

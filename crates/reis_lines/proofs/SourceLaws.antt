@@ -1,7 +1,7 @@
 -- What becomes of the unread text where a line is handed out, or is bad, or none comes.
 use Rattle.std.proofs.Common.{◌≡◌, ◌<◌, ◌≤◌, ◌⊎◌, inl, inr, ℕ, ◌+◌, ◌-◌, ◌^◌, zero, suc, List, [], ◌∷◌, ◌++◌, length, take, drop}
 use Rattle.std.proofs.Common.{arith, Some, refl, ap, sym, ◌∙◌, subst, append_assoc}
-use Rattle.std.proofs.lemmas.List.{append-nil, take-append-drop, take_all, drop_all}
+use Rattle.std.proofs.lemmas.List.{append-nil, take-append-drop, take_all, drop_all, length-drop}
 use Rattle.std.proofs.Math.Seq.{drop-append_seam}
 use Rattle.std.specs.Prelude.{min, Option, None, is_some}
 use Rattle.std.specs.Prelude.{Bool, true, false, slice_get}
@@ -14,6 +14,7 @@ use Rattle.reis_lines.specs.Text.{has_newline, before_newline, line_bytes, piece
 use Rattle.reis_lines.specs.Held.{FindsNewline, Moves, line_len, line_skip}
 use Rattle.reis_lines.specs.HexSource.{Reading, unless_ended, AreLines, LaterLines, KnowsEnd, LeftBehind, HoldsBadLine, LaterReading, HandsLine}
 use Rattle.reis_lines.specs.HexSource.{unread, IsAtEnd, HoldsEnd}
+use Rattle.reis_lines.specs.declared.held.TheConstants.{ROOM}
 use Rattle.reis_lines.proofs.TextLaws.{has_newline-append, pieces_of-first, full_or, too_long, spelled_none, before_all, before_of_quiet, ended_at}
 
 pub some_not_none : (o : Option ℕ) → is_some o ≡ true → o ≡ None → ⊥
@@ -58,6 +59,10 @@ line_is found seen held count is same = ap (λ n. take n seen) is ∙ ap (λ t. 
 -- what is held once the line was removed
 pub removed_is : (found : Option ℕ) (seen held new : List ℕ) (skip : ℕ) → skip ≡ line_skip found seen → seen ≡ held → new ≡ drop skip held → new ≡ drop (line_skip found held) held
 removed_is found seen held new skip is same gone = gone ∙ ap (λ n. drop n held) (is ∙ ap (line_skip found) same)
+
+-- no more is held than before
+pub removed_fits : (held new : List ℕ) (most : ℕ) (found : Option ℕ) → new ≡ drop (line_skip found held) held → length held ≤ most → length new ≤ most
+removed_fits held new most found gone few = omega (arith, ap length gone, length-drop (line_skip found held) held, few)
 
 -- no byte stands in the line
 pub no_line : (found : Option ℕ) (seen held : List ℕ) (count : ℕ) → count ≡ line_len found seen → seen ≡ held → count ≡ 0 → line_len found held ≡ 0
@@ -237,6 +242,7 @@ pub record GoesOn {I : Type 0} (text : I → Option (List ℕ)) (given : I → L
   pub told : (t : List ℕ) → unread text x ≡ Some t → text x.input ≡ Some t → text y.input ≡ unread text y
   pub asked : KnowsEnd last x y
   pub ended : x.ended ≡ true → (y.input ≡ x.input) × (y.ended ≡ true)
+  pub fits : length y.held ≤ ROOM
 
 -- a reading that went on without a bad line
 pub unmet_later : {I : Type 0} (text : I → Option (List ℕ)) (given : I → List ℕ) (last : I → LastAnswer) (faults : I → ℕ) (later : I → I → Type 0) (x y : Reading I) →
@@ -259,4 +265,5 @@ unmet_later text given last faults later x y none same same_faults g =
       met = λ _ n is. absurd (not_both y.bad n unmet is);
       holds = λ _ n is. absurd (not_both y.bad n unmet is);
       bad_count = omega (arith, same_faults);
+      fits = λ few. g.fits;
     }

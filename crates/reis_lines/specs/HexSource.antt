@@ -10,7 +10,7 @@ use Rattle.ei_backend.specs.declared.outside.LastAnswer.{LastAnswer}
 use Rattle.ei_backend.specs.declared.outside.LastAnswer.TheVariants as answers
 use Rattle.reis_lines.specs.Text.{has_newline, before_newline, line_bytes, Spell, pieces_of}
 use Rattle.reis_lines.specs.Held.{Moves}
-use Rattle.reis_lines.specs.declared.held.TheConstants.{LONGEST_LINE}
+use Rattle.reis_lines.specs.declared.held.TheConstants.{LONGEST_LINE, ROOM}
 use Rattle.reis_lines.specs.declared.hex_source.HexSource.{HexSource}
 
 -- How far a source has read its input: the bytes held, whether the input answered its end, how many lines went, the bad line that
@@ -113,8 +113,8 @@ LeftBehind old bytes new = (t : List ℕ) → old ≡ Some t → (rest : List �
 
 -- A reading goes on. Whatever the input tells, the bytes that it gave are lines that went and the bytes held, and the pieces given
 -- since are those that the lines spell; a text that it told is these bytes and then what is left. The input isn't asked behind its
--- end. A bad line that is met stands at the front of the bytes held, and behind it nothing is read. The input's count of faults has
--- not fallen, nor that of the faults for the bad line.
+-- end, and no more bytes are held than a buffer has room for. A bad line that is met stands at the front of the bytes held, and
+-- behind it nothing is read. The input's count of faults has not fallen, nor that of the faults for the bad line.
 pub record LaterReading
     {I : Type 0} (text : I → Option (List ℕ)) (given : I → List ℕ) (last : I → LastAnswer) (faults : I → ℕ) (later : I → I → Type 0) (x y : Reading I)
     : Type 0 where
@@ -133,6 +133,7 @@ pub record LaterReading
   pub met : x.bad ≡ None → (n : ℕ) → y.bad ≡ Some n → Rose x.bad_faults y.bad_faults
   pub holds : x.bad ≡ None → (n : ℕ) → y.bad ≡ Some n → HoldsBadLine y.held y.ended y.line n
   pub bad_count : x.bad_faults ≤ y.bad_faults
+  pub fits : length x.held ≤ ROOM → length y.held ≤ ROOM
 
 -- no line comes next: the text is at its end, or an empty line comes
 abbrev pub IsAtEnd : List ℕ → Type 0
@@ -146,10 +147,14 @@ HoldsEnd held ended = ((held ≡ []) × (ended ≡ true)) ⊎ (slice_get held 0 
 abbrev pub HoldsNoLine : List ℕ → Bool → Type 0
 HoldsNoLine held ended = (has_newline held ≡ false) × (ended ≡ false)
 
--- an end was answered only where no line comes, and a fault only where no whole line is held, or at a bad line
-pub record AnswersTruly {I : Type 0} (r : Reading I) (last : LastAnswer) : Type 0 where
-  pub ends : last ≡ answers.End → HoldsEnd r.held r.ended
-  pub fails : last ≡ answers.Fault → HoldsNoLine r.held r.ended ⊎ IsSome r.bad
+-- the input failed, while no whole line was held
+abbrev pub FailsHere : {I : Type 0} → (I → LastAnswer) → Reading I → Type 0
+FailsHere last r = HoldsNoLine r.held r.ended × (last r.input ≡ answers.Fault)
+
+-- an end was answered only where no line comes, and a fault only where the input failed and no whole line is held, or at a bad line
+pub record AnswersTruly {I : Type 0} (last : I → LastAnswer) (r : Reading I) (answer : LastAnswer) : Type 0 where
+  pub ends : answer ≡ answers.End → HoldsEnd r.held r.ended
+  pub fails : answer ≡ answers.Fault → FailsHere last r ⊎ IsSome r.bad
 
 -- where the input tells its text, the end was answered only where no line comes next
 abbrev pub EndsTruly : {I : Type 0} → (I → Option (List ℕ)) → Reading I → LastAnswer → Type 0
@@ -161,7 +166,7 @@ pub record LaterSource
     : Type 0 where
   pub same_reference : reference_of x ≡ reference_of y
   pub reading : LaterReading text given last faults later (text_reading x) (text_reading y)
-  pub truly : AnswersTruly (text_reading x) (answer_of x) → AnswersTruly (text_reading y) (answer_of y)
+  pub truly : AnswersTruly last (text_reading x) (answer_of x) → AnswersTruly last (text_reading y) (answer_of y)
   pub ends : (t : List ℕ) → unread text (text_reading x) ≡ Some t → EndsTruly text (text_reading x) (answer_of x) →
       EndsTruly text (text_reading y) (answer_of y)
 

@@ -4,6 +4,17 @@ use Rattle.ei_backend.specs.Outside.{is_end}
 use Rattle.ei_backend.specs.declared.outside.LastAnswer.{LastAnswer}
 use Rattle.reis_lines.specs.Given.{given_since}
 
+-- What an input says of itself: the text left, where it tells it; the bytes that it gave so far; its last answer; its count of faults.
+pub record InputView : Type 0 where
+  pub text : Option (List ℕ)
+  pub given : List ℕ
+  pub last : LastAnswer
+  pub faults : ℕ
+
+-- what it says, by its members
+abbrev pub input_view : {I : Type 0} → (I → Option (List ℕ)) → (I → List ℕ) → (I → LastAnswer) → (I → ℕ) → I → InputView
+input_view text given last faults i = record { text = text i; given = given i; last = last i; faults = faults i }
+
 -- the input told this text, and has those bytes left
 pub record IsTold {I : Type 0} (text : I → Option (List ℕ)) (old new : I) (t : List ℕ) (left : Option (List ℕ)) : Type 0 where
   pub told_is : text old ≡ Some t

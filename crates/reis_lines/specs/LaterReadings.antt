@@ -152,6 +152,7 @@ module _ {I : Type 0} (text : I → Option (List ℕ)) (given : I → List ℕ) 
     met = λ none n is. cc;
     holds = λ none n is. cc;
     bad_count = omega arith;
+    fits = λ few. few;
   }
 
   pub LaterSource-refl : ((x : I) → later x x) → (x : HexSource I) → LaterSource text given last faults later x x
@@ -200,6 +201,7 @@ module _ {I : Type 0} (text : I → Option (List ℕ)) (given : I → List ℕ) 
     met = met_on x y z a b;
     holds = holds_on x y z a b;
     bad_count = omega (arith, a.bad_count, b.bad_count);
+    fits = λ few. b.fits (a.fits few);
   }
 
   pub LaterSource-trans : ((x y z : I) → later x y → later y z → later x z) →

@@ -4,6 +4,7 @@ pub mod HexSource
 pub mod InputText
 pub mod LaterReadings
 pub mod Lent
+pub mod Taken
 pub mod Text
 -- what the clauses cite of the crates below
 pub use Rattle.ei_backend.specs.Memory

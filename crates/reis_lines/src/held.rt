@@ -3,6 +3,7 @@
 ghost use Rattle.std.specs.Prelude.{◌≡◌, ◌<◌, ◌≤◌, ◌+◌, ◌-◌, ◌↔◌, ℕ, List, [], ◌++◌, Some, None, Ok, true, false, length, vec_len, take, drop, IfOk, OnErr};
 ghost use Rattle.std.specs.Prelude.{IsTrue, ◌⊎◌};
 ghost use Rattle.ei_backend.specs.Outside.{HasCause, is_end, last_fetched};
+ghost use Rattle.ei_backend.specs.declared.outside.LastAnswer.TheVariants as answers;
 ghost use Rattle.reis_lines.specs.Given.{GaveBehind, came_to_end};
 ghost use Rattle.reis_lines.specs.Text.{has_newline};
 ghost use Rattle.reis_lines.specs.Held.{Moves, ReadsBehind, FindsNewline, line_len, line_skip};
@@ -136,6 +137,7 @@ impl Held {
     pub(crate) fn newline(&mut self) -> Option<usize>
         ensures found { FindsNewline result self.old }
         ensures same { self.new ≡ self.old }
+        ensures fits { length self.new ≤ ROOM }
     {
         let from = self.start + self.scanned;
         match newline_in(&self.room[from..self.end]) {
@@ -162,6 +164,7 @@ impl Held {
         ensures count { IfOk result (λ n. length self.new ≡ length self.old + n) }
         ensures none { result ≡ Ok 0 → self.new ≡ self.old }
         ensures err { OnErr result (self.new ≡ self.old) }
+        ensures fits { length self.new ≤ ROOM }
         ensures cause { HasCause (I.faults input.old) (I.faults input.new) result }
         ensures later { I.later input.old input.new }
     {
@@ -186,6 +189,8 @@ impl Held {
             (text : List ℕ) → I.text input.old ≡ Some text → I.text input.new ≡ Some [] }
         ensures within { IfOk result (λ found. line_skip found self.new ≤ length self.new) }
         ensures err { OnErr result (has_newline self.new ≡ false) }
+        ensures failed { OnErr result (I.last input.new ≡ answers.Fault) }
+        ensures fits { length self.new ≤ ROOM }
         // a whole line is held already: the input isn't asked
         ensures unasked { has_newline self.old ≡ true → input.new ≡ input.old }
         ensures kept { has_newline self.old ≡ true → self.new ≡ self.old }

@@ -38,7 +38,8 @@ impl<'a, I: Input> HexSource<'a, I> {
     ghost use Rattle.reis_lines.specs.Given.{GaveBehind};
     ghost use Rattle.reis_lines.specs.Held.{FindsNewline, Moves, line_skip};
     ghost use Rattle.reis_lines.specs.HexSource.{reference_of, text_reading, answer_of, fresh, unread, faults_of, LaterReading, NextPiece, GivesLine};
-    ghost use Rattle.reis_lines.specs.HexSource.{KnowsEnd, HoldsEnd, HoldsNoLine};
+    ghost use Rattle.reis_lines.specs.HexSource.{KnowsEnd, HoldsEnd, FailsHere};
+    ghost use Rattle.reis_lines.specs.declared.held.TheConstants.{ROOM};
 
     /// `NoMemory` where there is none for the longest line.
     pub fn new(alloc: Global, input: &'a mut I) -> Result<HexSource<'a, I>, NoMemory>
@@ -96,7 +97,8 @@ impl<'a, I: Input> HexSource<'a, I> {
         ensures place { IfOk result (λ found. FindsNewline found (text_reading self.new).held) }
         ensures within { IfOk result (λ found. line_skip found (text_reading self.new).held ≤ length (text_reading self.new).held) }
         ensures ends { result ≡ Ok None → length (text_reading self.new).held ≤ LONGEST_LINE → (text_reading self.new).ended ≡ true }
-        ensures err { OnErr result (HoldsNoLine (text_reading self.new).held (text_reading self.new).ended) }
+        ensures err { OnErr result (FailsHere I.last (text_reading self.new)) }
+        ensures fits { length (text_reading self.new).held ≤ ROOM }
         ensures unasked { has_newline (text_reading self.old).held ≡ true → (text_reading self.new).input ≡ (text_reading self.old).input }
         ensures behind_end { (text_reading self.old).ended ≡ true →
             ((text_reading self.new).input ≡ (text_reading self.old).input) × ((text_reading self.new).ended ≡ true) }
@@ -125,7 +127,7 @@ impl<'a, I: Input> HexSource<'a, I> {
             NextPiece (text_reading self.old).held text result (text_reading self.new).held (unread I.text (text_reading self.new)) bytes.new }
         ensures given { GivesLine (text_reading self.old).pieces (text_reading self.new).pieces result bytes.new }
         ensures end { result ≡ Ok 0 → HoldsEnd (text_reading self.new).held (text_reading self.new).ended }
-        ensures fault { IsErr result → HoldsNoLine (text_reading self.new).held (text_reading self.new).ended ⊎ IsSome (text_reading self.new).bad }
+        ensures fault { IsErr result → FailsHere I.last (text_reading self.new) ⊎ IsSome (text_reading self.new).bad }
         ensures unasked { has_newline (text_reading self.old).held ≡ true → (text_reading self.new).input ≡ (text_reading self.old).input }
         ensures behind_end { (text_reading self.old).ended ≡ true → (text_reading self.new).input ≡ (text_reading self.old).input }
         ensures refused { IsSome (text_reading self.old).bad → IsErr result × ((text_reading self.new).input ≡ (text_reading self.old).input) }

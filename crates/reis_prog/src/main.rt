@@ -3,7 +3,7 @@
 //! What it does with them is `reis_run::run`.
 #![tactic(auto)]
 
-ghost use Rattle.std.specs.Prelude.{◌≡◌, map, drop, IfOk};
+ghost use Rattle.std.specs.Prelude.{◌≡◌, [], map, drop, IfOk, IfErr};
 ghost use Rattle.std.specs.String.{string_bytes};
 ghost use Rattle.std.specs.Vec.Iter.{into_iter_items};
 
@@ -13,7 +13,6 @@ use reis_run::{NO_MEMORY, run};
 use std::alloc::Global;
 use std::env::Args;
 use std::process::ExitCode;
-use std::rt::Env;
 use std::{env, io};
 
 /// The words after the program's name.
@@ -28,17 +27,22 @@ fn words_of(alloc: Global, mut arguments: Args) -> Result<Vec<EiText>, NoMemory>
     Ok(words)
 }
 
-/// The words that the program was started with: none where one of them isn't text.
-fn started_with<R: Env + AllocGlobal>(rt: &R) -> Result<Vec<EiText>, NoMemory> {
-    match env::args(rt) {
-        Ok(arguments) => words_of(rt.alloc(), arguments),
+/// The words that the program was started with: none where one of the arguments isn't text.
+fn started_with(alloc: Global, arguments: io::Result<Args>) -> Result<Vec<EiText>, NoMemory>
+    // all the words behind the first, in their order
+    ensures words { IfOk arguments (λ args. IfOk result (λ words.
+        words.items ≡ map string_bytes (drop 1 (into_iter_items args)))) }
+    ensures none { IfErr arguments (λ e. IfOk result (λ words. words.items ≡ [])) }
+{
+    match arguments {
+        Ok(arguments) => words_of(alloc, arguments),
         Err(e) if e.kind() == io::ErrorKind::OutOfMemory => Err(NoMemory),
-        Err(_) => Ok(Vec::new(rt.alloc())),
+        Err(_) => Ok(Vec::new(alloc)),
     }
 }
 
 fn main(rt: HostRuntime) -> ExitCode {
-    let Ok(words) = started_with(&rt) else {
+    let Ok(words) = started_with(rt.alloc(), env::args(&rt)) else {
         return ExitCode::from(NO_MEMORY);
     };
     let mut input = StdInput::new(rt.stdin());

@@ -91,3 +91,5 @@ request_text (request.TouchUp r) = codes "touch_up" ++ (input_fields r.device r.
 request_text (request.TouchCancel r) = codes "touch_cancel" ++ (input_fields r.device r.time ++ number_field (codes "touch") r.touch_id)
 request_text (request.TextKeysym r) = codes "text_keysym" ++ (input_fields r.device r.time ++ (number_field (codes "keysym") r.keysym ++ state_field (key_name r.state)))
 request_text (request.TextUtf8 r) = codes "text_utf8" ++ (input_fields r.device r.time ++ bytes_field (codes "text") r.text)
+request_text (request.GestureSwipe r) = codes "gesture_swipe" ++ (input_fields r.device r.time ++ (number_field (codes "fingers") r.fingers ++ (word_field (codes "dx") r.dx ++ word_field (codes "dy") r.dy)))
+request_text (request.GesturePinch r) = codes "gesture_pinch" ++ (input_fields r.device r.time ++ word_field (codes "scale") r.scale)

@@ -164,5 +164,17 @@ fn line_of(request: &EisRequest) -> Line<'_>
             Field::Input(&r.device, r.time),
             Field::Bytes("text", r.text.as_str().as_bytes()),
         ),
+        EisRequest::GestureSwipe(r) => Line::Four(
+            "gesture_swipe",
+            Field::Input(&r.device, r.time),
+            Field::Number("fingers", u64::from(r.fingers)),
+            Field::Word("dx", r.dx),
+            Field::Word("dy", r.dy),
+        ),
+        EisRequest::GesturePinch(r) => Line::Two(
+            "gesture_pinch",
+            Field::Input(&r.device, r.time),
+            Field::Word("scale", r.scale),
+        ),
     }
 }

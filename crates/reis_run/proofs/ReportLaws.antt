@@ -20,9 +20,15 @@ use Rattle.ei_serve.specs.Serving.{AnswersAs, IsDecided, HandsOut, Replied, CutS
 use Rattle.ei_types.specs.declared.error.Error.{Error}
 use Rattle.ei_types.specs.declared.error.Error.TheVariants as error
 use Rattle.reis_lines.specs.Text.{pieces_of, bad_line_of, number_from}
-use Rattle.reis_run.specs.Tell.{status_of, Tells}
-use Rattle.reis_run.specs.Session.{TextEnd, Answered, BadLine, end_behind, end_of, EndsAs, IsDecidedLine, IsReadFault, IsBadLine, HandledGiven, pieces_left}
-use Rattle.reis_run.specs.Session.{AreRequests, reply_bytes, IsOf, IsOfGiven, IsOfFirst, status_of_answer, status_of_end, IsStatus, HasReadCause}
+use Rattle.ei_backend.specs.declared.outside.LastAnswer.{LastAnswer}
+use Rattle.reis_lines.specs.Given.{MetBadLine}
+use Rattle.reis_lines.specs.InputText.{InputView, input_view, IsText}
+use Rattle.reis_run.specs.Asked.{IsCut, Serves, Runs, MayAnswer}
+use Rattle.reis_run.specs.ProgramOutside.{Outside}
+use Rattle.reis_run.specs.Tell.{Report, status_of, Tells}
+use Rattle.reis_run.specs.declared.words.Command.{Command}
+use Rattle.reis_run.specs.Session.{TextEnd, Answered, BadLine, end_behind, end_of, EndsAs, IsDecidedLine, IsReadFault, IsBadLine, HandledGiven}
+use Rattle.reis_run.specs.Session.{AreRequests, reply_bytes, TookLines, TellsFault, IsOf, IsOfGiven, IsOfFirst, status_of_answer, status_of_end, IsStatus, HasReadCause}
 use Rattle.reis_run.specs.declared.session.LastLine.{LastLine}
 use Rattle.reis_run.specs.declared.session.LastLine.TheVariants as last_line
 
@@ -70,23 +76,31 @@ is_of_given setup text left readings tray new reply old out requests last k h = 
   is_of = is_of setup (accepted setup (stream h.pieces)) readings tray new reply old out requests last k h.requests h.replies;
 }
 
-pub is_of_first : (setup : Setup) (pieces : List Piece) (left readings : Option (List ℕ)) (tray : TrayView) (new : Piece) (reply : List ℕ) (old out requests : List EisRequest) (last : LastLine) → Kept tray new reply old out requests →
-    (unread : List ℕ) × CutShort setup pieces (pieces_left unread left) readings old out (Some tray.held) (Some new) → IsOfFirst setup pieces left readings (record { reply = reply; requests = requests; last = last })
-is_of_first setup pieces left readings tray new reply old out requests last k w =
-    let h = w.1 in
+pub is_of_first : (setup : Setup) (text given : List ℕ) (left readings : Option (List ℕ)) (tray : TrayView) (new : Piece) (reply : List ℕ) (old out requests : List EisRequest) (last : LastLine) → Kept tray new reply old out requests →
+    TookLines text given left (λ pieces. CutShort setup (pieces_of text) pieces readings old out (Some tray.held) (Some new)) →
+    TookLines text given left (IsOfFirst setup (pieces_of text) readings (record { reply = reply; requests = requests; last = last }))
+is_of_first setup text given left readings tray new reply old out requests last k w =
+    let h = w.took in
     let r = h.replies tray.held refl in
     record {
-      k = h.k;
-      unread = w.0;
-      took = h.took;
-      reached = h.reached;
-      ahead = h.ahead;
-      owed = h.owed;
-      reply_is = (r.0, bytes_are tray new (take r.0 (reply_bytes setup h.reached)) reply r.1 k.empty k.reply_same);
-      replied = λ some.
-          let more = h.replied some tray.held refl in
-          (more.0, bytes_are tray new (reply_bytes setup (accepted setup (stream (take (h.k - 1) pieces))) ++ more.0) reply more.1 k.empty k.reply_same);
-      requests_are = requests_of setup h.reached readings old out requests h.requests k.none k.requests_same;
+      pieces = w.pieces;
+      waiting = w.waiting;
+      gave = w.gave;
+      more = w.more;
+      first = w.first;
+      left_is = w.left_is;
+      took = record {
+        k = h.k;
+        took = h.took;
+        reached = h.reached;
+        ahead = h.ahead;
+        owed = h.owed;
+        reply_is = (r.0, bytes_are tray new (take r.0 (reply_bytes setup h.reached)) reply r.1 k.empty k.reply_same);
+        replied = λ some.
+            let more = h.replied some tray.held refl in
+            (more.0, bytes_are tray new (reply_bytes setup (accepted setup (stream (take (h.k - 1) (pieces_of text)))) ++ more.0) reply more.1 k.empty k.reply_same);
+        requests_are = requests_of setup h.reached readings old out requests h.requests k.none k.requests_same;
+      };
     }
 
 -- ---- the status
@@ -196,11 +210,42 @@ is_complete setup text F K result none complete (inr (inl s)) f k nk = absurd (f
 is_complete setup text F K result none complete (inr (inr (inl s))) f k nk = absurd (nk (k s))
 is_complete setup text F K result none complete (inr (inr (inr s))) f k nk = inr s
 
+-- the status of a session whose input's count of faults rose
+risen_status : (l : LastLine) → TellsFault l → status_of l ≡ 3
+risen_status l (inl f) = ap status_of f
+risen_status l (inr bad) = ap status_of bad.1
+
+pub is_risen : (l : LastLine) (R : Type 0) (result : ℕ) → (R → TellsFault l) → (result ≡ status_of l) ⊎ IsCut result → R → (result ≡ 3) ⊎ IsCut result
+is_risen l R result tells (inr cut) rose = inr cut
+is_risen l R result tells (inl s) rose = inl (s ∙ risen_status l (tells rose))
+
+-- ---- what an input says
+
+module _ {I : Type 0} (text : I → Option (List ℕ)) (given : I → List ℕ) (last : I → LastAnswer) (faults : I → ℕ) (old new : I) where
+  abbrev view : I → InputView
+  view i = input_view text given last faults i
+
+  -- a text by what it says is a text of it
+  pub seen_text : (t : List ℕ) (left : Option (List ℕ)) →
+      IsText (λ (v : InputView). v.text) (λ (v : InputView). v.given) (λ (v : InputView). v.last) (view old) (view new) t left → IsText text given last old new t left
+  seen_text t left (inl is) = inl (record { told_is = is.told_is; left_is = is.left_is })
+  seen_text t left (inr is) = inr (record { more = is.more; text_is = is.text_is; left_is = is.left_is; ends = is.ends })
+
+  -- and a bad line that it met is met by what it says
+  pub seen_met : (n : ℕ) → MetBadLine given last old new n → MetBadLine (λ (v : InputView). v.given) (λ (v : InputView). v.last) (view old) (view new) n
+  seen_met n met = record { place = met.place; bad = met.bad; number = met.number }
+
 -- ---- the words
 
--- what is so of a setup is so of the same one
-pub of_same : (P : Setup → Type 0) (given setup : Setup) → P given → given ≡ setup → P setup
-of_same P given setup so same = subst P same so
+-- what is done at a command is done at the same one
+pub runs_as : (usage : List ℕ) (command given : Option Command) (result : ℕ) (before after : Outside) → given ≡ command → Runs usage given result before after → Runs usage command result before after
+runs_as usage command given result before after same so = subst (λ (c : Option Command). Runs usage c result before after) same so
+
+pub answers_as : (command given : Option Command) (result : ℕ) → given ≡ command → MayAnswer given result → MayAnswer command result
+answers_as command given result same so = subst (λ (c : Option Command). MayAnswer c result) same so
+
+pub serves_as : (text_of : Report → List ℕ) (setup other : Setup) (result : ℕ) (before after : Outside) → setup ≡ other → Serves text_of setup result before after → Serves text_of other result before after
+serves_as text_of setup other result before after same so = subst (λ (s : Setup). Serves text_of s result before after) same so
 
 -- what is told of a text is told of the same one
 pub told_as : (status : ℕ) (text other : List ℕ) (held : Piece) (result : ℕ) (now : Option Piece) → text ≡ other → Tells status text held result now → Tells status other held result now

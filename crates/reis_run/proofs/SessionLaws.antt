@@ -1,7 +1,7 @@
 -- What a session over the lines of an input came to.
 use Rattle.std.proofs.Common.{◌≡◌, ◌≤◌, ◌<◌, ◌⊎◌, inl, inr, ℕ, Bool, true, List, [], ◌++◌, ◌-◌, false, length, take, drop, Option, Some, None}
 use Rattle.std.proofs.Common.{Result, Ok, Err, refl, sym, ap, ◌∙◌, subst, arith, length-append}
-use Rattle.std.proofs.lemmas.List.{append-nil, length-drop, take_at}
+use Rattle.std.proofs.lemmas.List.{append-nil, length-drop, take_at, drop_all}
 use Rattle.std.specs.Prelude.{map, IsErrOf, IsSome}
 use Rattle.ei_spec.specs.Message.{Raw}
 use Rattle.ei_spec.specs.Piece.{Piece, stream}
@@ -22,22 +22,23 @@ use Rattle.ei_serve.specs.declared.session.Ended.{Ended as HowEnded}
 use Rattle.ei_serve.specs.declared.session.Ended.TheVariants as ended
 use Rattle.ei_serve.specs.Refusing.{refusal_of, IsRefused}
 use Rattle.ei_serve.specs.Serving.{AnswersAs, IsDecided, IsCutShort, IsSourceEnd, ArePieces, AreReadings, HandsOut, Replied}
-use Rattle.ei_serve.specs.Serving.{LeftReadings, Handled, RepliedAtLeast, CutShort}
+use Rattle.ei_serve.specs.Serving.{LeftReadings, Handled, RepliedAtLeast, CutShort, TookPieces, TookAllOf, TookToTheEnd}
 use Rattle.ei_types.specs.declared.error.Error.{Error}
 use Rattle.ei_types.specs.declared.error.Error.TheVariants as error
 use Rattle.ei_backend.specs.declared.outside.LastAnswer.{LastAnswer}
 use Rattle.ei_backend.specs.declared.outside.LastAnswer.TheVariants as answers
-use Rattle.reis_lines.specs.HexSource.{Reading, text_reading, answer_of, fresh, left_of, faults_of, LaterReading, LaterSource, HoldsNoLine, AnswersTruly}
+use Rattle.reis_lines.specs.HexSource.{Reading, text_reading, answer_of, fresh, left_of, faults_of, LaterReading, LaterSource, HoldsNoLine, FailsHere, AnswersTruly}
+use Rattle.reis_lines.specs.Taken.{GaveLines}
 use Rattle.reis_lines.specs.declared.hex_source.HexSource.{HexSource}
 use Rattle.reis_lines.specs.Text.{pieces_of, bad_line_of, number_from, AreGiven}
 use Rattle.reis_lines.specs.Given.{given_since, MetBadLine}
 use Rattle.reis_lines.specs.InputText.{IsText}
 use Rattle.reis_lines.specs.Lent.{LentInput}
 use Rattle.reis_lines.proofs.GivenPieces.{gave_since, pieces_since, spent_at_end, spent_at_bad_line, whole_lines_given, bad_number_given, no_bad_line_given}
-use Rattle.reis_lines.proofs.MetLaws.{met_bad_line, lent_by}
+use Rattle.reis_lines.proofs.MetLaws.{met_bad_line, lent_by, gave_lines}
 use Rattle.reis_lines.proofs.TextBegins.{TextBegins, text_begins}
-use Rattle.reis_run.specs.Session.{end_behind, end_of, EndsAs, last_line_of, IsDecidedLine, IsAnswered, IsReadFault, IsCutShortLine, IsBadLine}
-use Rattle.reis_run.specs.Session.{HandledGiven, pieces_left, reply_bytes}
+use Rattle.reis_run.specs.Session.{end_behind, end_of, EndsAs, last_line_of, IsDecidedLine, IsAnswered, IsReadFault, IsCutShortLine, IsBadLine, TellsFault}
+use Rattle.reis_run.specs.Session.{HandledGiven, TookLines, TookAllAs, pieces_left, reply_bytes}
 use Rattle.reis_run.specs.declared.session.LastLine.TheVariants as last_line
 
 -- ---- the source
@@ -46,7 +47,7 @@ use Rattle.reis_run.specs.declared.session.LastLine.TheVariants as last_line
 pub record Went {I : Type 0} (text : I → Option (List ℕ)) (given : I → List ℕ) (last : I → LastAnswer) (faults : I → ℕ) (later : I → I → Type 0) (input after : I) (y : HexSource I) (answer : Result HowEnded Error) : Type 0 where
   pub reading : LaterReading text given last faults later (fresh input) (text_reading y)
   pub same : after ≡ (text_reading y).input
-  pub truly : AnswersTruly (text_reading y) (answer_of y)
+  pub truly : AnswersTruly last (text_reading y) (answer_of y)
   pub risen : faults_of faults (fresh input) < faults_of faults (text_reading y) → IsErrOf answer error.ReadFault
   pub rose : IsErrOf answer error.ReadFault → Rose (faults_of faults (fresh input)) (faults_of faults (text_reading y))
   pub last_end : IsSourceEnd answer → answer_of y ≡ answers.End
@@ -276,6 +277,7 @@ pub record Says (setup : Setup) (pieces : List Piece) (left : Option (List Piece
   pub replied : IsDecided answer → Replied setup (session setup pieces).handled took_old took_new
   pub clock : IsDecided answer → LeftReadings setup (session setup pieces).handled readings readings_left
   pub handled : IsErrOf answer error.ReadFault → Handled setup pieces left readings old new took_old took_new
+  pub taken : IsDecided answer → TookAllOf setup pieces left answer
   pub cut : IsCutShort answer → CutShort setup pieces left readings old new took_old took_new
 
 -- the same over a source that went on, of the pieces of a text
@@ -317,10 +319,21 @@ first_taken all first behind k within whole left =
 pieces_same : (a b : List Piece) → Some a ≡ Some b → a ≡ b
 pieces_same a b e = cc
 
-no_line_held : (held : List ℕ) (ended : Bool) (bad : Option ℕ) → HoldsNoLine held ended ⊎ IsSome bad → bad ≡ None → HoldsNoLine held ended
-no_line_held held ended bad (inl q) none = q
-no_line_held held ended None (inr some) none = absurd cc
-no_line_held held ended (Some n) (inr some) none = absurd cc
+not_bad : (P : Type 0) (bad : Option ℕ) → P ⊎ IsSome bad → bad ≡ None → P
+not_bad P bad (inl q) none = q
+not_bad P None (inr some) none = absurd cc
+not_bad P (Some n) (inr some) none = absurd cc
+
+-- a source whose pieces were all taken, with none of which the session was over
+took_to_end : (setup : Setup) (pieces : List Piece) (left : Option (List Piece)) (readings : Option (List ℕ)) (old new : List EisRequest) (took_old took_new : Option Piece) → left ≡ Some [] →
+    Handled setup pieces left readings old new took_old took_new → TookToTheEnd setup pieces left
+took_to_end setup pieces left readings old new took_old took_new none h =
+    let spent : drop h.k pieces ≡ [] = none_behind_k left (drop h.k pieces) h.took.left_is none in
+    let whole : h.k ≡ length pieces = omega (arith, h.took.within, length-drop h.k pieces, ap length spent) in
+    record {
+      took = subst (λ (n : ℕ). TookPieces pieces left n) whole h.took;
+      goes_on = λ j low high. h.goes_on j low (omega (arith, high, whole));
+    }
 
 module _
     {I : Type 0} {text : I → Option (List ℕ)} {given : I → List ℕ} {last : I → LastAnswer} {faults : I → ℕ} {later : I → I → Type 0} {input after : I} {y : HexSource I} {answer : Result HowEnded Error}
@@ -328,6 +341,18 @@ module _
   pub line_fault : (bad : Option ℕ) → bad ≡ (text_reading y).bad → IsReadFault (last_line_of bad answer) → Rose (faults input) (faults after)
   line_fault None is e = unmet_rose w (sym is) (answer_same answer e)
   line_fault (Some n) is e = absurd (bad_not_answer n (Err error.ReadFault) e)
+
+  -- and that was its last answer
+  pub line_last : (bad : Option ℕ) → bad ≡ (text_reading y).bad → IsReadFault (last_line_of bad answer) → last after ≡ answers.Fault
+  line_last None is e =
+      let here = not_bad (FailsHere last (text_reading y)) (text_reading y).bad (w.truly.fails (w.last_fault (answer_same answer e))) (sym is) in
+      ap last w.same ∙ here.1
+  line_last (Some n) is e = absurd (bad_not_answer n (Err error.ReadFault) e)
+
+  -- where its count of faults rose, that is told
+  pub line_risen : (bad : Option ℕ) → bad ≡ (text_reading y).bad → faults input < faults after → TellsFault (last_line_of bad answer)
+  line_risen None is rose = inl (ap last_line.Answer (w.risen (omega (arith, rose, ap faults w.same))))
+  line_risen (Some n) is rose = inr (n, refl)
 
   -- a bad line was met
   pub line_met : (bad : Option ℕ) (n : ℕ) → bad ≡ (text_reading y).bad → IsBadLine n (last_line_of bad answer) → MetBadLine given last input after n
@@ -361,23 +386,43 @@ module _
   line_clock None d = s.says.clock d
   line_clock (Some n) d = absurd d
 
+  -- the lines that were taken, and what waits behind them
+  took_lines : (Took : Option (List Piece) → Type 0) → Took (Some behind_text) → TookLines t (given_since given input after) left Took
+  took_lines Took so =
+      let lines = gave_lines text given last faults later input (text_reading y) s.went.reading in
+      let spent : pieces_left y.held left ≡ Some behind_text = ap (pieces_left y.held) s.begins.left_is in
+      record {
+        pieces = (text_reading y).pieces;
+        waiting = y.held;
+        gave = subst (λ (a : I). GaveLines (given_since given input a) (text_reading y).pieces y.held) (sym s.went.same) lines;
+        more = behind_text;
+        first = pieces_are s.went s.begins;
+        left_is = spent;
+        took = subst Took (sym spent) so;
+      }
+
   pub line_cut : (bad : Option ℕ) → IsCutShortLine (last_line_of bad answer) →
-      (unread : List ℕ) × CutShort setup (pieces_of t) (pieces_left unread left) readings old new took_old took_new
-  line_cut None d = (
-    y.held,
-    subst (λ (o : Option (List ℕ)). CutShort setup (pieces_of t) (pieces_left y.held o) readings old new took_old took_new) (sym s.begins.left_is) (s.says.cut d),
-  )
+      TookLines t (given_since given input after) left (λ pieces. CutShort setup (pieces_of t) pieces readings old new took_old took_new)
+  line_cut None d = took_lines (λ pieces. CutShort setup (pieces_of t) pieces readings old new took_old took_new) (s.says.cut d)
   line_cut (Some n) d = absurd d
+
+  pub line_took : (bad : Option ℕ) → bad ≡ (text_reading y).bad → IsDecidedLine (last_line_of bad answer) →
+      TookLines t (given_since given input after) left (TookAllAs setup (pieces_of t) (last_line_of bad answer))
+  line_took None is d = took_lines (TookAllAs setup (pieces_of t) (last_line.Answer answer)) (s.says.taken d)
+  line_took (Some n) is d =
+      took_lines (TookAllAs setup (pieces_of t) (last_line.BadLine n))
+      (took_to_end setup (pieces_of t) (Some behind_text) readings old new took_old took_new (none_behind s.went s.begins n (sym is))
+      (s.says.handled (met_fault s.went n (sym is))))
 
   given_of : (text_reading y).bad ≡ None → IsErrOf answer error.ReadFault → HandledGiven setup t left readings old new took_old took_new
   given_of none e =
-      let no_line = no_line_held y.held y.ended (text_reading y).bad (s.went.truly.fails (s.went.last_fault e)) none in
+      let here = not_bad (FailsHere last (text_reading y)) (text_reading y).bad (s.went.truly.fails (s.went.last_fault e)) none in
       let h = s.says.handled e in
       let whole = pieces_are s.went s.begins in
       let f = first_taken (pieces_of t) (text_reading y).pieces behind_text h.k h.took.within whole (sym (pieces_same behind_text (drop h.k (pieces_of t)) h.took.left_is)) in
       record {
         pieces = (text_reading y).pieces;
-        given = lines_given s.went s.begins no_line;
+        given = lines_given s.went s.begins here.0;
         first = (behind_text, whole);
         goes_on = λ j low high. h.goes_on j low (omega (arith, high, f.number));
         requests = subst (λ (v : List Piece). HandsOut setup (accepted setup (stream v)) readings old new) f.same h.requests;
@@ -410,13 +455,26 @@ none_owed setup pieces lt = absurd (omega arith)
 none_replied : (setup : Setup) (pieces : List Piece) (took : Option Piece) → 0 < 0 → RepliedAtLeast setup (accepted setup (stream (take (0 - 1) pieces))) took took
 none_replied setup pieces took lt = absurd (omega arith)
 
+-- nothing was given
+pub given_none : {I : Type 0} (given : I → List ℕ) (input : I) → given_since given input input ≡ []
+given_none given input = drop_all (length (given input)) (given input) (omega arith)
+
+none_gave : (bytes : List ℕ) → bytes ≡ [] → GaveLines bytes [] []
+none_gave bytes none = record { lines = []; same = none; spelled = refl; room = omega arith }
+
 -- no piece was taken, and no message handled
-pub nothing_handled : (setup : Setup) (text : List ℕ) (left readings : Option (List ℕ)) (out : List EisRequest) (took : Option Piece) → left ≡ Some text →
-    (unread : List ℕ) × CutShort setup (pieces_of text) (pieces_left unread left) readings out out took took
-nothing_handled setup text left readings out took told =
-    let r = readings_of readings in (
-      [],
-      record {
+pub nothing_handled : (setup : Setup) (text given : List ℕ) (left readings : Option (List ℕ)) (out : List EisRequest) (took : Option Piece) → given ≡ [] → left ≡ Some text →
+    TookLines text given left (λ pieces. CutShort setup (pieces_of text) pieces readings out out took took)
+nothing_handled setup text given left readings out took none told =
+    let r = readings_of readings in
+    record {
+      pieces = [];
+      waiting = [];
+      gave = none_gave given none;
+      more = pieces_of text;
+      first = refl;
+      left_is = ap (pieces_left []) told;
+      took = record {
         k = 0;
         took = record { within = omega arith; left_is = ap (pieces_left []) told };
         reached = [];
@@ -425,5 +483,5 @@ nothing_handled setup text left readings out took told =
         requests = record { readings = r.0; told_so = r.1; grown = none_grown setup r.0 out };
         replies = λ held is. (0, is ∙ ap (λ (x : Piece). Some x) (sym (none_more (reply_bytes setup []) held)));
         replied = none_replied setup (pieces_of text) took;
-      },
-    )
+      };
+    }

@@ -1,7 +1,17 @@
--- The session that the words ask for.
-use Rattle.std.specs.Prelude.{◌≡◌, ℕ, List, Option, Some, None}
+-- What the program does at the words that it is started with.
+use Rattle.std.specs.Prelude.{◌≡◌, ◌<◌, ◌⊎◌, ℕ, Bool, true, false, List, Option, Some, None, Ok}
+use Rattle.ei_backend.specs.Outside.{Piece}
 use Rattle.ei_session.specs.Setup.{Setup}
-use Rattle.reis_run.specs.Words.{command_of}
+use Rattle.ei_session.specs.Complete.{AreComplete}
+use Rattle.ei_serve.specs.Serving.{LeftReadings}
+use Rattle.ei_serve.specs.declared.session.Ended.TheVariants as ended
+use Rattle.reis_demo.specs.Generated.{demo_setup}
+use Rattle.reis_demo.specs.Summary.{demo_session, demo_lines}
+use Rattle.reis_lines.specs.InputText.{ForEachText}
+use Rattle.reis_lines.specs.Text.{pieces_of, bad_line_of}
+use Rattle.reis_run.specs.ProgramOutside.{Outside, IsTextOf, MetLineOf, InputRose, OutputRose}
+use Rattle.reis_run.specs.Session.{end_of, IsReport, status_of_end, IsStatus, HasReadCause}
+use Rattle.reis_run.specs.Tell.{Report, report_text, traced_text, Tells, Reports}
 use Rattle.reis_run.specs.declared.words.Command.{Command}
 use Rattle.reis_run.specs.declared.words.Command.TheVariants.{Serve, Trace, Demo}
 
@@ -9,34 +19,41 @@ use Rattle.reis_run.specs.declared.words.Command.TheVariants.{Serve, Trace, Demo
 abbrev pub setup_with : ℕ → ℕ → ℕ → Setup
 setup_with serial capabilities pieces = record { serial = serial; capabilities = capabilities; pieces = pieces }
 
--- the setup of the session whose report is asked for
-abbrev pub serve_asked : Option Command → Option Setup
-serve_asked (Some (Serve serial capabilities pieces)) = Some (setup_with serial capabilities pieces)
-serve_asked command = None
+-- less than all was told: the output failed, or memory ran out
+abbrev pub IsCut : ℕ → Type 0
+IsCut result = (result ≡ 4) ⊎ (result ≡ 5)
 
--- or of the one whose report and trace are
-abbrev pub trace_asked : Option Command → Option Setup
-trace_asked (Some (Trace serial capabilities pieces)) = Some (setup_with serial capabilities pieces)
-trace_asked command = None
+-- The session over the lines of the input is told by this text of its report, over each text that the input told or gave. The status
+-- follows from the text, but for faults; it is 3 only where the input failed or the bytes that it gave have a bad line, whole, and
+-- a fault of the input is told by it. Where no line is bad, the pieces make a good end sure and nothing fails, the status is 0 or 5.
+pub record Serves (text_of : Report → List ℕ) (setup : Setup) (result : ℕ) (before after : Outside) : Type 0 where
+  pub report : Reports (IsReport setup before after) text_of result before.output after.output
+  pub status : ForEachText (IsTextOf before after) (λ text left. IsStatus (status_of_end (end_of setup text)) (InputRose before after) result)
+  pub cause : HasReadCause result (InputRose before after) (MetLineOf before after)
+  pub risen : before.input.faults < after.input.faults → (result ≡ 3) ⊎ IsCut result
+  pub complete : ForEachText (IsTextOf before after) (λ text left. bad_line_of text ≡ None → AreComplete setup (pieces_of text) →
+      (InputRose before after → ⊥) → (OutputRose before after → ⊥) → (result ≡ 0) ⊎ (result ≡ 5))
 
--- or of either
-abbrev pub session_asked : Option Command → Option Setup
-session_asked (Some (Serve serial capabilities pieces)) = Some (setup_with serial capabilities pieces)
-session_asked (Some (Trace serial capabilities pieces)) = Some (setup_with serial capabilities pieces)
-session_asked command = None
+-- Six lines of the session over the generated stream are told, which ends with the disconnect.
+pub record Demonstrates (groups start result : ℕ) (before after : Outside) : Type 0 where
+  pub lines : (held : Piece) → before.output ≡ Some held → Tells 0 (demo_lines groups start (Ok ended.Disconnect)) held result after.output
+  pub readings : result ≡ 0 → LeftReadings demo_setup (demo_session groups start).handled before.readings after.readings
 
--- what is so of the setup that the words ask for, where they are those of `serve`
-abbrev pub ForServe : List (List ℕ) → (Setup → Type 0) → Type 0
-ForServe words P = (setup : Setup) → serve_asked (command_of words) ≡ Some setup → P setup
+-- what the program does at this command; with none it tells the usage line
+abbrev pub Runs : List ℕ → Option Command → ℕ → Outside → Outside → Type 0
+Runs usage (Some (Serve serial capabilities pieces)) result before after = Serves report_text (setup_with serial capabilities pieces) result before after
+Runs usage (Some (Trace serial capabilities pieces)) result before after = Serves traced_text (setup_with serial capabilities pieces) result before after
+Runs usage (Some (Demo groups start)) result before after = Demonstrates groups start result before after
+Runs usage None result before after = (held : Piece) → before.output ≡ Some held → Tells 2 usage held result after.output
 
--- or those of `trace`
-abbrev pub ForTrace : List (List ℕ) → (Setup → Type 0) → Type 0
-ForTrace words P = (setup : Setup) → trace_asked (command_of words) ≡ Some setup → P setup
+-- the statuses at this command: 2 exactly where there is none and all was told
+abbrev pub MayAnswer : Option Command → ℕ → Type 0
+MayAnswer None result = (result ≡ 2) ⊎ IsCut result
+MayAnswer (Some (Demo groups start)) result = (result ≡ 0) ⊎ IsCut result
+MayAnswer (Some command) result = result ≡ 2 → ⊥
 
--- or either
-abbrev pub ForSession : List (List ℕ) → (Setup → Type 0) → Type 0
-ForSession words P = (setup : Setup) → session_asked (command_of words) ≡ Some setup → P setup
-
--- what is so of the groups and the start that the words ask for, where they are those of `demo`
-abbrev pub ForDemo : List (List ℕ) → (ℕ → ℕ → Type 0) → Type 0
-ForDemo words P = (groups start : ℕ) → command_of words ≡ Some (Demo groups start) → P groups start
+-- whether a command reads the input
+abbrev pub reads_input : Option Command → Bool
+reads_input (Some (Serve serial capabilities pieces)) = true
+reads_input (Some (Trace serial capabilities pieces)) = true
+reads_input command = false

@@ -1,4 +1,5 @@
 pub mod Asked
+pub mod ProgramOutside
 pub mod Session
 pub mod StdIo
 pub mod Tell
@@ -14,6 +15,7 @@ pub use Rattle.ei_serve.specs.Standing
 pub use Rattle.reis_lines.specs.Given
 pub use Rattle.reis_lines.specs.HexSource
 pub use Rattle.reis_lines.specs.InputText
+pub use Rattle.reis_lines.specs.Taken
 pub use Rattle.reis_lines.specs.Text
 pub use Rattle.reis_demo.specs.Generated
 pub use Rattle.reis_demo.specs.Summary

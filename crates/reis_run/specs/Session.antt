@@ -10,10 +10,13 @@ use Rattle.ei_session.specs.Served.{Answer, Disconnect, End, UnexpectedEof, sess
 use Rattle.ei_standing.specs.Standing.{request_in_code}
 use Rattle.ei_request.specs.declared.event.EisRequest.{EisRequest}
 use Rattle.ei_serve.specs.declared.session.Ended.{Ended as HowEnded}
-use Rattle.ei_serve.specs.Serving.{AnswersAs, IsDecided, IsCutShort, TookPieces, AreReadings, LeftReadings, HandsOut, Replied}
+use Rattle.ei_serve.specs.Serving.{AnswersAs, IsDecided, IsCutShort, TookPieces, TookAllOf, TookToTheEnd, AreReadings, LeftReadings, HandsOut, Replied}
 use Rattle.ei_types.specs.declared.error.Error.{Error}
 use Rattle.ei_types.specs.declared.error.Error.TheVariants as error
+use Rattle.ei_backend.specs.declared.outside.LastAnswer.TheVariants as answers
 use Rattle.reis_lines.specs.InputText.{ForEachText}
+use Rattle.reis_lines.specs.Taken.{GaveLines}
+use Rattle.reis_run.specs.ProgramOutside.{Outside, IsTextOf, MetLineOf, InputRose, given_by}
 use Rattle.reis_lines.specs.Text.{pieces_of, bad_line_of, number_from, AreGiven}
 use Rattle.reis_run.specs.Tell.{Report}
 use Rattle.reis_run.specs.declared.session.LastLine.{LastLine}
@@ -65,6 +68,10 @@ IsReadFault last = last ≡ last_line.Answer (Err error.ReadFault)
 abbrev pub IsBadLine : ℕ → LastLine → Type 0
 IsBadLine n last = last ≡ last_line.BadLine n
 
+-- the input failed, or a bad line was met
+abbrev pub TellsFault : LastLine → Type 0
+TellsFault last = IsReadFault last ⊎ ((n : ℕ) × IsBadLine n last)
+
 -- memory ran out
 abbrev pub IsCutShortLine : LastLine → Type 0
 IsCutShortLine (last_line.Answer result) = IsCutShort result
@@ -85,6 +92,22 @@ pub record HandledGiven
 -- the pieces that an input's text has left behind these bytes
 abbrev pub pieces_left : List ℕ → Option (List ℕ) → Option (List Piece)
 pieces_left unread left = option_map (λ t. pieces_of (unread ++ t)) left
+
+-- which pieces a session over these took that ended so: all of them where a bad line follows
+abbrev pub TookAllAs : Setup → List Piece → LastLine → Option (List Piece) → Type 0
+TookAllAs setup told (last_line.Answer result) left = TookAllOf setup told left result
+TookAllAs setup told (last_line.BadLine n) left = TookToTheEnd setup told left
+
+-- What was taken of a text. The bytes that the input gave are the lines of the pieces that were taken, which are the first of the
+-- text, and behind them bytes that wait; of the pieces left, with these bytes, this is so.
+pub record TookLines (text given : List ℕ) (left : Option (List ℕ)) (Took : Option (List Piece) → Type 0) : Type 0 where
+  pub pieces : List Piece
+  pub waiting : List ℕ
+  pub gave : GaveLines given pieces waiting
+  pub more : List Piece
+  pub first : pieces_of text ≡ pieces ++ more
+  pub left_is : pieces_left waiting left ≡ Some more
+  pub took : Took (pieces_left waiting left)
 
 -- ---- what is reported
 
@@ -113,10 +136,9 @@ pub record IsOfGiven (setup : Setup) (text : List ℕ) (left readings : Option (
 
 -- They are the requests of the first of the session's messages, and a front of the replies to these. So many pieces were taken, and
 -- the messages of the pieces before the last are among them, and their replies in the front.
-pub record IsOfFirst (setup : Setup) (pieces : List Piece) (left readings : Option (List ℕ)) (report : Report) : Type 0 where
+pub record IsOfFirst (setup : Setup) (pieces : List Piece) (readings : Option (List ℕ)) (report : Report) (left : Option (List Piece)) : Type 0 where
   pub k : ℕ
-  pub unread : List ℕ
-  pub took : TookPieces pieces (pieces_left unread left) k
+  pub took : TookPieces pieces left k
   pub reached : List Raw
   pub ahead : (more : List Raw) × ((session setup pieces).handled ≡ more ++ reached)
   pub owed : 0 < k → (done : List Raw) × (reached ≡ done ++ accepted setup (stream (take (k - 1) pieces)))
@@ -125,17 +147,24 @@ pub record IsOfFirst (setup : Setup) (pieces : List Piece) (left readings : Opti
   pub requests_are : AreRequests setup reached readings report.requests
 
 -- The report is that of the session over each text of an input: one that it told, or the bytes that it gave with any behind them.
--- Where the input failed it is that of the lines given, and where memory ran out that of the first messages. A read fault is
--- reported only where the input failed, and a bad line only where one was met.
-pub record IsReport
-    (setup : Setup) (is_text : List ℕ → Option (List ℕ) → Type 0) (readings readings_left : Option (List ℕ)) (failed : Type 0) (met : ℕ → Type 0) (report : Report) : Type 0 where
-  pub ends : ForEachText is_text (λ text left. IsDecidedLine report.last → EndsAs (end_of setup text) report.last)
-  pub decided : ForEachText is_text (λ text left. IsDecidedLine report.last → IsOf setup (session setup (pieces_of text)).handled readings report)
-  pub clock : ForEachText is_text (λ text left. IsAnswered report.last → LeftReadings setup (session setup (pieces_of text)).handled readings readings_left)
-  pub given : ForEachText is_text (λ text left. IsReadFault report.last → IsOfGiven setup text left readings report)
-  pub cut_short : ForEachText is_text (λ text left. IsCutShortLine report.last → IsOfFirst setup (pieces_of text) left readings report)
-  pub fault : IsReadFault report.last → failed
-  pub bad_line : (n : ℕ) → IsBadLine n report.last → met n
+-- Where the input failed it is that of the lines given, and where memory ran out that of the first messages. Nothing was read behind
+-- the last line that the session took but what a buffer has room for. A read fault is reported only where the input failed, last of
+-- all, and a bad line only where one was met; and one of them is wherever the input's count of faults rose.
+pub record IsReport (setup : Setup) (before after : Outside) (report : Report) : Type 0 where
+  pub ends : ForEachText (IsTextOf before after) (λ text left. IsDecidedLine report.last → EndsAs (end_of setup text) report.last)
+  pub decided : ForEachText (IsTextOf before after) (λ text left.
+      IsDecidedLine report.last → IsOf setup (session setup (pieces_of text)).handled before.readings report)
+  pub clock : ForEachText (IsTextOf before after) (λ text left.
+      IsAnswered report.last → LeftReadings setup (session setup (pieces_of text)).handled before.readings after.readings)
+  pub taken : ForEachText (IsTextOf before after) (λ text left.
+      IsDecidedLine report.last → TookLines text (given_by before after) left (TookAllAs setup (pieces_of text) report.last))
+  pub given : ForEachText (IsTextOf before after) (λ text left. IsReadFault report.last → IsOfGiven setup text left before.readings report)
+  pub cut_short : ForEachText (IsTextOf before after) (λ text left.
+      IsCutShortLine report.last → TookLines text (given_by before after) left (IsOfFirst setup (pieces_of text) before.readings report))
+  pub fault : IsReadFault report.last → InputRose before after
+  pub fault_last : IsReadFault report.last → after.input.last ≡ answers.Fault
+  pub risen : before.input.faults < after.input.faults → TellsFault report.last
+  pub bad_line : (n : ℕ) → IsBadLine n report.last → MetLineOf before after n
 
 -- ---- the status
 

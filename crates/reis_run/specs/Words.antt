@@ -3,6 +3,7 @@ use Rattle.std.specs.Prelude.{ℕ, ◌+◌, ◌*◌, ◌-◌, ◌==◌, ◌&&◌
 use Rattle.std.specs.Char.{is_ascii_digit}
 use Rattle.std.specs.List.{list_all}
 use Rattle.std.specs.Str.{bytes_eq}
+use Rattle.ei_spec.specs.declared.limits.TheConstants.{ALL_CAPABILITIES}
 use Rattle.reis_run.specs.declared.words.Command.{Command}
 use Rattle.reis_run.specs.declared.words.Command.TheVariants.{Serve, Trace, Demo}
 
@@ -33,7 +34,7 @@ command_with command serial capabilities pieces = None
 -- a command whose words are its name, a first serial, capabilities and a number of pieces
 abbrev pub session_command : (ℕ → ℕ → ℕ → Command) → List ℕ → List ℕ → List ℕ → Option Command
 session_command command serial capabilities pieces =
-    command_with command (number_of 4294967295 serial) (number_of 127 capabilities) (number_of 4294967295 pieces)
+    command_with command (number_of 4294967295 serial) (number_of ALL_CAPABILITIES capabilities) (number_of 4294967295 pieces)
 
 -- the command of a number of groups, at least one, and a start
 abbrev pub demo_with : Option ℕ → Option ℕ → Option Command

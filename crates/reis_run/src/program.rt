@@ -1,24 +1,20 @@
 //! The program, over any input, output and clock.
 
-ghost use Rattle.std.specs.Prelude.{◌≡◌, ◌≤◌, ◌<◌, ◌⊎◌, ℕ, List, Some, None, IsSome};
+ghost use Rattle.std.specs.Prelude.{◌≡◌, ◌≤◌, ◌⊎◌, ℕ, Some, None, Ok, false};
 ghost use Rattle.ei_types.specs.Capability.{bits_of, all_bits};
 ghost use Rattle.ei_backend.specs.Lent.{LentSink, LentClock};
-ghost use Rattle.ei_backend.specs.Outside.{Piece, Rose};
-ghost use Rattle.ei_session.specs.Complete.{AreComplete};
-ghost use Rattle.std.specs.Prelude.{Ok};
+ghost use Rattle.ei_backend.specs.Outside.{Piece};
 ghost use Rattle.ei_serve.specs.Standing.{setup_of};
 ghost use Rattle.ei_serve.specs.Serving.{LeftReadings};
 ghost use Rattle.ei_serve.specs.declared.session.Ended.TheVariants as ended;
 ghost use Rattle.reis_demo.specs.Generated.{demo_setup};
 ghost use Rattle.reis_demo.specs.Summary.{demo_session, demo_lines};
-ghost use Rattle.reis_lines.specs.Given.{MetBadLine};
-ghost use Rattle.reis_lines.specs.InputText.{IsText, ForText};
+ghost use Rattle.reis_lines.specs.InputText.{input_view};
 ghost use Rattle.reis_lines.specs.Lent.{LentInput};
-ghost use Rattle.reis_lines.specs.Text.{pieces_of, bad_line_of};
+ghost use Rattle.reis_run.specs.Asked.{setup_with, IsCut, Serves, Runs, MayAnswer, reads_input};
+ghost use Rattle.reis_run.specs.ProgramOutside.{outside};
+ghost use Rattle.reis_run.specs.Tell.{told_text, Tells};
 ghost use Rattle.reis_run.specs.Words.{command_of};
-ghost use Rattle.reis_run.specs.Tell.{report_text, traced_text, told_text, Tells, Reports};
-ghost use Rattle.reis_run.specs.Session.{end_of, IsReport, status_of_end, IsStatus, HasReadCause};
-ghost use Rattle.reis_run.specs.Asked.{setup_with, ForServe, ForTrace, ForSession, ForDemo};
 
 use crate::session::serve_lines;
 pub use crate::tell::NO_MEMORY;
@@ -36,7 +32,7 @@ const NO_COMMAND: u8 = 2;
 
 /// The capabilities of these bits.
 fn capabilities_of(bits: u32) -> DeviceCapabilities
-    requires { bits ≤ 127 }
+    requires { bits ≤ all_bits }
     ensures { bits_of result ≡ bits }
 {
     DeviceCapabilities::from_bits(u64::from(bits)).unwrap()
@@ -44,7 +40,7 @@ fn capabilities_of(bits: u32) -> DeviceCapabilities
 
 /// The setup of a session.
 fn setup(initial_serial: u32, capabilities: u32, pieces: u32) -> Setup
-    requires { capabilities ≤ 127 }
+    requires { capabilities ≤ all_bits }
     ensures value { setup_of result ≡ setup_with initial_serial capabilities pieces }
     ensures lawful { bits_of result.capabilities ≤ all_bits }
 {
@@ -65,18 +61,12 @@ fn serve_command<I: Input, O: Sink, C: Clock>(
     clock: &mut C,
 ) -> u8
     requires lawful { bits_of setup.capabilities ≤ all_bits }
-    ensures report { Reports (IsReport (setup_of setup) (IsText I.text I.given I.last input.old input.new)
-        (C.readings clock.old) (C.readings clock.new)
-        (Rose (I.faults input.old) (I.faults input.new)) (MetBadLine I.given I.last input.old input.new))
-        (told_text form) result (O.taken output.old) (O.taken output.new) }
-    ensures status { ForText I.text I.given I.last input.old input.new (λ text left.
-        IsStatus (status_of_end (end_of (setup_of setup) text)) (Rose (I.faults input.old) (I.faults input.new)) result) }
-    ensures cause { HasReadCause result (Rose (I.faults input.old) (I.faults input.new)) (MetBadLine I.given I.last input.old input.new) }
-    ensures complete { ForText I.text I.given I.last input.old input.new (λ text left.
-        bad_line_of text ≡ None → AreComplete (setup_of setup) (pieces_of text) →
-        (Rose (I.faults input.old) (I.faults input.new) → ⊥) → (Rose (O.faults output.old) (O.faults output.new) → ⊥) →
-        (result ≡ 0) ⊎ (result ≡ 5)) }
-    ensures served { result ≡ 2 → ⊥ }
+    ensures serves { Serves (told_text form) (setup_of setup) result
+        (outside (input_view I.text I.given I.last I.faults input.old)
+        (O.taken output.old) (O.faults output.old) (C.readings clock.old))
+        (outside (input_view I.text I.given I.last I.faults input.new)
+        (O.taken output.new) (O.faults output.new) (C.readings clock.new)) }
+    ensures answer { result ≡ 2 → ⊥ }
     ensures input { LentInput I.text I.given I.faults I.later input.old input.new }
     ensures output { LentSink O.faults O.later (result ≡ 4) output.old output.new }
     ensures clock { LentClock C.later clock.old clock.new }
@@ -97,7 +87,7 @@ fn demo_command<O: Sink, C: Clock>(
 ) -> u8
     ensures lines { (held : Piece) → O.taken output.old ≡ Some held →
         Tells 0 (demo_lines groups start (Ok ended.Disconnect)) held result (O.taken output.new) }
-    ensures status { (result ≡ 0) ⊎ ((result ≡ 4) ⊎ (result ≡ 5)) }
+    ensures answer { (result ≡ 0) ⊎ IsCut result }
     ensures readings { result ≡ 0 →
         LeftReadings demo_setup (demo_session groups start).handled (C.readings clock.old) (C.readings clock.new) }
     ensures output { LentSink O.faults O.later (result ≡ 4) output.old output.new }
@@ -129,41 +119,15 @@ pub fn run<I: Input, O: Sink, C: Clock>(
     output: &mut O,
     clock: &mut C,
 ) -> u8
-    // words that are refused: the usage line is told, and the input and the clock are as they were
-    ensures usage { command_of words.now ≡ None → (held : Piece) → O.taken output.old ≡ Some held →
-        Tells 2 USAGE.now held result (O.taken output.new) }
-    ensures refused { command_of words.now ≡ None → (result ≡ 2) ⊎ ((result ≡ 4) ⊎ (result ≡ 5)) }
-    ensures unasked { command_of words.now ≡ None → input.new ≡ input.old }
+    // by the command that the words are, exactly: its report, its trace or its six lines; with none, the usage line
+    ensures runs { Runs USAGE.now (command_of words.now) result
+        (outside (input_view I.text I.given I.last I.faults input.old)
+        (O.taken output.old) (O.faults output.old) (C.readings clock.old))
+        (outside (input_view I.text I.given I.last I.faults input.new)
+        (O.taken output.new) (O.faults output.new) (C.readings clock.new)) }
+    ensures answer { MayAnswer (command_of words.now) result }
+    ensures unasked { reads_input (command_of words.now) ≡ false → input.new ≡ input.old }
     ensures unread { command_of words.now ≡ None → clock.new ≡ clock.old }
-    ensures served { IsSome (command_of words.now) → result ≡ 2 → ⊥ }
-    // the words of `serve`: the report of the session over the lines of the input, of a text that it told or of what it gave
-    ensures report { ForServe words.now (λ setup. Reports (IsReport setup (IsText I.text I.given I.last input.old input.new)
-        (C.readings clock.old) (C.readings clock.new)
-        (Rose (I.faults input.old) (I.faults input.new)) (MetBadLine I.given I.last input.old input.new))
-        report_text result (O.taken output.old) (O.taken output.new)) }
-    // the words of `trace`: the same, and behind it the trace of the reply bytes
-    ensures trace { ForTrace words.now (λ setup. Reports (IsReport setup (IsText I.text I.given I.last input.old input.new)
-        (C.readings clock.old) (C.readings clock.new)
-        (Rose (I.faults input.old) (I.faults input.new)) (MetBadLine I.given I.last input.old input.new))
-        traced_text result (O.taken output.old) (O.taken output.new)) }
-    // the words of `demo`: six lines of the session over the generated stream, which ends with the disconnect
-    ensures demo { ForDemo words.now (λ groups start. (held : Piece) → O.taken output.old ≡ Some held →
-        Tells 0 (demo_lines groups start (Ok ended.Disconnect)) held result (O.taken output.new)) }
-    ensures demo_status { ForDemo words.now (λ groups start. (result ≡ 0) ⊎ ((result ≡ 4) ⊎ (result ≡ 5))) }
-    ensures demo_readings { ForDemo words.now (λ groups start. result ≡ 0 →
-        LeftReadings demo_setup (demo_session groups start).handled (C.readings clock.old) (C.readings clock.new)) }
-    ensures demo_unasked { ForDemo words.now (λ groups start. input.new ≡ input.old) }
-    // the status of `serve` and `trace`
-    ensures status { ForSession words.now (λ setup. ForText I.text I.given I.last input.old input.new (λ text left.
-        IsStatus (status_of_end (end_of setup text)) (Rose (I.faults input.old) (I.faults input.new)) result)) }
-    // over any input, told or not: 3 only where it failed, or the bytes that it gave have a bad line, whole
-    ensures cause { ForSession words.now (λ setup.
-        HasReadCause result (Rose (I.faults input.old) (I.faults input.new)) (MetBadLine I.given I.last input.old input.new)) }
-    // over a text of lines whose pieces make a good end sure, where neither the input nor the output fails
-    ensures complete { ForSession words.now (λ setup. ForText I.text I.given I.last input.old input.new (λ text left.
-        bad_line_of text ≡ None → AreComplete setup (pieces_of text) →
-        (Rose (I.faults input.old) (I.faults input.new) → ⊥) → (Rose (O.faults output.old) (O.faults output.new) → ⊥) →
-        (result ≡ 0) ⊎ (result ≡ 5))) }
     // the input, the output and the clock: status 4 exactly where the output failed
     ensures input { LentInput I.text I.given I.faults I.later input.old input.new }
     ensures output { LentSink O.faults O.later (result ≡ 4) output.old output.new }

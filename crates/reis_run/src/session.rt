@@ -1,18 +1,19 @@
 //! A session over the lines of an input.
 
-ghost use Rattle.std.specs.Prelude.{◌≡◌, ◌≤◌, ℕ, List, Some};
+ghost use Rattle.std.specs.Prelude.{◌≡◌, ◌<◌, ◌≤◌, ℕ, List, Some};
 ghost use Rattle.ei_types.specs.Capability.{bits_of, all_bits};
 ghost use Rattle.ei_backend.specs.Lent.{LentClock};
 ghost use Rattle.ei_backend.specs.Outside.{Rose};
+ghost use Rattle.ei_backend.specs.declared.outside.LastAnswer.TheVariants as answers;
 ghost use Rattle.ei_session.specs.Served.{session};
 ghost use Rattle.ei_serve.specs.Standing.{setup_of};
 ghost use Rattle.ei_serve.specs.Serving.{HandsOut, Replied, LeftReadings, CutShort};
-ghost use Rattle.reis_lines.specs.Given.{MetBadLine};
+ghost use Rattle.reis_lines.specs.Given.{given_since, MetBadLine};
 ghost use Rattle.reis_lines.specs.InputText.{ForText};
 ghost use Rattle.reis_lines.specs.Lent.{LentInput};
 ghost use Rattle.reis_lines.specs.Text.{pieces_of};
-ghost use Rattle.reis_run.specs.Session.{end_of, EndsAs, IsDecidedLine, IsAnswered, IsReadFault, IsCutShortLine, pieces_left, HandledGiven};
-ghost use Rattle.reis_run.specs.Session.{last_line_of, IsBadLine};
+ghost use Rattle.reis_run.specs.Session.{end_of, EndsAs, IsDecidedLine, IsAnswered, IsReadFault, IsCutShortLine, HandledGiven, TookLines, TookAllAs};
+ghost use Rattle.reis_run.specs.Session.{last_line_of, IsBadLine, TellsFault};
 
 use ei_backend::{Clock, Input, Tray};
 use ei_request::EisRequest;
@@ -63,11 +64,17 @@ pub(crate) fn serve_lines<I: Input, C: Clock>(
     ensures given { ForText I.text I.given I.last input.old input.new (λ text left. IsReadFault result →
         HandledGiven (setup_of setup) text left (C.readings clock.old) requests.old.items requests.new.items
         (Some reply.old.held) (Some reply.new.held)) }
-    ensures cut_short { ForText I.text I.given I.last input.old input.new (λ text left. IsCutShortLine result → (unread : List ℕ) ×
-        CutShort (setup_of setup) (pieces_of text) (pieces_left unread left) (C.readings clock.old) requests.old.items requests.new.items
-        (Some reply.old.held) (Some reply.new.held)) }
+    ensures cut_short { ForText I.text I.given I.last input.old input.new (λ text left. IsCutShortLine result →
+        TookLines text (given_since I.given input.old input.new) left (λ pieces.
+        CutShort (setup_of setup) (pieces_of text) pieces (C.readings clock.old) requests.old.items requests.new.items
+        (Some reply.old.held) (Some reply.new.held))) }
+    // nothing is read behind the last line that the session takes, but what a buffer has room for
+    ensures taken { ForText I.text I.given I.last input.old input.new (λ text left. IsDecidedLine result →
+        TookLines text (given_since I.given input.old input.new) left (TookAllAs (setup_of setup) (pieces_of text) result)) }
     // over any input
     ensures fault { IsReadFault result → Rose (I.faults input.old) (I.faults input.new) }
+    ensures fault_last { IsReadFault result → I.last input.new ≡ answers.Fault }
+    ensures risen { I.faults input.old < I.faults input.new → TellsFault result }
     ensures bad_line { (n : ℕ) → IsBadLine n result → MetBadLine I.given I.last input.old input.new n }
     ensures input { LentInput I.text I.given I.faults I.later input.old input.new }
     ensures clock { LentClock C.later clock.old clock.new }

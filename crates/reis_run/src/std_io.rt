@@ -1,7 +1,8 @@
 //! Standard input, standard output and the clock, as the outside of the program.
 //!
-//! They tell nothing of what they will give. Standard input says what it gave, and standard output what it took. Each error of
-//! theirs counts as a fault.
+//! Standard input tells the text that its reader has left, where the reader tells that, and says what it gave. Standard output
+//! says what it took, and a writer that tells what it holds holds that. The clock tells nothing of what it will show. Each error
+//! of theirs counts as a fault.
 
 ghost use Rattle.std.specs.Prelude.{◌≡◌, ◌<◌, ◌≤◌, ℕ, List, [], None, Some, IfOk, IfSome, length};
 ghost use Rattle.std.specs.Duration.{as_nanos};
@@ -33,7 +34,9 @@ pub struct StdInput<R: Read + Drop> {
 }
 
 impl<R: Read + Drop> StdInput<R> {
+    /// The input of this reader.
     pub fn new(reader: R) -> Self
+        ensures reader { result.reader ≡ reader }
         ensures given { result.given.bytes ≡ [] }
         ensures last { result.last ≡ answers.Nothing }
         ensures faults { result.faults ≡ 0 }
@@ -48,7 +51,7 @@ impl<R: Read + Drop> StdInput<R> {
 }
 
 impl<R: Read + Drop> Input for StdInput<R> {
-    ghost text = { λ _. None };
+    ghost text = { λ s. R.remaining s.reader };
 
     ghost given = { λ s. s.given.bytes };
 
@@ -65,7 +68,7 @@ impl<R: Read + Drop> Input for StdInput<R> {
     fn fetch(&mut self, bytes: &mut [u8]) -> Result<usize, Fault>
         requires { 0 < length bytes.old }
         ensures size { IfOk result (λ n. n ≤ length bytes.new) }
-        ensures text { Fetches None None result bytes.new }
+        ensures text { Fetches (R.remaining self.old.reader) (R.remaining self.new.reader) result bytes.new }
         ensures given { Gives self.old.given.bytes self.new.given.bytes result bytes.new }
         ensures last { self.new.last ≡ last_fetched result }
         ensures cause { HasCause self.old.faults self.new.faults result }
@@ -97,7 +100,9 @@ pub struct StdOutput<W: Write + Drop> {
 }
 
 impl<W: Write + Drop> StdOutput<W> {
+    /// The output of this writer.
     pub fn new(writer: W) -> Self
+        ensures writer { result.writer ≡ writer }
         ensures taken { result.taken.piece ≡ record { bytes = []; handles = [] } }
         ensures faults { result.faults ≡ 0 }
     {
@@ -110,23 +115,28 @@ impl<W: Write + Drop> StdOutput<W> {
 }
 
 impl<W: Write + Drop> Sink for StdOutput<W> {
+    ghost use Rattle.reis_run.specs.StdIo.{Wrote, wrote_none, wrote_on};
+
     ghost taken = { λ s. Some s.taken.piece };
 
     ghost faults = { λ s. s.faults };
 
     ghost wants = { λ _. 0 };
 
-    ghost later = { λ _ _. Unit {0} };
+    // the writer took what it took
+    ghost later = { λ x y. Wrote (W.contents x.writer) (W.contents y.writer) x.taken.piece y.taken.piece };
 
-    ghost later_refl = { λ _. tt };
+    ghost later_refl = { λ x. wrote_none (W.contents x.writer) x.taken.piece };
 
-    ghost later_trans = { λ _ _ _ _ _. tt };
+    ghost later_trans = { λ x y z a b. wrote_on (W.contents x.writer) (W.contents y.writer) (W.contents z.writer)
+        x.taken.piece y.taken.piece z.taken.piece a b };
 
     fn put(&mut self, bytes: &[u8], handles: &[Handle]) -> Result<usize, PutError>
         ensures size { IfOk result (λ n. IsPutSize n bytes.now) }
         ensures taken { Puts (Some self.old.taken.piece) (Some self.new.taken.piece) result bytes.now handles.now }
         ensures cause { HasPutCause self.old.faults self.new.faults result }
         ensures want { HasPutWant 0 0 result }
+        ensures later { Wrote (W.contents self.old.writer) (W.contents self.new.writer) self.old.taken.piece self.new.taken.piece }
         // beyond the trait's
         ensures counts { Counts result self.old.faults self.new.faults }
     {

@@ -3,16 +3,18 @@
 ghost use Rattle.std.specs.Prelude.{◌≡◌, ◌≤◌, IfSome};
 ghost use Rattle.std.specs.Char.{is_ascii_digit};
 ghost use Rattle.std.specs.List.{list_all};
+ghost use Rattle.ei_spec.specs.declared.limits.TheConstants.{ALL_CAPABILITIES};
 ghost use Rattle.reis_run.specs.Words.{is_plain, number_of};
 
+use ei_spec::limits::ALL_CAPABILITIES;
 use ei_wire::EiText;
 
 /// What is written where the words are refused.
 pub const USAGE: &str =
     "usage: reis serve <serial> <capabilities> <pieces> | trace <serial> <capabilities> <pieces> | demo <groups> <start>\n";
 
-/// The largest set of capabilities: seven bits.
-const CAPABILITIES: u32 = 127;
+/// The mask of all capabilities.
+const CAPABILITIES: u32 = ALL_CAPABILITIES as u32;
 
 /// The most groups of a generated stream.
 const GROUPS: u32 = 100_000;
@@ -65,7 +67,7 @@ impl Command {
     /// The command that the words are, exactly where they are one.
     pub(crate) fn from_words(words: &[EiText]) -> Option<Command>
         ensures command { result ≡ command_of words.now }
-        ensures within { IfSome result (λ command. capabilities_of command ≤ 127) }
+        ensures within { IfSome result (λ command. capabilities_of command ≤ ALL_CAPABILITIES) }
     {
         match words {
             [name, serial, capabilities, pieces] if name.as_str() == "serve" => {

@@ -1,6 +1,6 @@
 //! The replies that aren't taken yet.
 
-ghost use Rattle.std.specs.Prelude.{◌≡◌, ◌++◌, ◌≤◌, [], length, take, drop, Some, OnOk, OnErr, IfOk};
+ghost use Rattle.std.specs.Prelude.{◌≡◌, ◌++◌, ◌≤◌, ◌*◌, [], length, take, drop, vec_len, Some, OnOk, OnErr, IfOk};
 ghost use Rattle.ei_backend.specs.Outside.{HasPutCause, HasPutWant, IsPutSize, Puts, with_more};
 
 use ei_backend::{PutError, Sink};
@@ -8,7 +8,8 @@ use ei_spec::Handle;
 use std::alloc::{AllocError, Global};
 use std::marker::Model;
 
-/// A sink in memory: it keeps what it takes until that is dropped at the front.
+/// A sink in memory: it keeps what it takes until that is dropped at the front. Of what was dropped it keeps no more bytes
+/// than wait, and none where none wait.
 #[derive(Drop)]
 pub(crate) struct Replies {
     bytes: Vec<u8>,
@@ -18,14 +19,15 @@ pub(crate) struct Replies {
 }
 
 impl Model for Replies {
-    ghost use Rattle.std.specs.Prelude.{◌≤◌, drop, vec_len};
+    ghost use Rattle.std.specs.Prelude.{◌≤◌, ◌*◌, drop, vec_len};
     ghost use Rattle.ei_spec.specs.Piece.{Piece};
 
     ghost Value = { Piece };
 
     ghost view = { λ r. record { bytes = drop r.start r.bytes.items; handles = r.handles.items } };
 
-    ghost invariant = { λ r. r.start ≤ vec_len r.bytes };
+    // of the bytes that were dropped no more are kept than wait
+    ghost invariant = { λ r. 2 * r.start ≤ vec_len r.bytes };
 }
 
 impl Replies {
@@ -57,19 +59,22 @@ impl Replies {
         requires handles { handles ≤ length self.old.handles }
         ensures { self.new ≡ record { bytes = drop bytes self.old.bytes; handles = drop handles self.old.handles } }
     {
-        self.start += bytes;
+        self.start = let_go(&mut self.bytes, self.start + bytes);
         take_out_front(&mut self.handles, handles);
     }
+}
 
-    /// Lets go of the memory of what was dropped, where that is half of it or more.
-    fn tidy(&mut self)
-        ensures { self.new ≡ self.old }
-    {
-        if self.start >= self.bytes.len() - self.start {
-            take_out_front(&mut self.bytes, self.start);
-            self.start = 0;
-        }
+/// Takes out the bytes in front of `start` where they are half of all or more. It answers how many stay in front.
+fn let_go(bytes: &mut Vec<u8>, start: usize) -> usize
+    requires { start ≤ vec_len bytes.old }
+    ensures waiting { drop result bytes.new.items ≡ drop start bytes.old.items }
+    ensures few { 2 * result ≤ vec_len bytes.new }
+{
+    if start < bytes.len() - start {
+        return start;
     }
+    take_out_front(bytes, start);
+    0
 }
 
 /// Takes the first items out.
@@ -118,7 +123,6 @@ impl Sink for Replies {
     ghost later_trans = { λ _ _ _ _ _. tt };
 
     fn put(&mut self, bytes: &[u8], handles: &[Handle]) -> Result<usize, PutError> {
-        self.tidy();
         if extend_both(&mut self.bytes, &mut self.handles, bytes, handles).is_err() {
             return Err(PutError::NoMemory);
         }

@@ -208,7 +208,8 @@ impl Server {
         self.replies.handles()
     }
 
-    /// Says that so many of the bytes and handles that wait were written: the first ones, which wait no more.
+    /// Says that so many of the bytes and handles that wait were written: the first ones, which wait no more. Of the bytes that
+    /// were written no more are kept than wait.
     ///
     /// `NotUnsent` where so many don't wait.
     pub fn sent(&mut self, bytes: usize, handles: usize) -> Result<(), CallError>

@@ -6,7 +6,7 @@ use Rattle.std.specs.List.{filter_map}
 use Rattle.std.proofs.lemmas.Bool.Decides.{nat_tests}
 use Rattle.ei_spec.specs.declared.interface.KnownInterface.{KnownInterface}
 use Rattle.ei_spec.specs.declared.interface.KnownInterface.TheVariants as known
-use Rattle.ei_spec.specs.Interface.{name_of, known_of, the_twelve}
+use Rattle.ei_spec.specs.Interface.{name_of, known_of, the_settled}
 use Rattle.ei_spec.specs.Value.{Kind, Value, Word, Long, Letters}
 use Rattle.ei_spec.specs.Rows.{Row, Announces, Nothing, Fixed, Named, row_at, new_id, name_in}
 use Rattle.ei_spec.specs.Table.{table}
@@ -27,11 +27,15 @@ use Rattle.ei_session.specs.Events.{device_done_event, resumed_event, device_eve
 use Rattle.ei_session.specs.Events.{destroyed_event, destroyed_events, callback_events, reply_by, reply, replies}
 use Rattle.ei_session.specs.NextIds.{next_own}
 use Rattle.ei_session.specs.Told.{row_of, ReadsAs}
+use Rattle.ei_spec.proofs.NameLaws.{known_again}
+use Rattle.ei_spec.proofs.QuietRows.{announces_at, quiet_row}
+use Rattle.std.specs.Prelude.{not, ◌&&◌}
+use Rattle.std.specs.List.{list_all}
 use Rattle.ei_session.proofs.Choices.{some_is, none_some}
 use Rattle.ei_session.proofs.AllParts.{replies_more}
 use Rattle.ei_session.proofs.ObjectShape.{at_finish}
 use Rattle.ei_session.proofs.NextLaws.{own_first, own_finish, own_made, own_device, own_other}
-use Rattle.ei_session.proofs.EventRows.{known_again, connection_row, reads_connection, seat_row, reads_seat, device_row, reads_device, interface_row}
+use Rattle.ei_session.proofs.EventRows.{connection_row, reads_connection, seat_row, reads_seat, device_row, reads_device, interface_row}
 use Rattle.ei_session.proofs.EventRows.{reads_interface}
 use Rattle.ei_session.proofs.TellingReplies.{version_small}
 
@@ -105,16 +109,16 @@ plain_0 : (k : KnownInterface) → IsPlain (row_at 0 (table true k))
 plain_0 known.Pingpong = tt
 plain_0 k = refl
 
+is_plain : (k : KnownInterface) (n : ℕ) (o : Option Row) → announces_at true k n ≡ false → row_at n (table true k) ≡ o → IsPlain o
+is_plain k n None quiet e = tt
+is_plain k n (Some row) quiet e = quiet_row true k n row quiet e
+
+quiet_2 : (k : KnownInterface) → (k ≡ known.Handshake → ⊥) → announces_at true k 2 ≡ false
+quiet_2 known.Handshake plain = absurd (plain refl)
+quiet_2 k plain = refl
+
 plain_2 : (k : KnownInterface) → (k ≡ known.Handshake → ⊥) → IsPlain (row_at 2 (table true k))
-plain_2 known.Handshake plain = absurd (plain refl)
-plain_2 known.Connection plain = refl
-plain_2 known.Seat plain = refl
-plain_2 known.Device plain = refl
-plain_2 known.Scroll plain = refl
-plain_2 known.Keyboard plain = refl
-plain_2 known.Touchscreen plain = refl
-plain_2 known.Text plain = refl
-plain_2 k plain = tt
+plain_2 k plain = is_plain k 2 (row_at 2 (table true k)) (quiet_2 k plain) refl
 
 plain_6 : (k : KnownInterface) → IsPlain (row_at 6 (table true k))
 plain_6 known.Device = refl
@@ -226,7 +230,7 @@ settled_at n i (Some v) r e = subst (λ (x : Raw). Climbs n x n) (some_is (settl
 
 settled_climb : (n : ℕ) (before : List Raw) → AllClimb n (settled_events 0 (settled before)) n
 unfolding settled_events
-settled_climb n before = chosen_climb (λ i. option_map (settled_event 0 i) (settled before i)) n (λ i r e. settled_at n i (settled before i) r e) the_twelve
+settled_climb n before = chosen_climb (λ i. option_map (settled_event 0 i) (settled before i)) n (λ i r e. settled_at n i (settled before i) r e) the_settled
 
 capability_at : (n : ℕ) (b : Bool) (c : ℕ × KnownInterface) (r : Raw) → cond b (Some (capability_event seat_id c)) None ≡ Some r → Climbs n r n
 capability_at n true c r e = subst (λ (x : Raw). Climbs n x n) (some_is (capability_event seat_id c) r e) (third_opcode n (capability_event seat_id c) refl (omega arith))
@@ -268,9 +272,18 @@ masked mask (c ∷ cs) h = by (has_bit mask c.0) refl (masked mask cs h.1)
     by true e next = rw e (h.0, next)
     by false e next = rw e next
 
+both_so : (b rest : Bool) → (not b && rest) ≡ true → (b ≡ false) × (rest ≡ true)
+both_so false true e = (refl, refl)
+both_so false false e = absurd cc
+both_so true rest e = absurd cc
+
+no_handshakes : (cs : List (ℕ × KnownInterface)) → list_all (λ c. not (is_handshake c.1)) cs ≡ true → NoHandshakes cs
+no_handshakes [] e = tt
+no_handshakes (c ∷ cs) e = let h = both_so (is_handshake c.1) (list_all (λ (c : ℕ × KnownInterface). not (is_handshake c.1)) cs) e in (h.0, no_handshakes cs h.1)
+
 interfaces_no : (mask : ℕ) → NoHandshake (interfaces_of mask)
 unfolding interfaces_of
-interfaces_no mask = masked mask capabilities (refl, (refl, (refl, (refl, (refl, (refl, (refl, tt)))))))
+interfaces_no mask = masked mask capabilities (no_handshakes capabilities refl)
 
 parts_climb : (before : List Raw) (d : ℕ) (is : List KnownInterface) (start : ℕ) → start + length is ≤ 18446744073709551615 → NoHandshake is → AllClimb start (interface_events (version before) d start is) (start + length is)
 parts_climb before d [] start le plain = omega arith

@@ -36,6 +36,7 @@ use Rattle.reis_trace.specs.Traced.{event_line, client_with, lines_from, lines_r
 use Rattle.reis_trace.proofs.GoingOn.{message_read, gone_read}
 use Rattle.reis_trace.proofs.Climbing.{AllClimb, replies_climb}
 use Rattle.reis_trace.proofs.ClientTable.{Matches, Stands, first_stands, event_stands}
+use Rattle.ei_session.proofs.ReplyBytes.{longest_is}
 use Rattle.reis_trace.proofs.ShortReplies.{AllShort, all_short}
 
 -- ---- one event
@@ -188,7 +189,7 @@ all_traced (x ∷ xs) earlier from to t s climb readable short going =
     by (λ after stands now. all_traced xs (x ∷ earlier) climb.0 to after stands climb.2 readable.1 short.1 now) (told earlier x.id) refl
   where
     lawful : x.id < 2 ^ 64 → IsLawful x
-    lawful lt = record { id = lt; opcode = climb.1.opcode; size = omega (arith, short.0) }
+    lawful lt = record { id = lt; opcode = climb.1.opcode; size = omega (arith, short.0, longest_is) }
 
     by : ((after : TableView) → Stands after (x ∷ earlier) climb.0 → occurs is_done (x ∷ earlier) ≡ false → joined traced_line (onto xs (x ∷ earlier)) ≡ joined traced_line (x ∷ earlier) ++ lines_read after (all_bytes xs)) →
         (o : Option KnownInterface) → told earlier x.id ≡ o → joined traced_line (onto xs (x ∷ earlier)) ≡ joined traced_line earlier ++ lines_read t (bytes_of x ++ all_bytes xs)

@@ -23,7 +23,7 @@ pub(crate) fn answer(alloc: Global, call: &str) -> Result<String, Stop> {
         "capability" => capability(alloc, count(rest)?),
         "named" => Ok(format!(in alloc; "{:?}", DeviceCapability::from_interface_name(rest))?),
         "set" => set(alloc, rest.parse::<u64>()?),
-        "all" => all(alloc, seven()),
+        "all" => all(alloc, one_by_one()),
         _ => Err(Stop::Line),
     }
 }
@@ -79,8 +79,8 @@ fn set(alloc: Global, bits: u64) -> Result<String, Stop> {
     }
 }
 
-/// The set of all seven, put together one by one.
-fn seven() -> DeviceCapabilities {
+/// The set of all, put together one by one.
+fn one_by_one() -> DeviceCapabilities {
     let mut union = DeviceCapabilities::empty();
     for one in &DeviceCapability::ALL {
         if let Some(single) = DeviceCapabilities::from_bits(one.bit()) {

@@ -9,14 +9,14 @@ use test_table::{Stop, first};
 
 /// What a call answers:
 /// - `interface NAME`: the interface of that name, with its name;
-/// - `twelve PLACE`: the interface at that place of those that a handshake settles, and its version, twice;
+/// - `settled PLACE`: the interface at that place of those that a handshake settles, and its version, twice;
 /// - `requests NAME` and `events NAME`: the names of the messages to that interface, by opcode from 0 on;
 /// - `kept NAME NAME`: what the first is kept as, and whether the second is kept so too.
 pub(crate) fn answer(alloc: Global, call: &str) -> Result<String, Stop> {
     let (name, rest) = first(call);
     match name {
         "interface" => interface(alloc, rest),
-        "twelve" => twelve(alloc, count(rest)?),
+        "settled" => settled(alloc, count(rest)?),
         "requests" => Ok(messages(alloc, false, rest)?),
         "events" => Ok(messages(alloc, true, rest)?),
         "kept" => kept(alloc, rest),
@@ -32,13 +32,13 @@ fn interface(alloc: Global, name: &str) -> Result<String, Stop> {
     }
 }
 
-/// The interface at that place of the twelve, and its version, by its name and by itself.
-fn twelve(alloc: Global, place: usize) -> Result<String, Stop> {
-    if place >= 12 {
+/// The interface at that place of the settled ones, and its version, by its name and by itself.
+fn settled(alloc: Global, place: usize) -> Result<String, Stop> {
+    let (names, known) = (interfaces(), known_interfaces());
+    let (Some((name, version)), Some((known, of_known))) = (names.get(place), known.get(place))
+    else {
         return Err(Stop::Line);
-    }
-    let (name, version) = interfaces()[place];
-    let (known, of_known) = known_interfaces()[place];
+    };
     Ok(format!(in alloc; "{name} {version} {} {of_known}", known.name())?)
 }
 

@@ -4,8 +4,9 @@ use crate::end::{End, HALF, MINUS_ONE, ONE, Sends, Shown, TWO, send_by, send_to,
 use crate::proxies::shown;
 use ei_backend::{Interface, Kind, Object, PendingRequestResult};
 use ei_client::{
-    Button, Callback, Connection, Context, Device, Event, Handshake, Keyboard, Pingpong, Pointer,
-    PointerAbsolute, Proxy, Scroll, Seat, Text, Touchscreen, connection, device, handshake, seat,
+    Button, Callback, Connection, Context, Device, Event, Gesture, Handshake, Keyboard, Pingpong,
+    Pointer, PointerAbsolute, Proxy, Scroll, Seat, Text, Touchscreen, connection, device,
+    handshake, seat,
 };
 use ei_spec::KnownInterface;
 use ei_types::{ButtonState, ContextType, KeyState};
@@ -177,6 +178,17 @@ impl Sends<Context> for Text {
             0 => self.release(context),
             1 => self.keysym(context, 98, KeyState::Released),
             2 => self.utf8(context, "xé"),
+            _ => Ok(()),
+        }
+    }
+}
+
+impl Sends<Context> for Gesture {
+    fn send(&self, context: &mut Context, opcode: u32) -> Result<(), SendError> {
+        match opcode {
+            0 => self.release(context),
+            1 => self.swipe(context, 4, TWO, ONE),
+            2 => self.pinch(context, HALF),
             _ => Ok(()),
         }
     }

@@ -86,6 +86,7 @@ macro_rules! send_to {
             KnownInterface::Keyboard => send_by::<Keyboard, Context>($context, $opcode),
             KnownInterface::Touchscreen => send_by::<Touchscreen, Context>($context, $opcode),
             KnownInterface::Text => send_by::<Text, Context>($context, $opcode),
+            KnownInterface::Gesture => send_by::<Gesture, Context>($context, $opcode),
         }
     };
 }

@@ -1,4 +1,4 @@
-//! Both ends' messages: the table of the 84, read from the standard input, against what each end sends and reads;
+//! Both ends' messages: the table of all of them, read from the standard input, against what each end sends and reads;
 //! then both ends joined in memory. Nothing stands on this program: it holds tests alone.
 //!
 //! A line of the table is `event` or `request`, the bytes of the message in hexadecimal digits, and behind them what

@@ -56,6 +56,7 @@ pub(crate) fn proxy_text<E: End>(
         Some(KnownInterface::Keyboard) => end.text_of::<kinds::Keyboard>(alloc, object),
         Some(KnownInterface::Touchscreen) => end.text_of::<kinds::Touchscreen>(alloc, object),
         Some(KnownInterface::Text) => end.text_of::<kinds::Text>(alloc, object),
+        Some(KnownInterface::Gesture) => end.text_of::<kinds::Gesture>(alloc, object),
         None => Ok(None),
     }
 }

@@ -4,7 +4,7 @@ use crate::end::{End, HALF, MINUS_ONE, ONE, Sends, Shown, TWO, send_by, send_to,
 use crate::proxies::shown;
 use ei_backend::{Interface, Kind, Object, PendingRequestResult};
 use ei_server::{
-    Button, Callback, Connection, Context, Device, Handshake, Keyboard, Pingpong, Pointer,
+    Button, Callback, Connection, Context, Device, Gesture, Handshake, Keyboard, Pingpong, Pointer,
     PointerAbsolute, Proxy, Request, Scroll, Seat, Text, Touchscreen, connection,
 };
 use ei_spec::{Handle, KnownInterface};
@@ -193,6 +193,17 @@ impl Sends<Context> for Text {
             0 => self.destroyed(context, 27),
             1 => self.keysym(context, 97, KeyState::Press),
             2 => self.utf8(context, "é"),
+            _ => Ok(()),
+        }
+    }
+}
+
+impl Sends<Context> for Gesture {
+    fn send(&self, context: &mut Context, opcode: u32) -> Result<(), SendError> {
+        match opcode {
+            0 => self.destroyed(context, 30),
+            1 => self.swipe(context, 3, ONE, MINUS_ONE),
+            2 => self.pinch(context, TWO),
             _ => Ok(()),
         }
     }

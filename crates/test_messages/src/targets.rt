@@ -1,8 +1,10 @@
-//! The objects that the messages are to: one of each interface, at both ends under the same id.
+//! The objects that the messages are to: one of each interface, at both ends under the same id; and where the ids
+//! begin that messages announce.
 
 use crate::end::End;
 use ei_backend::{FIRST_SERVER_ID, HasBackend, Interface, InterfaceName};
 use ei_spec::KnownInterface;
+use ei_wire::SendError;
 use std::alloc::Global;
 use test_table::Stop;
 
@@ -15,7 +17,7 @@ pub(crate) struct Target {
 
 /// The object of each interface. The handshake is there from the first, in version 1; the callback is the client's,
 /// and the others are the server's. Their versions are none of the protocol, and all differ.
-const TARGETS: [Target; 13] = [
+const TARGETS: &[Target] = &[
     Target {
         interface: KnownInterface::Handshake,
         id: 0,
@@ -81,11 +83,20 @@ const TARGETS: [Target; 13] = [
         id: FIRST_SERVER_ID + 10,
         version: 22,
     },
+    Target {
+        interface: KnownInterface::Gesture,
+        id: FIRST_SERVER_ID + 11,
+        version: 23,
+    },
 ];
+
+/// The first id that a server's messages announce. It lies some ids behind the objects, so that one more of these
+/// moves no announced id.
+const FIRST_ANNOUNCED: u64 = FIRST_SERVER_ID + 16;
 
 /// All of them.
 pub(crate) fn targets() -> &'static [Target] {
-    &TARGETS
+    TARGETS
 }
 
 /// A fresh end with all of them.
@@ -96,7 +107,20 @@ pub(crate) fn with_targets<E: End>(alloc: Global) -> Result<E, Stop> {
             return Err(Stop::Call);
         }
     }
+    if !E::IS_CLIENT {
+        pass_ids(&mut end)?;
+    }
     Ok(end)
+}
+
+/// Uses up a server's own ids before the first that its messages announce.
+fn pass_ids<E: End>(end: &mut E) -> Result<(), SendError> {
+    let backend = end.backend_mut();
+    for id in backend.next_id()..FIRST_ANNOUNCED {
+        let _passed = backend.new_object(InterfaceName::Known(KnownInterface::Callback), 1)?;
+        backend.remove_id(id);
+    }
+    Ok(())
 }
 
 /// Puts the object into the table, as its own one or as the other end's, and says whether it is there.

@@ -5,7 +5,7 @@ use ei_backend::{HasBackend, Interface};
 use ei_request::{
     Connection, Device, DeviceEvent, DeviceInterface, EisRequest, EventTime, Seat, SeatEvent,
 };
-use ei_server::{Button, Keyboard, Pointer, PointerAbsolute, Scroll, Text, Touchscreen};
+use ei_server::{Button, Gesture, Keyboard, Pointer, PointerAbsolute, Scroll, Text, Touchscreen};
 use ei_types::DeviceCapability;
 use ei_wire::NoMemory;
 use std::alloc::{AllocError, Global};
@@ -66,6 +66,7 @@ pub(crate) fn device(world: &World, at: &str) -> Result<String, Stop> {
     push_interface::<Scroll>(&mut text, handle, device)?;
     push_interface::<Button>(&mut text, handle, device)?;
     push_interface::<Text>(&mut text, handle, device)?;
+    push_interface::<Gesture>(&mut text, handle, device)?;
     Ok(text)
 }
 
@@ -170,6 +171,8 @@ fn push_event(text: &mut String, request: &EisRequest) -> Result<(), AllocError>
         EisRequest::TouchCancel(event) => push_time(text, event),
         EisRequest::TextKeysym(event) => push_time(text, event),
         EisRequest::TextUtf8(event) => push_time(text, event),
+        EisRequest::GestureSwipe(event) => push_time(text, event),
+        EisRequest::GesturePinch(event) => push_time(text, event),
     }
 }
 

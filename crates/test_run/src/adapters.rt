@@ -5,12 +5,14 @@ use crate::texts::shown;
 use ei_backend::{Clock, Fault, Input, PutError, Sink};
 use reis_run::std_io::{StdClock, StdInput, StdOutput};
 use std::alloc::{AllocError, Global};
+use std::cell::Cell;
 use std::fmt::Write;
 use test_table::{Stop, number};
 
 /// `fetches COUNT`: what so many calls give, each with room for eight bytes.
 pub(crate) fn fetches(alloc: Global, row: &Row) -> Result<String, Stop> {
-    let mut input = StdInput::new(row.options.reader(row.options.cuts, &row.text)?);
+    let calls = Cell::new(0);
+    let mut input = StdInput::new(row.options.reader(row.options.cuts, &row.text, &calls)?);
     let mut said = String::new(alloc);
     for _ in 0..number(row.words)? {
         push_fetched(alloc, &mut said, &mut input)?;

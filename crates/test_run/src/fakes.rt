@@ -5,14 +5,15 @@ use std::io;
 use std::io::{Read, Write};
 use std::time::{self, Duration};
 
-/// A text that is read in cuts of at most so many bytes, or by lines. The call of a number fails, from 1.
+/// A text that is read in cuts of at most so many bytes, or by lines. The call of a number fails, from 1, and the next ones
+/// go on. The calls are counted.
 #[derive(Drop)]
 pub(crate) struct Reader<'a> {
     pub(crate) text: &'a [u8],
     pub(crate) most: usize,
     pub(crate) by_line: bool,
     pub(crate) fails_at: u32,
-    pub(crate) calls: u32,
+    pub(crate) calls: &'a Cell<u32>,
 }
 
 impl Reader<'_> {
@@ -30,8 +31,9 @@ impl Reader<'_> {
 
 impl Read for Reader<'_> {
     fn read(&mut self, buf: &mut [u8]) -> io::Result<usize> {
-        self.calls = self.calls.saturating_add(1);
-        if self.calls == self.fails_at {
+        let call = self.calls.get().saturating_add(1);
+        self.calls.set(call);
+        if call == self.fails_at {
             return Err(io::Error::from(io::ErrorKind::BrokenPipe));
         }
         let count = buf.len().min(self.reach());

@@ -95,8 +95,13 @@ impl<'a> Options<'a> {
         Ok(Readings::new(alloc, &readings)?)
     }
 
-    /// A reader of the text, in this cut.
-    pub(crate) fn reader<'b>(&self, cut: &str, text: &'b [u8]) -> Result<Reader<'b>, Stop> {
+    /// A reader of the text, in this cut, which counts its calls.
+    pub(crate) fn reader<'b>(
+        &self,
+        cut: &str,
+        text: &'b [u8],
+        calls: &'b Cell<u32>,
+    ) -> Result<Reader<'b>, Stop> {
         let most = match cut {
             "all" | "line" => usize::MAX,
             _ => count(cut)?,
@@ -106,7 +111,7 @@ impl<'a> Options<'a> {
             most,
             by_line: cut == "line",
             fails_at: self.fetch,
-            calls: 0,
+            calls,
         })
     }
 

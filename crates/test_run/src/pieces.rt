@@ -9,6 +9,7 @@ use ei_wire::NoMemory;
 use reis_lines::HexSource;
 use reis_run::std_io::StdInput;
 use std::alloc::Global;
+use std::cell::Cell;
 use test_table::{Stop, number};
 
 /// `pieces COUNT`: what so many calls of the source give, and its bad line, in each of the cuts.
@@ -28,7 +29,8 @@ pub(crate) fn pieces(alloc: Global, row: &Row) -> Result<String, Stop> {
 /// What so many calls give in this cut.
 fn pieces_in(alloc: Global, row: &Row, cut: &str, count: u32) -> Result<String, Stop> {
     if row.options.is_std {
-        let mut input = StdInput::new(row.options.reader(cut, &row.text)?);
+        let calls = Cell::new(0);
+        let mut input = StdInput::new(row.options.reader(cut, &row.text, &calls)?);
         Ok(taken(alloc, &mut input, count)?)
     } else {
         let mut input = row.options.memory_text(alloc, &row.text)?;

@@ -7,6 +7,7 @@ use ei_wire::EiText;
 use reis_run::run;
 use reis_run::std_io::{StdClock, StdInput, StdOutput};
 use std::alloc::{AllocError, Global};
+use std::cell::Cell;
 use test_table::Stop;
 
 /// A run's status, and what it wrote.
@@ -35,6 +36,18 @@ pub(crate) fn run_call(alloc: Global, row: &Row) -> Result<String, Stop> {
         said = text;
     }
     Ok(said)
+}
+
+/// `fetch-calls WORD ..`: the status, and how often the reader was asked.
+pub(crate) fn fetch_calls(alloc: Global, row: &Row) -> Result<String, Stop> {
+    let words = row.started_with(alloc)?;
+    let calls = Cell::new(0);
+    let ticks = row.options.ticks(alloc)?;
+    let reader = row.options.reader(row.options.cuts, &row.text, &calls)?;
+    let mut written = Vec::new(alloc);
+    let writer = row.options.writer(&mut written);
+    let status = status_over(alloc, &words, &mut StdInput::new(reader), writer, &ticks);
+    Ok(format!(in alloc; "{status} {}", calls.get())?)
 }
 
 /// The status and what was written, as text.
@@ -78,7 +91,8 @@ impl Trial<'_> {
     fn ran_over_std(&self, alloc: Global) -> Result<Ran, Stop> {
         let mut written = Vec::new(alloc);
         let ticks = self.options.ticks(alloc)?;
-        let mut input = StdInput::new(self.options.reader(self.cut, self.text)?);
+        let calls = Cell::new(0);
+        let mut input = StdInput::new(self.options.reader(self.cut, self.text, &calls)?);
         let writer = self.options.writer(&mut written);
         let status = status_over(alloc, self.words, &mut input, writer, &ticks);
         Ok(Ran { status, written })

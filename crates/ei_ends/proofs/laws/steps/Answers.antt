@@ -1,3 +1,4 @@
+use Rattle.ei_ends.proofs.Alike.{alike}
 use Rattle.ei_ends.proofs.JoinedSteps.{begins, turned, call, flush, handed_is, deliver, close, read_next, reads_nothing, reads_message, reads_gone, ring, room}
 use Rattle.ei_ends.proofs.laws.steps.Goals as goal
 
@@ -16,4 +17,5 @@ returns c = record {
   reads_gone = reads_gone;
   ring = ring;
   room = room;
+  alike = alike;
 }

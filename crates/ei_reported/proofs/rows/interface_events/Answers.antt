@@ -12,6 +12,7 @@ returns c = record {
   keyboard = λ id serial. refl;
   touchscreen = λ id serial. refl;
   text = λ id serial. refl;
+  gesture = λ id serial. refl;
   keymap = λ id type size h. refl;
   modifiers = λ id serial depressed locked latched layout. refl;
 }

@@ -11,4 +11,4 @@ resumed-requires c = record {
 }
 
 pub returns-clause-ok : goal.returns-clause-ok
-returns-clause-ok c = adds_resumed c.resumed.result _ _ _ _ _ _ (rw (← c.has_seat.ensures) c.if-not-has_seat.false) c.in_ok-device.ensures.ok c.in_ok-device.ensures.device c.resumed.ensures.ok
+returns-clause-ok c = adds_resumed c.resumed.result _ _ _ _ _ _ (rw (← c.has_seat.ensures) c.if-not-has_seat.false) c.in_ok-device.ensures.ok c.in_ok-device.ensures.device c.resumed.ensures.sends.ok

@@ -1,10 +1,10 @@
-use Rattle.ei_session.proofs.SettledMapLaws.{get_twelve, get_handshake, get_unknown, only_map, first_map, announced_map, handshake_map, unknown_map, other_map}
+use Rattle.ei_session.proofs.SettledMapLaws.{get_settled, get_handshake, get_unknown, only_map, first_map, announced_map, handshake_map, unknown_map, other_map}
 use Rattle.ei_session.proofs.SettledMapLaws.{connected_map}
 use Rattle.ei_session.proofs.versions.settled_versions.Goals as goal
 
 pub returns : goal.returns
 returns c = record {
-  settled = get_twelve;
+  settled = get_settled;
   handshake = get_handshake;
   unknown = get_unknown;
   only = only_map;

@@ -1,5 +1,6 @@
 use Rattle.std.proofs.Common.{refl}
-use Rattle.ei_spec.proofs.TableLaws.{interfaces, in_order, names_differ}
+use Rattle.ei_spec.proofs.EachInterface.{interfaces}
+use Rattle.ei_spec.proofs.TableLaws.{in_order, names_differ}
 use Rattle.ei_spec.proofs.RowNames.{row_of_name}
 use Rattle.ei_spec.proofs.RowHandles.{few_handles, new_or_handle}
 use Rattle.ei_spec.proofs.laws.all_messages.Goals as goal

@@ -1,10 +1,12 @@
 use Rattle.std.proofs.Common.{sym, ◌∙◌, subst}
 use Rattle.ei_serve.specs.Standing.{setup_of}
 use Rattle.reis_lines.proofs.TextBegins.{unread_text}
-use Rattle.reis_run.specs.Session.{end_of, EndsAs, IsDecidedLine}
+use Rattle.reis_run.specs.Session.{end_of, EndsAs, IsDecidedLine, TellsFault, TookLines, TookAllAs}
+use Rattle.reis_lines.specs.Given.{given_since}
+use Rattle.reis_lines.specs.Text.{pieces_of}
 use Rattle.reis_run.specs.declared.session.LastLine.{LastLine}
 use Rattle.reis_run.proofs.SessionLaws.{went, went_input, served, line_ends, line_handles, line_clock}
-use Rattle.reis_run.proofs.SessionLaws.{line_cut, line_fault, line_met, line_given, nothing_handled}
+use Rattle.reis_run.proofs.SessionLaws.{line_cut, line_took, line_fault, line_last, line_risen, line_met, line_given, given_none, nothing_handled}
 use Rattle.reis_run.proofs.session.serve_lines.Goals as goal
 
 pub returns-clause-ends : goal.returns-clause-ends
@@ -22,6 +24,7 @@ returns-clause-ends g c = λ text left is.
       replied = says.replies pieces rest are;
       clock = says.readings pieces rest are;
       handled = says.handled pieces rest are;
+      taken = says.taken pieces rest are;
       cut = says.cut_short pieces rest are;
     }) in
     subst (λ (l : LastLine). IsDecidedLine l → EndsAs (end_of (setup_of c.args.setup) text) l) (sym c.last_line.ensures)
@@ -42,6 +45,7 @@ returns-clause-requests g c = λ text left is d.
       replied = says.replies pieces rest are;
       clock = says.readings pieces rest are;
       handled = says.handled pieces rest are;
+      taken = says.taken pieces rest are;
       cut = says.cut_short pieces rest are;
     }) in
     (line_handles s c.bad_line-bad.result c.bad_line-bad.ensures (rw c.last_line.ensures at d)).0
@@ -61,6 +65,7 @@ returns-clause-replies g c = λ text left is d.
       replied = says.replies pieces rest are;
       clock = says.readings pieces rest are;
       handled = says.handled pieces rest are;
+      taken = says.taken pieces rest are;
       cut = says.cut_short pieces rest are;
     }) in
     (line_handles s c.bad_line-bad.result c.bad_line-bad.ensures (rw c.last_line.ensures at d)).1
@@ -80,6 +85,7 @@ returns-clause-readings g c = λ text left is d.
       replied = says.replies pieces rest are;
       clock = says.readings pieces rest are;
       handled = says.handled pieces rest are;
+      taken = says.taken pieces rest are;
       cut = says.cut_short pieces rest are;
     }) in
     line_clock s c.bad_line-bad.result (rw c.last_line.ensures at d)
@@ -99,6 +105,7 @@ returns-clause-cut_short g c = λ text left is d.
       replied = says.replies pieces rest are;
       clock = says.readings pieces rest are;
       handled = says.handled pieces rest are;
+      taken = says.taken pieces rest are;
       cut = says.cut_short pieces rest are;
     }) in
     line_cut s c.bad_line-bad.result (rw c.last_line.ensures at d)
@@ -118,9 +125,31 @@ returns-clause-given g c = λ text left is d.
       replied = says.replies pieces rest are;
       clock = says.readings pieces rest are;
       handled = says.handled pieces rest are;
+      taken = says.taken pieces rest are;
       cut = says.cut_short pieces rest are;
     }) in
     line_given s c.bad_line-bad.result c.bad_line-bad.ensures (sym c.last_line.ensures ∙ d)
+
+pub returns-clause-taken : goal.returns-clause-taken
+returns-clause-taken g c = λ text left is d.
+    let one_input = sym c.over-source.ensures.same_reference ∙ c.serve-answer.ensures.source.later_source.same_reference ∙ sym c.close-input.ensures.same_reference in
+    let w =
+    went g.I.Input.text g.I.Input.given g.I.Input.last g.I.Input.faults g.I.Input.later _ c.input-1.given.0 c.over-source.result c.serve-answer.new.source c.serve-answer.result
+    c.over-source.ensures.fresh c.over-source.ensures.unasked c.serve-answer.ensures.source (c.input-1.given.1 one_input ∙ c.close-input.ensures.same) in
+    let says = c.serve-answer.ensures in
+    let s =
+    served g.I.Input.text g.I.Input.given g.I.Input.last g.I.Input.faults g.I.Input.later _ _ c.over-source.result c.serve-answer.new.source (setup_of c.args.setup) text left _ _ c.serve-answer.result _ _ _ _ c.over-source.ensures.fresh w is
+    (λ pieces rest are. record {
+      answers = says.answer pieces rest are;
+      gives = says.requests pieces rest are;
+      replied = says.replies pieces rest are;
+      clock = says.readings pieces rest are;
+      handled = says.handled pieces rest are;
+      taken = says.taken pieces rest are;
+      cut = says.cut_short pieces rest are;
+    }) in
+    subst (λ (l : LastLine). TookLines text (given_since g.I.Input.given c.args.input.now c.input-1.given.0) left (TookAllAs (setup_of c.args.setup) (pieces_of text) l)) (sym c.last_line.ensures)
+    (line_took s c.bad_line-bad.result c.bad_line-bad.ensures (rw c.last_line.ensures at d))
 
 pub returns-clause-fault : goal.returns-clause-fault
 returns-clause-fault g c = λ d.
@@ -129,6 +158,22 @@ returns-clause-fault g c = λ d.
     went g.I.Input.text g.I.Input.given g.I.Input.last g.I.Input.faults g.I.Input.later _ c.input-1.given.0 c.over-source.result c.serve-answer.new.source c.serve-answer.result
     c.over-source.ensures.fresh c.over-source.ensures.unasked c.serve-answer.ensures.source (c.input-1.given.1 one_input ∙ c.close-input.ensures.same) in
     line_fault w c.bad_line-bad.result c.bad_line-bad.ensures (sym c.last_line.ensures ∙ d)
+
+pub returns-clause-fault_last : goal.returns-clause-fault_last
+returns-clause-fault_last g c = λ d.
+    let one_input = sym c.over-source.ensures.same_reference ∙ c.serve-answer.ensures.source.later_source.same_reference ∙ sym c.close-input.ensures.same_reference in
+    let w =
+    went g.I.Input.text g.I.Input.given g.I.Input.last g.I.Input.faults g.I.Input.later _ c.input-1.given.0 c.over-source.result c.serve-answer.new.source c.serve-answer.result
+    c.over-source.ensures.fresh c.over-source.ensures.unasked c.serve-answer.ensures.source (c.input-1.given.1 one_input ∙ c.close-input.ensures.same) in
+    line_last w c.bad_line-bad.result c.bad_line-bad.ensures (sym c.last_line.ensures ∙ d)
+
+pub returns-clause-risen : goal.returns-clause-risen
+returns-clause-risen g c = λ d.
+    let one_input = sym c.over-source.ensures.same_reference ∙ c.serve-answer.ensures.source.later_source.same_reference ∙ sym c.close-input.ensures.same_reference in
+    let w =
+    went g.I.Input.text g.I.Input.given g.I.Input.last g.I.Input.faults g.I.Input.later _ c.input-1.given.0 c.over-source.result c.serve-answer.new.source c.serve-answer.result
+    c.over-source.ensures.fresh c.over-source.ensures.unasked c.serve-answer.ensures.source (c.input-1.given.1 one_input ∙ c.close-input.ensures.same) in
+    subst TellsFault (sym c.last_line.ensures) (line_risen w c.bad_line-bad.result c.bad_line-bad.ensures d)
 
 pub returns-clause-bad_line : goal.returns-clause-bad_line
 returns-clause-bad_line g c = λ n d.
@@ -147,4 +192,5 @@ returns-clause-input g c =
     went_input w
 
 pub returns-in-Err-clause-cut_short : goal.returns-in-Err-clause-cut_short
-returns-in-Err-clause-cut_short g c = λ text left is e. nothing_handled _ text left _ _ _ (unread_text g.I.Input.text g.I.Input.given g.I.Input.last _ text left is)
+returns-in-Err-clause-cut_short g c = λ text left is e.
+    nothing_handled _ text _ left _ _ _ (given_none g.I.Input.given _) (unread_text g.I.Input.text g.I.Input.given g.I.Input.last _ text left is)

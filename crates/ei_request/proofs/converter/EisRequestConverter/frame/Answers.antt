@@ -1,4 +1,4 @@
-use Rattle.std.proofs.Common.{◌≡◌, ℕ, List, ◌++◌, Option, Some, None, refl, ap, ◌∙◌, subst}
+use Rattle.std.proofs.Common.{◌≡◌, ℕ, List, ◌++◌, Option, Some, None, refl, ap, ◌∙◌}
 use Rattle.std.proofs.lemmas.List.{append-nil}
 use Rattle.ei_request.specs.declared.event.EisRequest.{EisRequest}
 use Rattle.ei_request.specs.Held.{DeviceView, is_device, emptied, group_of}
@@ -19,7 +19,4 @@ handed_out old id serial time (Some d) handle queue found h q = rw (h, q) refl
 pub returns-clause-ok : goal.returns-clause-ok
 returns-clause-ok c =
     let view : ConverterView = record { handle = c.self.inside.handle; queue = c.self.inside.queue.items } in
-    let queue : c.hand_out.new.queue.items ≡ view.queue ++ group_of (device_in view c.args.id) c.args.serial c.args.time =
-    c.hand_out.ensures.queue ∙ ap (λ (q : List EisRequest). q ++ group_of (device_in view c.args.id) c.args.serial c.args.time) c.reserve_group.ensures.items in
-    subst (λ (old : ConverterView). ◌≡◌ {A = ConverterView} (record { handle = c.hand_out.new.self; queue = c.hand_out.new.queue.items }) (hands_out old c.args.id c.args.serial c.args.time (device_in old c.args.id))) c.self.view_is
-    (handed_out view c.args.id c.args.serial c.args.time (device_in view c.args.id) c.hand_out.new.self c.hand_out.new.queue.items refl c.hand_out.ensures.ok queue)
+    rw (← c.self.view_is) (handed_out view c.args.id c.args.serial c.args.time (device_in view c.args.id) c.frame.new.self c.frame.new.queue.items refl c.in_ok-frame.ensures.ok c.in_ok-frame.ensures.queue)

@@ -2,20 +2,20 @@ use Rattle.std.proofs.Common.{◌≡◌, ℕ, Bool, true, false, cond, List, [],
 use Rattle.std.specs.Prelude.{OnOk, if◌then◌else◌}
 use Rattle.std.specs.List.{list_any}
 use Rattle.ei_request.specs.declared.input_error.InputError.{InputError}
-use Rattle.ei_input.specs.declared.input_event.InputEvent.{InputEvent as Input}
+use Rattle.ei_input.specs.declared.input_event.InputEvent.{InputEvent}
 use Rattle.ei_input.specs.declared.input_event.InputEvent.TheVariants as input
 use Rattle.ei_request.specs.Held.{DeviceView, has_touch, with_input, without_touch, without_first}
 use Rattle.ei_request.proofs.FirstOnes.{without_any}
 use Rattle.ei_request.proofs.held.HeldDevice.take.Goals as goal
 
 -- a touch that ends, where it is down or not
-lifted_at : (touch : ℕ) (i : Input) (d : DeviceView) (touches : List ℕ) (waiting : List Input) (down : Bool) → list_any (nat_eq touch) d.touches ≡ down →
+lifted_at : (touch : ℕ) (i : InputEvent) (d : DeviceView) (touches : List ℕ) (waiting : List InputEvent) (down : Bool) → list_any (nat_eq touch) d.touches ≡ down →
     touches ≡ without_first (nat_eq touch) d.touches → waiting ≡ cond down (d.waiting ++ i ∷ []) d.waiting →
     record d { waiting = waiting; touches = touches } ≡ cond down (with_input i (without_touch touch d)) d
 lifted_at touch i d touches waiting true e t w = rw (t, w) refl
 lifted_at touch i d touches waiting false e t w = rw (t, w, without_any (nat_eq touch) d.touches e) refl
 
-lifted : (result : Result (Unit {0}) InputError) (touch : ℕ) (i : Input) (d : DeviceView) (touches : List ℕ) (waiting : List Input) →
+lifted : (result : Result (Unit {0}) InputError) (touch : ℕ) (i : InputEvent) (d : DeviceView) (touches : List ℕ) (waiting : List InputEvent) →
     OnOk result (touches ≡ without_first (nat_eq touch) d.touches) →
     OnOk result (waiting ≡ (if list_any (nat_eq touch) d.touches then d.waiting ++ i ∷ [] else d.waiting)) →
     OnOk result (record d { waiting = waiting; touches = touches } ≡ (if has_touch touch d then with_input i (without_touch touch d) else d))

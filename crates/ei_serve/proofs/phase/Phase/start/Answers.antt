@@ -12,7 +12,7 @@ new-requires-2 g c = handshake_there _ c.in_ok-context.ensures
 pub returns-in_err-flush-clause-greeted_in_part : goal.returns-in_err-flush-clause-greeted_in_part
 returns-in_err-flush-clause-greeted_in_part g c = on_err c.from_residual-in_err-flush.result ((held : Piece) → g.K.Sink.taken c.args.sink.now ≡ Some held → GreetedInPart held (g.K.Sink.taken c.flush.new.sink)) (λ held told.
     let x = c.in_err-flush.ensures.took held told in
-    greeted_in_part held _ _ (greets _ _ c.in_ok-context.ensures c.in_ok-handshaker.ensures.greets) (x.0, x.1, x.2))
+    greeted_in_part held _ _ (greets _ _ c.in_ok-context.ensures c.in_ok-handshaker.ensures.greets) (x.0, omega (arith, x.1), x.2))
 
 pub returns-clause-greeted : goal.returns-clause-greeted
 returns-clause-greeted g c = λ held told. greeted held _ _ (greets _ _ c.in_ok-context.ensures c.in_ok-handshaker.ensures.greets) (c.in_ok-flush.ensures.took held told)

@@ -3,7 +3,7 @@ use Rattle.std.proofs.lemmas.List.{append-nil, length-take-le}
 use Rattle.std.specs.Prelude.{is_some}
 use Rattle.reis_lines.specs.LaterReadings.{LaterLines-none, left_all}
 use Rattle.reis_lines.proofs.SourceLaws.{some_not_none, none_if_not_some, not_both, first_of, line_is, removed_is, no_line, handed_out, hands_line}
-use Rattle.reis_lines.proofs.SourceLaws.{ends_here, holds_end, holds_bad, left_behind, unmet_later}
+use Rattle.reis_lines.proofs.SourceLaws.{ends_here, holds_end, holds_bad, left_behind, removed_fits, unmet_later}
 use Rattle.reis_lines.proofs.hex_source.HexSource.next_piece.Goals as goal
 
 pub returns-then-is_some-clause-later : goal.returns-then-is_some-clause-later
@@ -26,6 +26,7 @@ returns-then-is_some-clause-later g c =
       met = λ none. absurd (some_not_none _ some none);
       holds = λ none. absurd (some_not_none _ some none);
       bad_count = omega (arith, c.saturating_add-self.ensures);
+      fits = λ few. few;
     }
 
 pub returns-in_err-found-clause-later : goal.returns-in_err-found-clause-later
@@ -45,6 +46,7 @@ returns-in_err-found-clause-later g c =
       told = is.told;
       asked = is.asked;
       ended = is.behind_end;
+      fits = is.fits;
     })
 
 pub returns-then-count-eq0-clause-later : goal.returns-then-count-eq0-clause-later
@@ -64,6 +66,7 @@ returns-then-count-eq0-clause-later g c =
       told = is.told;
       asked = is.asked;
       ended = is.behind_end;
+      fits = is.fits;
     })
 
 pub returns-then-count-eq0-clause-pieces : goal.returns-then-count-eq0-clause-pieces
@@ -112,6 +115,7 @@ returns-in-Some-clause-later g c =
       told = is.told;
       asked = is.asked;
       ended = is.behind_end;
+      fits = removed_fits _ _ _ found (removed_is found _ _ _ _ c.line_extent-count.ensures.skip c.bytes-line.ensures c.remove.ensures) is.fits;
     })
 
 pub returns-in-None-clause-later : goal.returns-in-None-clause-later
@@ -145,4 +149,5 @@ returns-in-None-clause-later g c =
       holds = λ none n was. holds_bad found _ _ _ _ _ n is.place (λ e less. is.ends (ap (λ o. Ok o) e) less) line c.in-None.ensures.spells some
           (omega (arith, c.saturating_add.ensures)) was;
       bad_count = omega (arith, c.saturating_add-self-in-None.ensures, is.same_faults);
+      fits = λ few. is.fits;
     }
