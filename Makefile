@@ -49,6 +49,12 @@ $(ARCHIVE):
 $(OUT)/%.o: border/%.c border/exports.h include/reis.h include/reis_heap.h | $(OUT)
 	$(COMPILE) -c $< -o $@
 
+$(OUT)/names.c: border/names include/reis.h | $(OUT)
+	border/names <include/reis.h >$@
+
+$(OUT)/names.o: $(OUT)/names.c
+	$(COMPILE) -c $< -o $@
+
 # The names that a program may use; the others are made local.
 $(OUT)/public: border/reis.map | $(OUT)
 	sed -n 's/^    \(reis_[a-z_]*\);$$/\1/p' $< >$@

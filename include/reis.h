@@ -123,7 +123,8 @@ typedef REIS_ENUM(reis_capability) {
     REIS_CAPABILITY_SCROLL = 16,
     REIS_CAPABILITY_BUTTON = 32,
     REIS_CAPABILITY_TEXT = 64,
-    REIS_ALL_CAPABILITIES = 127
+    REIS_CAPABILITY_GESTURE = 128,
+    REIS_ALL_CAPABILITIES = 255
 } reis_capability;
 
 /* What a client is: it takes input events, or it sends them. The requests with a time are those of a sender. */
@@ -206,7 +207,9 @@ typedef REIS_ENUM(reis_kind) {
     REIS_KIND_TOUCH_UP = 19,                /* touch_up: it ended */
     REIS_KIND_TOUCH_CANCEL = 20,            /* touch_cancel: it ended and is not to count */
     REIS_KIND_TEXT_KEYSYM = 21,             /* text_keysym */
-    REIS_KIND_TEXT_UTF8 = 22                /* text_utf8: see reis_session_request_text */
+    REIS_KIND_TEXT_UTF8 = 22,               /* text_utf8: see reis_session_request_text */
+    REIS_KIND_GESTURE_SWIPE = 23,           /* gesture_swipe: fingers moved together */
+    REIS_KIND_GESTURE_PINCH = 24            /* gesture_pinch: fingers moved apart or together */
 } reis_kind;
 
 /* The views of the fields. A state is 1 where it goes down and 0 where it goes up. */
@@ -259,6 +262,14 @@ struct reis_keysym { /* a keysym, by its number in XKB */
 struct reis_text { /* in bytes, 1 to REIS_MOST_TEXT */
     REIS_FIELD uint64_t length;
 };
+struct reis_swipe { /* how many fingers, and a distance in logical pixels */
+    REIS_FIELD uint32_t fingers;
+    REIS_FIELD float dx;
+    REIS_FIELD float dy;
+};
+struct reis_pinch { /* how far apart the fingers are, against where they began */
+    REIS_FIELD float scale;
+};
 
 /* What a client asks for. `seat` and `device` are ids, told apart by their numbers; 0 where the kind has none. `time` is in
  * microseconds, as the client sent it in its frame; 0 where the kind has none. The fields stand in the order of the view, and
@@ -289,6 +300,8 @@ typedef struct reis_request {
         struct reis_touch_end touch_cancel;
         struct reis_keysym text_keysym;
         struct reis_text text_utf8;
+        struct reis_swipe gesture_swipe;
+        struct reis_pinch gesture_pinch;
     };
 } reis_request;
 

@@ -134,12 +134,12 @@ static void test_null(const struct worked *leaves) {
 static void test_start(const struct worked *leaves) {
     reis_session session = {0};
     checking("start", 0, 0);
-    CHECK(reis_session_start(&session, 5, 128, 200) == REIS_CAPABILITIES && session.at == NULL);
+    CHECK(reis_session_start(&session, 5, REIS_ALL_CAPABILITIES + 1, 200) == REIS_CAPABILITIES && session.at == NULL);
     CHECK(reis_session_start(&session, 5, UINT64_MAX, 200) == REIS_CAPABILITIES && session.at == NULL);
     CHECK(reis_session_start(&session, 5, REIS_CAPABILITY_BUTTON, 200) == REIS_OK);
     uint8_t *at = session.at;
     CHECK(reis_session_start(&session, 6, REIS_CAPABILITY_BUTTON, 200) == REIS_HAS_SESSION && session.at == at);
-    CHECK(reis_session_start(&session, 6, 128, 200) == REIS_HAS_SESSION && session.at == at);
+    CHECK(reis_session_start(&session, 6, REIS_ALL_CAPABILITIES + 1, 200) == REIS_HAS_SESSION && session.at == at);
     CHECK(feed(&session, leaves->client, HANDSHAKE) == REIS_OK);
     CHECK(waiting(&session) == WELCOME);
     CHECK(reis_session_free(&session) == REIS_OK);

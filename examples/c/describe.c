@@ -33,6 +33,8 @@ static const struct field kinds[][3] = {
     [REIS_KIND_TOUCH_CANCEL] = {{"touch", NUMBER}},
     [REIS_KIND_TEXT_KEYSYM] = {{"keysym", NUMBER}, {"state", STATE}},
     [REIS_KIND_TEXT_UTF8] = {{"text", TEXT}},
+    [REIS_KIND_GESTURE_SWIPE] = {{"fingers", NUMBER}, {"dx", DISTANCE}, {"dy", DISTANCE}},
+    [REIS_KIND_GESTURE_PINCH] = {{"scale", DISTANCE}},
 };
 
 struct line {

@@ -67,6 +67,10 @@ int fields_in_view(const reis_request *request) {
         return all(2, is(f[0], r.text_keysym.keysym) && is(f[1], r.text_keysym.state));
     case REIS_KIND_TEXT_UTF8:
         return all(1, is(f[0], r.text_utf8.length));
+    case REIS_KIND_GESTURE_SWIPE:
+        return all(3, is(f[0], r.gesture_swipe.fingers) && is_float(f[1], r.gesture_swipe.dx) && is_float(f[2], r.gesture_swipe.dy));
+    case REIS_KIND_GESTURE_PINCH:
+        return all(1, is_float(f[0], r.gesture_pinch.scale));
     }
     return 0;
 }

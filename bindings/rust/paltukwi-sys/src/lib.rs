@@ -13,13 +13,11 @@
 
 mod answers;
 mod ends;
-mod kinds;
 mod numbers;
 mod request;
 
 pub use answers::*;
 pub use ends::*;
-pub use kinds::*;
 pub use numbers::*;
 pub use request::*;
 

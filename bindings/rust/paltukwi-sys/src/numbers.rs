@@ -36,8 +36,10 @@ pub const REIS_CAPABILITY_SCROLL: u64 = 16;
 pub const REIS_CAPABILITY_BUTTON: u64 = 32;
 /// Texts and keysyms.
 pub const REIS_CAPABILITY_TEXT: u64 = 64;
-/// All seven.
-pub const REIS_ALL_CAPABILITIES: u64 = 127;
+/// Gestures.
+pub const REIS_CAPABILITY_GESTURE: u64 = 128;
+/// All of them.
+pub const REIS_ALL_CAPABILITIES: u64 = 255;
 
 /// What a client is: one of the numbers below, or one that is to come.
 #[repr(transparent)]

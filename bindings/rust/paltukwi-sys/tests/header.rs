@@ -129,7 +129,7 @@ fn each_view_is_that_of_the_header() {
         assert_eq!(fields(&sources, &format!("pub struct {name} "), of_source), wanted, "{name}");
         views += 1;
     }
-    assert_eq!(views, 13);
+    assert_eq!(views, 15);
 
     let of_union = |line: &str| {
         let line = line.strip_prefix("struct ")?.strip_suffix(';')?;
@@ -141,7 +141,7 @@ fn each_view_is_that_of_the_header() {
         Some(format!("reis_{declared} {name}"))
     };
     let wanted = fields(&header, "uint64_t time;\n    union", of_union);
-    assert_eq!(wanted.len(), 19, "{wanted:?}");
+    assert_eq!(wanted.len(), 21, "{wanted:?}");
     assert_eq!(fields(&sources, "pub union reis_fields ", of_source), wanted);
 }
 

@@ -27,7 +27,9 @@ impl Capabilities {
     pub const BUTTON: Capabilities = Capabilities(paltukwi_sys::REIS_CAPABILITY_BUTTON);
     /// Texts and keysyms.
     pub const TEXT: Capabilities = Capabilities(paltukwi_sys::REIS_CAPABILITY_TEXT);
-    /// All seven.
+    /// Gestures of several fingers.
+    pub const GESTURE: Capabilities = Capabilities(paltukwi_sys::REIS_CAPABILITY_GESTURE);
+    /// All of them.
     pub const ALL: Capabilities = Capabilities(paltukwi_sys::REIS_ALL_CAPABILITIES);
 
     /// The set of these bits.

@@ -39,8 +39,6 @@ pub use clock::now;
 mod connection;
 pub use connection::Connection;
 
-mod describe;
-
 mod end;
 pub use end::{End, SessionError};
 
@@ -54,8 +52,6 @@ mod listener;
 pub use listener::{BindError, Listener, MOST_NAMES};
 
 mod path;
-
-mod raw;
 
 mod request;
 pub use request::{DeviceId, Request, SeatId};

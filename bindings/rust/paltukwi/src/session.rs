@@ -1,7 +1,7 @@
 //! A session with one client, without its socket.
 
 use crate::errors::{FeedError, NotUnsent, StartError};
-use crate::{raw, Capabilities, Client, ContextType, End, Request, SessionError};
+use crate::{Capabilities, Client, ContextType, End, Request, SessionError};
 use paltukwi_sys as sys;
 use std::ptr::null;
 use std::slice;
@@ -155,7 +155,7 @@ impl Session {
         let mut written = sys::reis_request::none();
         // SAFETY: the word is a session's, and the request is borrowed alone.
         match unsafe { sys::reis_session_next_request(&mut self.raw, &mut written) } {
-            sys::REIS_OK => Some(raw::request(&written, || self.request_text())),
+            sys::REIS_OK => Some(Request::of(&written, || self.request_text())),
             _ => None,
         }
     }

@@ -20,7 +20,7 @@ fn requests_of(worked: &Worked) -> Vec<Request> {
 fn the_whole_session() {
     let (seat, device) = (SEAT, DEVICE);
     let wanted = [
-        Request::Bind { seat, capabilities: Capabilities::ALL },
+        Request::Bind { seat, capabilities: Capabilities::from_bits(127) },
         Request::StartEmulating { seat, device, serial: 2, sequence: 1 },
         Request::Key { seat, device, time: 1000, key: 30, pressed: true },
         Request::Frame { seat, device, time: 1000, serial: 2 },
@@ -40,7 +40,7 @@ fn every_other_input() {
     let (x, y) = (1.0, -1.0);
     let text = "\u{e9}".to_string();
     let wanted = [
-        Request::Bind { seat, capabilities: Capabilities::ALL },
+        Request::Bind { seat, capabilities: Capabilities::from_bits(127) },
         Request::RequestDevice { seat, capabilities: Capabilities::NONE },
         Request::PointerMotionAbsolute { seat, device, time, x, y },
         Request::ScrollDelta { seat, device, time, dx: 1.0, dy: -1.0 },
@@ -61,11 +61,24 @@ fn every_other_input() {
 }
 
 #[test]
+fn gestures() {
+    let (seat, device, time) = (SEAT, DEVICE, 9);
+    let wanted = [
+        Request::Bind { seat, capabilities: Capabilities::GESTURE },
+        Request::GestureSwipe { seat, device, time, fingers: 3, dx: 1.0, dy: -2.0 },
+        Request::GesturePinch { seat, device, time, scale: 0.5 },
+        Request::Frame { seat, device, time, serial: 6 },
+        Request::Disconnect,
+    ];
+    assert_eq!(requests_of(&worked("gestures")), wanted);
+}
+
+#[test]
 fn every_kind_stands_in_a_worked_session() {
     let sessions = all_worked();
     let requests: Vec<Request> = sessions.iter().flat_map(requests_of).collect();
     let names: BTreeSet<&str> = requests.iter().map(Request::name).collect();
-    assert_eq!(names.len(), 22, "{names:?}");
+    assert_eq!(names.len(), 24, "{names:?}");
     for request in &requests {
         let is_of_client = matches!(request, Request::Disconnect);
         assert_eq!(request.seat().is_none(), is_of_client, "{request}");

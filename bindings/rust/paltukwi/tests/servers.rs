@@ -79,6 +79,7 @@ fn serves(serial: &str, capabilities: &str, names: &[&str]) {
 fn the_server_serves_one_after_another() {
     serves("5", "32", &["leaves", "buttons", "refused", "unreadable"]);
     serves("1", "127", &["whole", "inputs"]);
+    serves("5", "128", &["gestures"]);
 }
 
 #[test]
