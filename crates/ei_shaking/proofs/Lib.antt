@@ -1,0 +1,9 @@
+mod AllOpen
+mod Ontos
+mod UpTo
+mod Collecting
+mod Accepting
+mod Raws
+mod MaySend
+mod BothEnds
+mod GoingOn

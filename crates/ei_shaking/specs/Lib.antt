@@ -1,0 +1,4 @@
+pub mod Messages
+pub mod Sending
+pub mod Heard
+pub mod Both
