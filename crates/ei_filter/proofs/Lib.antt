@@ -1,0 +1,2 @@
+pub mod TouchesBefore
+pub mod SiftedRight

@@ -1,0 +1,17 @@
+pub mod Lists
+pub mod Projects
+pub mod Touching
+pub mod Masks
+pub mod Ids
+pub mod NextIds
+pub mod Ends
+pub mod Heard
+pub mod Puts
+pub mod Parts
+pub mod MaskOf
+pub mod Owned
+pub mod Capable
+pub mod Suits
+pub mod Comes
+pub mod Alive
+pub mod Law
