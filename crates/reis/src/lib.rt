@@ -11,6 +11,7 @@ pub mod event;
 pub mod handshake;
 pub mod hub;
 pub mod outside;
+pub mod replay;
 pub mod request;
 pub mod serve;
 pub mod wire;

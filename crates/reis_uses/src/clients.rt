@@ -1,6 +1,7 @@
 //! A server of several clients in one loop.
 
 use crate::outside::{Inbox, Outbox};
+use crate::record::show_record;
 use crate::stop::Stop;
 use ei_backend::Readings;
 use ei_hub::Hub;
@@ -21,7 +22,7 @@ pub(crate) fn serve_clients<R: Print + AllocGlobal>(rt: &R, stream: &[u8]) -> Re
     join(rt, &mut hub, stream)?;
     join(rt, &mut hub, &[])?;
     hub.serve_all(&mut clock);
-    show_clients(rt, &hub)
+    show_clients(rt, &hub, &setup)
 }
 
 /// A client of this stream joins.
@@ -36,14 +37,19 @@ fn join<'a, R: Print + AllocGlobal>(
     Ok(())
 }
 
-/// Shows how much each client asked for, and what its source has left.
-fn show_clients<R: Print>(rt: &R, hub: &Hub<Inbox<'_>, Outbox>) -> Result<(), Stop> {
+/// Shows how much each client asked for, what its source has left, and whether what it asked for can be played back.
+fn show_clients<R: Print + AllocGlobal>(
+    rt: &R,
+    hub: &Hub<Inbox<'_>, Outbox>,
+    setup: &Setup,
+) -> Result<(), Stop> {
     for client in 0..hub.count() {
         println!(rt;
             "client {client} asked for {} things, and has {} bytes left",
             hub.requests(client).len(),
             hub.source(client).left()
         )?;
+        show_record(rt, setup, hub.requests(client))?;
     }
     Ok(())
 }

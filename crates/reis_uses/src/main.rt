@@ -1,13 +1,14 @@
-//! Callers: a server's loop over `Session`, a client by its proxies, and several clients in one loop. Nothing stands on this
-//! program.
+//! Callers: a server's loop over `Session`, a client by its proxies, several clients in one loop, and a record that is tested.
+//! Nothing stands on this program.
 //!
 //! The client shakes hands and leaves, the server serves it, and the client reads what the server replied. All of it
-//! stands in memory. Begin with `server`, `client` and `clients`; `outside` has a source and a sink.
+//! stands in memory. Begin with `server`, `client`, `clients` and `record`; `outside` has a source and a sink.
 #![tactic(auto)]
 
 mod client;
 mod clients;
 mod outside;
+mod record;
 mod server;
 mod stop;
 
