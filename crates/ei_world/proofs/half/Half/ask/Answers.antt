@@ -1,0 +1,35 @@
+use Rattle.std.proofs.Common.{◌≡◌, ℕ, ◌<◌, ◌^◌, ap, sym, subst, ◌∙◌}
+use Rattle.ei_ends.specs.Sent.{new_of}
+use Rattle.ei_world.specs.declared.record.Record.{Record}
+use Rattle.ei_world.specs.Stored.{StoredEnd, sent_view}
+use Rattle.ei_world.specs.Asked.{asked, IsNext}
+use Rattle.ei_world.proofs.Sending.{asked_next, asked_sendable, same_sends, on_ok}
+use Rattle.ei_world.proofs.half.Half.ask.Goals as goal
+
+pub send-requires : goal.send-requires
+send-requires c =
+    let own : ℕ = c.args.self.now.backend.table.next_own in
+    let e : c.next_id-next.result ≡ own = c.next_id-next.ensures ∙ ap (λ (x : StoredEnd). x.backend.table.next_own) c.self.view_is in
+    let wanted : ℕ → Record = λ i. asked i c.args.target.id c.args.target.interface c.args.target.version c.args.opcode c.args.values.now in
+    let same : c.in_ok-message.message ≡ wanted own = c.in_ok-message.ensures.asked ∙ ap wanted e in
+    let lt : own < 2 ^ 64 = subst (λ (i : ℕ). i < 2 ^ 64) e c.in_ok-message.ensures.fits.0 in
+    record {
+      next = subst (λ (r : Record). IsNext own (new_of c.args.events (sent_view r))) (sym same)
+          (asked_next c.args.events own c.args.target.id c.args.target.interface c.args.target.version c.args.opcode c.args.values.now lt c.in_ok-message.ensures.lawful c.requires.row);
+    }
+
+pub returns-clause-sends : goal.returns-clause-sends
+returns-clause-sends c =
+    let own : ℕ = c.args.self.now.backend.table.next_own in
+    let e : c.next_id-next.result ≡ own = c.next_id-next.ensures ∙ ap (λ (x : StoredEnd). x.backend.table.next_own) c.self.view_is in
+    let wanted : ℕ → Record = λ i. asked i c.args.target.id c.args.target.interface c.args.target.version c.args.opcode c.args.values.now in
+    same_sends c.args.events c.in_ok-message.message (wanted own) c.send.result c.args.self.now c.send.new.self (c.in_ok-message.ensures.asked ∙ ap wanted e) c.send.ensures
+
+pub returns-clause-sendable : goal.returns-clause-sendable
+returns-clause-sendable c =
+    let own : ℕ = c.args.self.now.backend.table.next_own in
+    let e : c.next_id-next.result ≡ own = c.next_id-next.ensures ∙ ap (λ (x : StoredEnd). x.backend.table.next_own) c.self.view_is in
+    let fits = c.in_ok-message.ensures.fits in
+    let lt : own < 2 ^ 64 = subst (λ (i : ℕ). i < 2 ^ 64) e fits.0 in
+    on_ok c.send.result _
+    (asked_sendable c.args.events own c.args.target.id c.args.target.interface c.args.target.version c.args.opcode c.args.values.now lt fits.1 fits.2 c.in_ok-message.ensures.lawful c.requires.row)

@@ -1,0 +1,5 @@
+pub mod Stored
+pub mod Asked
+pub mod Delivered
+pub mod TwoEnds
+pub mod Received

@@ -1,0 +1,333 @@
+//! One end, with what it sent and took.
+
+ghost use Rattle.std.specs.Prelude.{reverse, map, ◌≡◌, ◌<◌, ◌≤◌, length, IfOk, OnOk, OnErr, None, Some, IsErrOf, true, false};
+ghost use Rattle.ei_spec.specs.Interface.{Known};
+ghost use Rattle.ei_spec.specs.declared.limits.TheConstants.{MOST_PIECE_BYTES, MOST_PIECE_HANDLES};
+ghost use Rattle.ei_backend.specs.Backend.{unsent_of};
+ghost use Rattle.ei_backend.specs.Table.{own, own_end};
+ghost use Rattle.ei_wire.specs.declared.error.SendError.TheVariants as send_error;
+ghost use Rattle.ei_ends.specs.Sent.{new_of};
+ghost use Rattle.ei_ends.specs.Steps.{behind};
+ghost use Rattle.ei_ends.specs.Joined.{acquainted};
+ghost use Rattle.ei_wire.specs.Gives.{value_of_arg};
+ghost use Rattle.ei_world.specs.Stored.{sent_view, end_in, having_sent, read_as};
+ghost use Rattle.ei_world.specs.Asked.{asked, IsOfRow, IsNext, IsSendable, AreNew, IsTooLong, Sends};
+ghost use Rattle.ei_world.specs.Delivered.{Delivers, TakesIn, moves};
+ghost use Rattle.ei_world.specs.TwoEnds.{new_stored, flushed_end, IsRead, ReadsRows, StoresAnswer};
+
+use crate::link::Link;
+use crate::met::{find_sent, find_taken};
+use crate::portion::Portion;
+use crate::record::{Announced, Got, Record, Target};
+use ei_backend::{Backend, MessageEnum, Object, PendingRequestResult};
+use ei_rows::row_of;
+use ei_spec::{Handle, KnownInterface};
+use ei_values::{Value, stored};
+use ei_wire::{Arg, NoMemory, ReadError, SendError};
+use std::alloc::Global;
+use std::marker::Model;
+
+/// A message whose arguments can be told, all of them in the order of its row: with the version of what it announces, and
+/// where it names the interface of that, the name.
+pub trait Arguments: MessageEnum {
+    fn arguments(&self, alloc: Global) -> Result<Vec<Arg<'_>>, NoMemory>
+        ensures { IfOk result (λ args. map value_of_arg args.items ≡ Self.values self.now) };
+}
+
+/// Why a read gave nothing.
+#[derive(Clone, Copy)]
+pub enum HalfError {
+    /// Nothing changed.
+    NoMemory,
+    /// A message was taken and isn't stored.
+    Spent,
+}
+
+/// One end.
+#[derive(Drop)]
+pub struct Half {
+    backend: Backend,
+    sent: Vec<Record>,
+    taken: Vec<Got>,
+}
+
+impl Model for Half {
+    ghost use Rattle.std.specs.Prelude.{reverse};
+    ghost use Rattle.std.specs.Coded.{codes};
+    ghost use Rattle.ei_backend.specs.Codes.{backend_code};
+    ghost use Rattle.ei_world.specs.Stored.{StoredEnd};
+
+    ghost Value = { StoredEnd };
+
+    ghost coded = { Prim.hlevel (codes, backend_code) };
+
+    ghost view = { λ h. record { backend = h.backend; sent = reverse h.sent.items; taken = reverse h.taken.items } };
+}
+
+impl Half {
+    /// A new end.
+    pub fn new(alloc: Global, client: bool) -> Result<Half, NoMemory>
+        ensures { IfOk result (λ h. h ≡ new_stored client) }
+    {
+        Ok(Half {
+            backend: Backend::new(alloc, client)?,
+            sent: Vec::new(alloc),
+            taken: Vec::new(alloc),
+        })
+    }
+
+    /// What it sent, the first first.
+    pub fn sent(&self) -> &[Record]
+        ensures { reverse result.now ≡ self.now.sent }
+    {
+        &self.sent
+    }
+
+    /// What it took, the first first.
+    pub fn taken(&self) -> &[Got]
+        ensures { reverse result.now ≡ self.now.taken }
+    {
+        &self.taken
+    }
+
+    /// Whether it reads no more.
+    pub fn is_closed(&self) -> bool
+        ensures { result ≡ self.now.backend.closed }
+    {
+        self.backend.is_closed()
+    }
+
+    /// Its endpoint.
+    pub fn backend(&self) -> &Backend
+        ensures { result.now ≡ self.now.backend }
+    {
+        &self.backend
+    }
+
+    /// The object of that id which it made or read at some time, or object 0.
+    pub fn met(&self, events: bool, id: u64) -> Option<Announced>
+        ensures { AreNew result (acquainted events (end_in self.now).sent (end_in self.now).taken id) }
+    {
+        if id == 0 {
+            return Some(Announced {
+                id: 0,
+                interface: Some(KnownInterface::Handshake),
+                version: 1,
+            });
+        }
+        match find_sent(&self.sent, events, id) {
+            Some(object) => Some(object),
+            None => find_taken(&self.taken, !events, id),
+        }
+    }
+
+    /// Sends a message that announces nothing.
+    fn call(&mut self, alloc: Global, events: bool, message: Record) -> Result<(), SendError>
+        requires plain { new_of events (sent_view message) ≡ None }
+        ensures ok { OnOk result (self.new ≡ having_sent events message self.old) }
+        ensures short { OnOk result (IsTooLong message → ⊥) }
+        ensures long { IsErrOf result send_error.MessageTooLong → IsTooLong message }
+        ensures not_exhausted { IsErrOf result send_error.IdsExhausted → ⊥ }
+        ensures err { OnErr result (self.new ≡ self.old) }
+    {
+        self.sent.reserve(1)?;
+        message.send(alloc, events, &mut self.backend)?;
+        match self.sent.push(message) {
+            Ok(()) => Ok(()),
+            Err(_) => unreachable!(),
+        }
+    }
+
+    /// Sends a message that announces the next object.
+    fn call_new(
+        &mut self,
+        alloc: Global,
+        events: bool,
+        message: Record,
+        interface: KnownInterface,
+        version: u32,
+    ) -> Result<Object, SendError>
+        requires announces { new_of events (sent_view message) ≡ Some (record { id = self.old.backend.table.next_own; interface = Known interface; version = version }) }
+        ensures ok { IfOk result (λ o. (self.new ≡ having_sent events message self.old) × (o ≡ own self.old.backend.table (Known interface) version)) }
+        ensures short { OnOk result (IsTooLong message → ⊥) }
+        ensures left { OnOk result (self.old.backend.table.next_own < own_end self.old.backend.table) }
+        ensures exhausted { IsErrOf result send_error.IdsExhausted → own_end self.old.backend.table ≤ self.old.backend.table.next_own }
+        ensures long { IsErrOf result send_error.MessageTooLong → (self.old.backend.table.next_own < own_end self.old.backend.table) × IsTooLong message }
+        ensures err { OnErr result (self.new ≡ self.old) }
+    {
+        self.sent.reserve(1)?;
+        let object = message.send_new(alloc, events, &mut self.backend, interface, version)?;
+        match self.sent.push(message) {
+            Ok(()) => Ok(object),
+            Err(_) => unreachable!(),
+        }
+    }
+
+    /// Sends the message, and answers the object that it announces.
+    fn send(
+        &mut self,
+        alloc: Global,
+        events: bool,
+        message: Record,
+    ) -> Result<Option<Object>, SendError>
+        requires next { IsNext self.old.backend.table.next_own (new_of events (sent_view message)) }
+        ensures { Sends events message result self.old self.new }
+    {
+        match message.announces(events) {
+            None => match self.call(alloc, events, message) {
+                Ok(()) => Ok(None),
+                Err(error) => Err(error),
+            },
+            Some(object) => match object.interface {
+                Some(interface) => {
+                    match self.call_new(alloc, events, message, interface, object.version) {
+                        Ok(object) => Ok(Some(object)),
+                        Err(error) => Err(error),
+                    }
+                }
+                None => unreachable!(),
+            },
+        }
+    }
+
+    /// Sends the message of these values to the object, with the next own id in the place of a new one. It answers the object
+    /// that the message announces.
+    pub fn ask(
+        &mut self,
+        alloc: Global,
+        events: bool,
+        target: Target,
+        opcode: u32,
+        values: &[Value],
+    ) -> Result<Option<Object>, SendError>
+        requires row { IsOfRow events target.interface opcode values.now }
+        ensures sends { Sends events (asked self.old.backend.table.next_own target.id target.interface target.version opcode values.now) result self.old self.new }
+        ensures sendable { OnOk result (IsSendable events self.old.backend.table.next_own
+            (sent_view (asked self.old.backend.table.next_own target.id target.interface target.version opcode values.now))) }
+    {
+        let next = self.backend.next_id();
+        let message = Record::asked(alloc, target, opcode, values, next)?;
+        self.send(alloc, events, message)
+    }
+
+    /// Puts all that waits to be sent into the link, or does nothing.
+    pub fn flush(&mut self, link: &mut Link) -> Result<(), NoMemory>
+        ensures ok { OnOk result (self.new ≡ flushed_end self.old) }
+        ensures link { OnOk result (link.new ≡ behind link.old (unsent_of self.old.backend)) }
+        ensures err { OnErr result (self.new ≡ self.old) }
+        ensures link_err { OnErr result (link.new ≡ link.old) }
+    {
+        link.append(self.backend.unsent(), self.backend.unsent_handles())?;
+        self.backend.clear_unsent();
+        Ok(())
+    }
+
+    /// Takes the next message, and stores it.
+    pub fn read<T: Arguments + Drop>(
+        &mut self,
+        alloc: Global,
+        events: bool,
+    ) -> Result<Option<PendingRequestResult<T>>, HalfError>
+        requires events { T.events ≡ events }
+        requires rows { ReadsRows events self.old }
+        ensures ok { IfOk result (λ answer. StoresAnswer T.target T.code T.values events answer self.old self.new) }
+        ensures memory { IsErrOf result HalfError.NoMemory → self.new ≡ self.old }
+        ensures spent { IsErrOf result HalfError.Spent → (self.new.sent ≡ self.old.sent) × (self.new.taken ≡ self.old.taken) }
+    {
+        let after = self.sent.len() as u64;
+        let answer = match self.backend.pending::<T>() {
+            Ok(answer) => answer,
+            Err(_) => return Err(HalfError::NoMemory),
+        };
+        match &answer {
+            None => {}
+            Some(pending) => match pending {
+                PendingRequestResult::ParseError(_) => {}
+                PendingRequestResult::InvalidObject(id) => {
+                    if self
+                        .taken
+                        .push(Got::InvalidObject { id: *id, after })
+                        .is_err()
+                    {
+                        return Err(HalfError::Spent);
+                    }
+                }
+                PendingRequestResult::Request(message) => {
+                    let Ok(message) = record_of(alloc, events, message) else {
+                        return Err(HalfError::Spent);
+                    };
+                    if self.taken.push(Got::Message { message, after }).is_err() {
+                        return Err(HalfError::Spent);
+                    }
+                }
+            },
+        }
+        Ok(answer)
+    }
+
+    /// Hands the first n bytes that wait to this end, and the first 64 handles.
+    pub fn deliver(&mut self, link: &mut Link, n: usize) -> Result<usize, ReadError>
+        requires some { 0 < n }
+        requires most { n ≤ 1536 }
+        ensures delivers { Delivers n result self.old link.old self.new link.new }
+    {
+        if self.backend.is_closed() {
+            return Err(ReadError::UnexpectedEof);
+        }
+        let bytes = link.bytes();
+        if bytes.is_empty() {
+            return Ok(0);
+        }
+        let handles = link.handles();
+        let count = bytes.len().min(n);
+        let handle_count = handles.len().min(64);
+        let answer = take_in(&mut self.backend, &bytes[..count], &handles[..handle_count]);
+        if is_moved(&answer) {
+            link.advance(count, handle_count);
+        }
+        answer
+    }
+}
+
+/// A message that was read, as it is stored.
+fn record_of<T: Arguments>(alloc: Global, events: bool, message: &T) -> Result<Record, NoMemory>
+    requires { IsRead events (T.target message.now) (T.code message.now) (T.values message.now) }
+    ensures { IfOk result (λ r. r ≡ read_as events (T.target message.now) (T.code message.now) (T.values message.now)) }
+{
+    let target = message.object();
+    let Some(interface) = target.known_interface() else {
+        unreachable!();
+    };
+    let opcode = message.opcode();
+    let Some(row) = row_of(events, interface, opcode) else {
+        unreachable!();
+    };
+    let args = message.arguments(alloc)?;
+    let values = stored(alloc, row.kinds, &args)?;
+    Ok(Record {
+        target: target.id(),
+        interface,
+        version: target.version(),
+        opcode,
+        values,
+    })
+}
+
+/// Whether a piece left the link.
+fn is_moved(answer: &Result<usize, ReadError>) -> bool
+    ensures { result ≡ moves answer.now }
+{
+    matches!(answer, Ok(_) | Err(ReadError::HandleLimit))
+}
+
+/// A piece comes to an open endpoint.
+fn take_in(backend: &mut Backend, bytes: &[u8], handles: &[Handle]) -> Result<usize, ReadError>
+    requires opened { backend.old.closed ≡ false }
+    requires some { 0 < length bytes.now }
+    requires bytes { length bytes.now ≤ MOST_PIECE_BYTES }
+    requires handles { length handles.now ≤ MOST_PIECE_HANDLES }
+    ensures takes_in { TakesIn (record { bytes = bytes.now; handles = handles.now }) result backend.old backend.new }
+{
+    let mut portion = Portion::new(bytes, handles);
+    backend.read(&mut portion)
+}

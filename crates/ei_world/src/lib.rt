@@ -1,0 +1,21 @@
+//! Two endpoints that talk over links, one message, one piece and one read at a time, however these come in turn.
+//!
+//! Begin with `World`, and with `specs/TwoEnds.antt`: what one end took is, message by message, what the other sent. What a
+//! handshake and a converter make of the messages isn't here.
+#![tactic(auto)]
+
+mod half;
+mod link;
+mod met;
+mod portion;
+mod received;
+mod record;
+mod side;
+mod world;
+
+pub use ei_values::{Value, Values};
+pub use half::Arguments;
+pub use received::Received;
+pub use record::{Got, Record};
+pub use side::Side;
+pub use world::World;
