@@ -21,8 +21,12 @@ pub fn telling()
     ensures resumed { (old : ConnectionView) (device : ObjectView) →
         Sends (resumed old device) old (sending.tells old (resumed_event device.id)) }
     ensures paused { (old : ConnectionView) (key : DeviceKey) → Sends (paused old key.proxy) old
-        (record (sending.tells old (sending.paused_event key.proxy.id)) { devices = changed_first (is_of_key key) untouched old.devices }) }
-    ensures start_emulating { (old : ConnectionView) (device : ObjectView) (sequence : ℕ) → Sends (start_emulating old device sequence) old
+        (record (sending.tells old (sending.paused_event key.proxy.id)) {
+          devices = changed_first
+              (is_of_key key) untouched old.devices;
+        }) }
+    ensures start_emulating { (old : ConnectionView) (device : ObjectView) (sequence : ℕ) →
+        Sends (start_emulating old device sequence) old
         (sending.tells old (λ serial. sending.start_emulating_event device.id serial sequence)) }
     ensures stop_emulating { (old : ConnectionView) (device : ObjectView) →
         Sends (stop_emulating old device) old (sending.tells old (sending.stop_emulating_event device.id)) }
@@ -43,7 +47,9 @@ pub fn answering()
     ensures device_goes { (old new : ConnectionView) (key : DeviceKey) → RemovesDevice old key new →
         AllMayGo old.ctx.table (gone_ids (find (is_of_key key) old.devices)) → Sends (remove_device old key) old new }
     ensures seat_goes { (old new : ConnectionView) (id : ℕ) → RemovesSeat old id new →
-        AllMayGo old.ctx.table (gone_with_seat old.devices (find (is_seat id) old.seats)) → Sends (remove_seat old id) old new }
-    ensures seat_comes { (old new : ConnectionView) (name : Option (List ℕ)) (given : DeviceCapabilities) → AddsSeat old name given new →
+        AllMayGo old.ctx.table (gone_with_seat old.devices (find (is_seat id) old.seats)) →
+        Sends (remove_seat old id) old new }
+    ensures seat_comes { (old new : ConnectionView) (name : Option (List ℕ)) (given : DeviceCapabilities) →
+        AddsSeat old name given new →
         Sends (add_seat old name given) old new }
 {}

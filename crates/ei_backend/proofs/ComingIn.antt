@@ -7,7 +7,8 @@ use Rattle.circular_buffer.specs.Buffer.{Buffer, buffer}
 use Rattle.ei_spec.specs.declared.handle.Handle.{Handle}
 use Rattle.ei_spec.specs.Piece.{Piece}
 use Rattle.ei_backend.specs.declared.outside.Taken.{Taken}
-use Rattle.ei_backend.specs.Outside.{SourceView, IsPieceSize, TakesTold, GivesPiece, piece_of, given_with}
+use Rattle.ei_backend.specs.Outside.{SourceView, IsPieceSize, IsTake, answer_at, piece_of, given_with}
+use Rattle.ei_backend.specs.declared.outside.LastAnswer.TheVariants as answers
 use Rattle.ei_backend.specs.Ring.{grown}
 use Rattle.ei_backend.proofs.RingLaws.{grown_room}
 use Rattle.ei_backend.specs.Incoming.{Hands, HasNone, Fits, Overflows, IncomingView}
@@ -22,19 +23,26 @@ given_none : (given : List Piece) (n : ℕ) (piece : Piece) → n ≡ 0 → give
 given_none given zero piece none = refl
 given_none given (suc n) piece none = absurd cc
 
+answer_some : (n : ℕ) → 0 < n → answer_at n ≡ answers.Piece
+answer_some zero some = absurd (omega (arith, some))
+answer_some (suc n) some = refl
+
 -- a call that handed out a piece of so many bytes
-module _ (before after : SourceView) (taken : Taken) (bytes : List ℕ) (handles : List Handle) (told : TakesTold before.left after.left (Ok taken) bytes handles)
-    (given : GivesPiece before.given after.given (Ok taken) bytes handles) where
+module _ (before after : SourceView) (taken : Taken) (bytes : List ℕ) (handles : List Handle) (takes : IsTake before after (Ok taken) bytes handles) where
   pub hands : 0 < taken.bytes → Hands before (piece_of taken bytes handles) after
   hands some = record {
-    told = λ pieces is. let h = told pieces is in record { first = h.piece some; left_is = h.left };
-    given = given ∙ given_some before.given taken.bytes (piece_of taken bytes handles) some;
+    told = λ pieces is. let h = takes.pieces pieces is in record { first = h.piece some; left_is = h.left };
+    asked = takes.asked;
+    last = takes.last ∙ answer_some taken.bytes some;
+    given = takes.given ∙ given_some before.given taken.bytes (piece_of taken bytes handles) some;
   }
 
   pub has_none : taken.bytes ≡ 0 → HasNone before after
   has_none none = record {
-    told = λ pieces is. let h = told pieces is in let e = h.ends none in (e, h.left ∙ ap (λ (p : List Piece). Some (drop 1 p)) e);
-    given = given ∙ given_none before.given taken.bytes (piece_of taken bytes handles) none;
+    told = λ pieces is. let h = takes.pieces pieces is in let e = h.ends none in (e, h.left ∙ ap (λ (p : List Piece). Some (drop 1 p)) e);
+    asked = takes.asked;
+    last = takes.last ∙ ap answer_at none;
+    given = takes.given ∙ given_none before.given taken.bytes (piece_of taken bytes handles) none;
   }
 
 -- ---- what comes in

@@ -2,6 +2,7 @@
 use Rattle.std.proofs.Common.{◌≡◌, ◌<◌, ◌≤◌, ℕ, ◌+◌, zero, suc, List, [], ◌∷◌, ◌++◌, take, drop, length}
 use Rattle.std.proofs.Common.{Option, Some, Result, Ok, Err, OnOk, OnErr, refl, ap, sym, ◌∙◌, append_assoc, arith, length-append}
 use Rattle.std.proofs.lemmas.List.{append-nil}
+use Rattle.std.proofs.lemmas.List.Elements.{All-nil, All-cons, All-append}
 use Rattle.std.proofs.Math.Seq.{take-add}
 use Rattle.ei_spec.specs.declared.handle.Handle.{Handle}
 use Rattle.ei_spec.specs.Piece.{Piece}
@@ -9,7 +10,7 @@ use Rattle.ei_spec.specs.Message.{Raw, bytes_of, header, le4, le8, size}
 use Rattle.ei_spec.proofs.Numbers.{len4, len8}
 use Rattle.ei_wire.specs.declared.error.FlushError.{FlushError}
 use Rattle.ei_backend.specs.Outside.{with_more}
-use Rattle.ei_backend.specs.Outgoing.{HasBytes, beside, kept_beside, sent_front, StopsAfter, Flushes}
+use Rattle.ei_backend.specs.Outgoing.{HasBytes, beside, kept_beside, sent_front, unsent_after, IsLeftOf, PutsOf, IsPutOf, StopsAfter, GoesOut}
 
 pub same_piece : (a b : List ℕ) (h k : List Handle) → a ≡ b → h ≡ k → ◌≡◌ {A = Piece} (record { bytes = a; handles = h }) (record { bytes = b; handles = k })
 same_piece a b h k e f = rw (e, f) refl
@@ -31,6 +32,20 @@ put_on held xs ys hs ks i n rest left lt =
     let handles : (held.handles ++ beside i hs) ++ ks ≡ held.handles ++ beside (i + n) hs =
     append_assoc held.handles (beside i hs) ks ∙ ap (λ (l : List Handle). held.handles ++ l) (ap (λ (l : List Handle). beside i hs ++ l) left ∙ beside_more i n hs lt) in
     same_piece _ _ _ _ bytes handles
+
+-- no put was made
+pub none_put : (waiting : Piece) (puts : Option (List Piece)) → IsPutOf waiting puts puts
+none_put waiting told puts is = record { more = []; grown = is ∙ ap (λ (l : List Piece). Some l) (sym (append-nil puts)); each = All-nil (IsLeftOf waiting) }
+
+-- one more put was made, of what was left
+pub put_more : (waiting put : Piece) (n : ℕ) (before now after : Option (List Piece)) → n < length waiting.bytes → put ≡ unsent_after n waiting → IsPutOf waiting before now →
+    ((puts : List Piece) → now ≡ Some puts → after ≡ Some (puts ++ put ∷ [])) → IsPutOf waiting before after
+put_more waiting put n before now after some is were grown puts told =
+    let h = were puts told in record {
+      more = h.more ++ put ∷ [];
+      grown = grown (puts ++ h.more) h.grown ∙ ap (λ (l : List Piece). Some l) (append_assoc puts h.more (put ∷ []));
+      each = All-append (IsLeftOf waiting) h.more (put ∷ []) h.each (All-cons (IsLeftOf waiting) put [] (record { n = n; some = some; is = is }) (All-nil (IsLeftOf waiting)));
+    }
 
 drop_whole : (l : List ℕ) → drop (length l) l ≡ []
 drop_whole [] = refl
@@ -59,7 +74,7 @@ stops_after old n (Err e) bytes handles has all lt rest kept = (n, lt, same_piec
 -- and a sink took them
 pub flushes : (held old : Piece) (n : ℕ) (result : Result (Unit {0}) FlushError) (bytes : List ℕ) (handles : List Handle) (taken : Option Piece) → HasBytes old.bytes old.handles →
     OnOk result (n ≡ length old.bytes) → OnErr result (n < length old.bytes) → bytes ≡ drop n old.bytes → handles ≡ kept_beside n old.handles → taken ≡ Some (sent_front n old held) →
-    Flushes held old result (record { bytes = bytes; handles = handles }) taken
+    GoesOut held old result (record { bytes = bytes; handles = handles }) taken
 flushes held old n (Ok u) bytes handles taken has all lt rest kept took =
     let front : take n old.bytes ≡ old.bytes = ap (λ (k : ℕ). take k old.bytes) all ∙ take_whole old.bytes in
     let beside_it : beside n old.handles ≡ old.handles = ap (λ (k : ℕ). beside k old.handles) all ∙ beside_whole old.bytes old.handles has in

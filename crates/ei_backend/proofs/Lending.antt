@@ -3,8 +3,7 @@ use Rattle.std.proofs.Common.{◌≤◌, ◌<◌, ◌+◌, ◌-◌, ◌^◌, ℕ
 use Rattle.std.specs.Prelude.{min}
 use Rattle.std.proofs.lemmas.Bool.{cases_lt}
 use Rattle.std.proofs.Math.Nat.{le_trans, min-le_left, min-le_right, le-min}
-use Rattle.ei_backend.specs.Outside.{Rose}
-use Rattle.ei_backend.specs.declared.outside.LastAnswer.{LastAnswer}
+use Rattle.ei_backend.specs.Outside.{Rose, SourceView, SinkView}
 use Rattle.ei_backend.specs.Lent.{LentSource, LentSink, LentClock}
 
 -- a count that rose since a later value rose since an earlier one
@@ -18,7 +17,7 @@ not_risen {a = a} {b = b} tells none = elim (cases_lt a b) [ inl lt ↦ absurd (
 -- ---- a source
 
 -- one that isn't touched, where the answer is neither its fault nor its end
-pub untouched_source : {S : Type 0} {faults : S → ℕ} {last : S → LastAnswer} {later : S → S → Type 0} {x : S} → later x x → LentSource faults last later ⊥ ⊥ x x
+pub untouched_source : {S : Type 0} {view : S → SourceView} {later : S → S → Type 0} {x : S} → later x x → LentSource view later ⊥ ⊥ x x
 untouched_source l = record {
   read_fault = λ f. absurd f;
   read_risen = λ r. absurd (omega (arith, r));
@@ -29,9 +28,9 @@ untouched_source l = record {
 }
 
 -- where another answer tells of the fault as this one, and of the end no more often
-pub source_as : {S : Type 0} {faults : S → ℕ} {last : S → LastAnswer} {later : S → S → Type 0} {failed ended failed_too ended_too : Type 0} {x y : S} →
+pub source_as : {S : Type 0} {view : S → SourceView} {later : S → S → Type 0} {failed ended failed_too ended_too : Type 0} {x y : S} →
     (failed → failed_too) → (failed_too → failed) → (ended_too → ended) →
-    LentSource faults last later failed ended x y → LentSource faults last later failed_too ended_too x y
+    LentSource view later failed ended x y → LentSource view later failed_too ended_too x y
 source_as to from end h = record {
   read_fault = λ f. h.read_fault (from f);
   read_risen = λ r. to (h.read_risen r);
@@ -42,9 +41,9 @@ source_as to from end h = record {
 }
 
 -- two calls in a row, the first of which didn't answer the fault, are one
-pub source_twice : {S : Type 0} {faults : S → ℕ} {last : S → LastAnswer} {later : S → S → Type 0} {failed_first ended_first failed ended : Type 0} {x y z : S} →
+pub source_twice : {S : Type 0} {view : S → SourceView} {later : S → S → Type 0} {failed_first ended_first failed ended : Type 0} {x y z : S} →
     ((a b c : S) → later a b → later b c → later a c) → (failed_first → ⊥) →
-    LentSource faults last later failed_first ended_first x y → LentSource faults last later failed ended y z → LentSource faults last later failed ended x z
+    LentSource view later failed_first ended_first x y → LentSource view later failed ended y z → LentSource view later failed ended x z
 source_twice trans none first second = record {
   read_fault = λ f. rose_since _ _ _ first.read_faults (second.read_fault f);
   read_risen = λ r. second.read_risen (omega (arith, r, not_risen first.read_risen none));
@@ -57,7 +56,7 @@ source_twice trans none first second = record {
 -- ---- a sink
 
 -- one that isn't touched, where the answer isn't its fault
-pub untouched_sink : {K : Type 0} {faults : K → ℕ} {later : K → K → Type 0} {x : K} → later x x → LentSink faults later ⊥ x x
+pub untouched_sink : {K : Type 0} {view : K → SinkView} {later : K → K → Type 0} {x : K} → later x x → LentSink view later ⊥ x x
 untouched_sink l = record {
   write_fault = λ f. absurd f;
   write_risen = λ r. absurd (omega (arith, r));
@@ -66,8 +65,8 @@ untouched_sink l = record {
 }
 
 -- where another answer tells of the fault as this one
-pub sink_as : {K : Type 0} {faults : K → ℕ} {later : K → K → Type 0} {failed failed_too : Type 0} {x y : K} →
-    (failed → failed_too) → (failed_too → failed) → LentSink faults later failed x y → LentSink faults later failed_too x y
+pub sink_as : {K : Type 0} {view : K → SinkView} {later : K → K → Type 0} {failed failed_too : Type 0} {x y : K} →
+    (failed → failed_too) → (failed_too → failed) → LentSink view later failed x y → LentSink view later failed_too x y
 sink_as to from h = record {
   write_fault = λ f. h.write_fault (from f);
   write_risen = λ r. to (h.write_risen r);
@@ -76,9 +75,9 @@ sink_as to from h = record {
 }
 
 -- two calls in a row, the first of which didn't answer the fault, are one
-pub sink_twice : {K : Type 0} {faults : K → ℕ} {later : K → K → Type 0} {failed_first failed : Type 0} {x y z : K} →
+pub sink_twice : {K : Type 0} {view : K → SinkView} {later : K → K → Type 0} {failed_first failed : Type 0} {x y z : K} →
     ((a b c : K) → later a b → later b c → later a c) → (failed_first → ⊥) →
-    LentSink faults later failed_first x y → LentSink faults later failed y z → LentSink faults later failed x z
+    LentSink view later failed_first x y → LentSink view later failed y z → LentSink view later failed x z
 sink_twice trans none first second = record {
   write_fault = λ f. rose_since _ _ _ first.write_faults (second.write_fault f);
   write_risen = λ r. second.write_risen (omega (arith, r, not_risen first.write_risen none));

@@ -1,6 +1,5 @@
 -- What objects are announced as, as the definitions see it.
 use Rattle.std.specs.Prelude.{ℕ, Bool, Option, Some, None}
-use Rattle.std.specs.Rc.{rc_str_bytes}
 use Rattle.ei_spec.specs.Interface.{Interface, Known, Other, ObjectView}
 use Rattle.ei_spec.specs.declared.interface.KnownInterface.{KnownInterface}
 use Rattle.ei_backend.specs.declared.announcement.Announcement.{Announcement}
@@ -9,7 +8,7 @@ use Rattle.ei_backend.specs.declared.announcement.Announcement.TheVariants as an
 -- the interface that was announced
 abbrev pub interface_of : Announcement → Interface
 interface_of (announced.Known side k version) = Known k
-interface_of (announced.Other side version name) = Other (rc_str_bytes name)
+interface_of (announced.Other side version name) = Other name
 
 -- the version that was announced
 abbrev pub version_of : Announcement → ℕ

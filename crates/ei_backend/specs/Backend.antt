@@ -1,6 +1,6 @@
 -- One endpoint, the message at the front of what it has not read, and the messages that it sends.
-use Rattle.std.specs.Prelude.{◌≡◌, ℕ, ◌+◌, ◌<◌, Bool, true, false, List, [], ◌++◌, length}
-use Rattle.std.specs.Prelude.{drop, Option, Some, None, Result, Ok, Err, IfSome, IsSome, ◌==◌, if◌then◌else◌}
+use Rattle.std.specs.Prelude.{◌≡◌, ℕ, ◌+◌, ◌<◌, ◌≤◌, Bool, true, false, List, [], ◌++◌, length}
+use Rattle.std.specs.Prelude.{drop, Option, Some, None, Result, Ok, Err, IfSome, IsSome, IsErrOf, ◌==◌, if◌then◌else◌}
 use Rattle.std.specs.List.{flat_map}
 use Rattle.ei_spec.specs.declared.handle.Handle.{Handle}
 use Rattle.ei_spec.specs.Piece.{Piece}
@@ -19,7 +19,9 @@ use Rattle.ei_backend.specs.Table as table
 use Rattle.ei_backend.specs.Ring.{first_capacity, grown}
 use Rattle.ei_backend.specs.Outgoing.{Room, no_room, more_room, HasRoomFor}
 use Rattle.ei_backend.specs.Outside.{SourceView}
+use Rattle.ei_backend.specs.Lent.{LentSource}
 use Rattle.ei_backend.specs.Incoming.{Hands, HasNone, Keeps, Fits, Overflows}
+use Rattle.ei_spec.specs.declared.limits.TheConstants.{MOST_PIECE_BYTES}
 use Rattle.ei_backend.specs.Message.{Parsed, message_read}
 use Rattle.ei_backend.specs.declared.message.PendingRequestResult.{PendingRequestResult}
 use Rattle.ei_backend.specs.declared.message.PendingRequestResult.TheVariants as pending
@@ -61,6 +63,15 @@ ReadsOn before after (Err read_error.HandleLimit) old new = (piece : Piece) × H
 ReadsOn before after (Err read_error.UnexpectedEof) old new = HasNone before after × (new ≡ with_ring old)
 ReadsOn before after (Err read_error.ReadFault) old new = Keeps before after × (new ≡ with_ring old)
 ReadsOn before after (Err read_error.NoMemory) old new = Keeps before after × (new ≡ old)
+
+-- What a call for one piece does. A closed endpoint doesn't ask the source, nor does want of memory, which comes only where the ring
+-- has to grow.
+pub record Reads {S : Type 0} (view : S → SourceView) (later : S → S → Type 0) (result : Result ℕ ReadError) (old new : BackendView) (before after : S) : Type 0 where
+  pub closed : old.closed ≡ true → IsErrOf result read_error.UnexpectedEof × (new ≡ old) × (after ≡ before)
+  pub reads : old.closed ≡ false → ReadsOn (view before) (view after) result old new
+  pub memory : IsErrOf result read_error.NoMemory → after ≡ before
+  pub room : length old.unread + MOST_PIECE_BYTES ≤ old.capacity → IsErrOf result read_error.NoMemory → ⊥
+  pub lent : LentSource view later (IsErrOf result read_error.ReadFault) ((old.closed ≡ false) × IsErrOf result read_error.UnexpectedEof) before after
 
 -- ---- the message at the front
 

@@ -4,7 +4,8 @@ use Rattle.ei_spec.specs.declared.handle.Handle.{Handle}
 use Rattle.ei_spec.specs.Piece.{Piece}
 use Rattle.ei_wire.specs.declared.error.ReadError.{ReadError}
 use Rattle.ei_wire.specs.declared.error.ReadError.TheVariants as read_error
-use Rattle.ei_backend.specs.Outside.{SourceView}
+use Rattle.ei_backend.specs.Outside.{SourceView, CountsOne}
+use Rattle.ei_backend.specs.declared.outside.LastAnswer.TheVariants as answers
 use Rattle.ei_backend.specs.Ring.{first_capacity, grown}
 use Rattle.ei_spec.specs.declared.limits.TheConstants.{MOST_PIECE_BYTES, MOST_PIECE_HANDLES, MOST_UNREAD_HANDLES}
 
@@ -13,20 +14,25 @@ pub record IsFirst (pieces : List Piece) (left : Option (List Piece)) (piece : P
   pub first : slice_get pieces 0 ≡ Some piece
   pub left_is : left ≡ Some (drop 1 pieces)
 
--- the source gave this piece: of the pieces that it told it is the first
+-- the source was asked once and gave this piece: of the pieces that it told it is the first
 pub record Hands (old : SourceView) (piece : Piece) (new : SourceView) : Type 0 where
   pub told : (pieces : List Piece) → old.left ≡ Some pieces → IsFirst pieces new.left piece
   pub given : new.given ≡ old.given ++ piece ∷ []
+  pub asked : CountsOne old.asked new.asked
+  pub last : new.last ≡ answers.Piece
 
--- it gave none: of pieces that it told none was left
+-- it was asked once and said its end: of pieces that it told none was left
 pub record HasNone (old new : SourceView) : Type 0 where
   pub told : (pieces : List Piece) → old.left ≡ Some pieces → (pieces ≡ []) × (new.left ≡ Some [])
   pub given : new.given ≡ old.given
+  pub asked : CountsOne old.asked new.asked
+  pub last : new.last ≡ answers.End
 
--- it keeps those that it told, and gave none
+-- it keeps those that it told, and gave none: it was asked once, or not at all
 pub record Keeps (old new : SourceView) : Type 0 where
   pub told : (pieces : List Piece) → old.left ≡ Some pieces → new.left ≡ Some pieces
   pub given : new.given ≡ old.given
+  pub asked : new.asked ≤ old.asked + 1
 
 -- a piece of n bytes, with whose handles no more are unread than may be
 pub record Fits (n : ℕ) (unread : List Handle) (piece : Piece) : Type 0 where

@@ -1,10 +1,12 @@
 -- What a source, a sink, an input and a clock in memory show, and how they count.
-use Rattle.std.specs.Prelude.{◌≡◌, ◌<◌, ◌≤◌, ◌↔◌, ℕ, ◌+◌, ◌-◌, ◌^◌, min, List, [], ◌∷◌, ◌++◌, length, Contains, Result, Ok, Err}
+use Rattle.std.specs.Prelude.{◌≡◌, ◌<◌, ◌≤◌, ◌↔◌, ℕ, ◌+◌, ◌-◌, ◌^◌, min, List, [], ◌∷◌, ◌++◌, length, Contains, Result, Ok, Err, Some, refl}
+use Rattle.std.proofs.Common.{◌∙◌}
 use Rattle.ei_spec.specs.Piece.{Piece}
 use Rattle.ei_backend.specs.declared.outside.PutError.{PutError}
 use Rattle.ei_backend.specs.declared.outside.PutError.TheVariants as put_errors
 use Rattle.ei_backend.specs.declared.outside.Taken.{Taken}
 use Rattle.ei_backend.specs.declared.outside.LastAnswer.{LastAnswer}
+use Rattle.ei_backend.specs.Outside.{SourceView, SinkView, InputView, ClockView}
 use Rattle.ei_spec.specs.declared.limits.TheConstants.{MOST_PIECE_BYTES, MOST_PIECE_HANDLES}
 
 -- the calls that fail, by their numbers, and the calls and faults so far
@@ -20,9 +22,10 @@ pub record PiecesView : Type 0 where
   pub failing : FailingView
   pub last : LastAnswer
 
--- a sink: what it took, which calls fail, the wants of memory so far
+-- a sink: what it took, what was put at each call, which calls fail, the wants of memory so far
 pub record TrayView : Type 0 where
   pub held : Piece
+  pub puts : List Piece
   pub failing : FailingView
   pub wants : ℕ
 
@@ -74,3 +77,34 @@ abbrev pub wants_after_put : Result ℕ PutError → ℕ → ℕ
 wants_after_put (Ok n) wants = wants
 wants_after_put (Err put_errors.Fault) wants = wants
 wants_after_put (Err put_errors.NoMemory) wants = counted wants
+
+-- The calls that fail stay the same ones, and where there are none no fault is counted.
+pub record KeepsFailing (old new : FailingView) : Type 0 where
+  pub fails : new.fails ≡ old.fails
+  pub faults : old.fails ≡ [] → new.faults ≡ old.faults
+
+-- so it is with no call
+abbrev pub keeps_failing : (f : FailingView) → KeepsFailing f f
+keeps_failing f = record { fails = refl; faults = λ none. refl }
+
+-- and with two
+abbrev pub keeps_failing_twice : (f g h : FailingView) → KeepsFailing f g → KeepsFailing g h → KeepsFailing f h
+keeps_failing_twice f g h first second = record { fails = second.fails ∙ first.fails; faults = λ none. second.faults (first.fails ∙ none) ∙ first.faults none }
+
+-- ---- what they say of themselves
+
+-- a source in memory tells all its pieces
+abbrev pub source_of : PiecesView → SourceView
+source_of p = record { left = Some p.left; given = p.given; faults = p.failing.faults; asked = p.failing.calls; last = p.last }
+
+-- a sink in memory tells all that it took, and all that was put to it
+abbrev pub sink_of : TrayView → SinkView
+sink_of t = record { taken = Some t.held; puts = Some t.puts; faults = t.failing.faults; wants = t.wants }
+
+-- a text in memory tells all of itself
+abbrev pub input_of : TextView → InputView
+input_of t = record { left = Some t.left; given = t.given; faults = t.failing.faults; asked = t.failing.calls; last = t.last }
+
+-- a clock in memory tells all its readings, and never fails
+abbrev pub clock_of : ReadingsView → ClockView
+clock_of r = record { left = Some r.left; faults = 0 }

@@ -1,8 +1,8 @@
 -- What waits to be sent, and how it goes out.
 use Rattle.std.specs.Prelude.{◌≡◌, ℕ, zero, suc, ◌+◌, ◌≤◌, ◌<◌, max, List, [], ◌++◌, map, length, take, drop, vec_len, vec_capacity}
-use Rattle.std.specs.Prelude.{Option, Some, Result, Ok, Err, IsOk, OnOk, OnErr}
+use Rattle.std.specs.Prelude.{Option, Some, Result, Ok, Err, IsOk, OnOk, OnErr, IsErrOf}
 use Rattle.std.specs.Global.{Vec}
-use Rattle.std.specs.List.{flat_map}
+use Rattle.std.specs.List.{flat_map, All}
 use Rattle.ei_spec.specs.declared.handle.Handle.{Handle}
 use Rattle.ei_spec.specs.Piece.{Piece}
 use Rattle.ei_spec.specs.Value.{Value, written, handles_of}
@@ -10,7 +10,9 @@ use Rattle.ei_spec.specs.Message.{message, bytes_of, size}
 use Rattle.ei_wire.specs.declared.arg.Arg.{Arg}
 use Rattle.ei_wire.specs.declared.error.FlushError.{FlushError}
 use Rattle.ei_wire.specs.Gives.{value_of_arg}
-use Rattle.ei_backend.specs.Outside.{with_more}
+use Rattle.ei_wire.specs.declared.error.FlushError.TheVariants as flush_error
+use Rattle.ei_backend.specs.Outside.{SinkView, with_more}
+use Rattle.ei_backend.specs.Lent.{LentSinkWants}
 
 -- no bytes and no handles
 abbrev pub nothing : Piece
@@ -99,6 +101,35 @@ StopsAfter old (Ok _) new = new ≡ nothing
 StopsAfter old (Err e) new = (n : ℕ) × (n < length old.bytes) × (new ≡ unsent_after n old)
 
 -- where a sink told what it held, it has all that waited behind that; after a refusal the front of it, without the last byte, and the rest waits
-abbrev pub Flushes : Piece → Piece → Result (Unit {0}) FlushError → Piece → Option Piece → Type 0
-Flushes held old (Ok _) new taken = taken ≡ Some (with_more old.bytes old.handles held)
-Flushes held old (Err e) new taken = (n : ℕ) × (n < length old.bytes) × (taken ≡ Some (sent_front n old held)) × (new ≡ unsent_after n old)
+abbrev pub GoesOut : Piece → Piece → Result (Unit {0}) FlushError → Piece → Option Piece → Type 0
+GoesOut held old (Ok _) new taken = taken ≡ Some (with_more old.bytes old.handles held)
+GoesOut held old (Err e) new taken = (n : ℕ) × (n < length old.bytes) × (taken ≡ Some (sent_front n old held)) × (new ≡ unsent_after n old)
+
+-- what is put is left of what waits, behind so many of its bytes: at least one byte
+pub record IsLeftOf (waiting put : Piece) : Type 0 where
+  pub n : ℕ
+  pub some : n < length waiting.bytes
+  pub is : put ≡ unsent_after n waiting
+
+-- behind these puts come others, each of what was left of this
+pub record PutsOf (waiting : Piece) (puts : List Piece) (after : Option (List Piece)) : Type 0 where
+  pub more : List Piece
+  pub grown : after ≡ Some (puts ++ more)
+  pub each : All (IsLeftOf waiting) more
+
+-- where a sink told what was put to it, it was put nothing but what was left of this at each call
+abbrev pub IsPutOf : Piece → Option (List Piece) → Option (List Piece) → Type 0
+IsPutOf waiting before after = (puts : List Piece) → before ≡ Some puts → PutsOf waiting puts after
+
+-- What went to the sink of what waited: where it told what it held, all or a front of that is behind it; and at each call it was put
+-- what was left.
+pub record Went (old : Piece) (result : Result (Unit {0}) FlushError) (new : Piece) (before after : SinkView) : Type 0 where
+  pub took : (held : Piece) → before.taken ≡ Some held → GoesOut held old result new after.taken
+  pub puts : IsPutOf old before.puts after.puts
+
+-- What flushing does with what waits. The sink is put nothing else, and where nothing waits it isn't called, and nothing changes.
+pub record Flushes {K : Type 0} (view : K → SinkView) (later : K → K → Type 0) (result : Result (Unit {0}) FlushError) (old new : Piece) (before after : K) : Type 0 where
+  pub stops : StopsAfter old result new
+  pub went : Went old result new (view before) (view after)
+  pub nothing : old.bytes ≡ [] → IsOk result × (new ≡ old) × (after ≡ before)
+  pub lent : LentSinkWants view later (IsErrOf result flush_error.WriteFault) (IsErrOf result flush_error.NoMemory) before after

@@ -16,6 +16,11 @@ use Rattle.ei_spec.specs.declared.limits.TheConstants.{MOST_PIECE_BYTES, MOST_PI
 abbrev pub Rose : ℕ → ℕ → Type 0
 Rose before now = min (before + 1) (2 ^ 64 - 1) ≤ now
 
+-- a call was counted: once, or not at the last value
+pub record CountsOne (before now : ℕ) : Type 0 where
+  pub rose : Rose before now
+  pub once : now ≤ before + 1
+
 -- the count of faults has not fallen: it goes up with a fault, and with no other answer
 pub record HasCause {T : Type 0} (before now : ℕ) (result : Result T Fault) : Type 0 where
   pub later : before ≤ now
@@ -42,14 +47,40 @@ pub record IsPieceSize (taken : Taken) : Type 0 where
   pub handles : taken.handles ≤ MOST_PIECE_HANDLES
   pub none : taken.bytes ≡ 0 → taken.handles ≡ 0
 
--- what a source says of its pieces: those that it has left, where it tells them, and those that it gave so far
+-- ---- what one says of itself
+
+-- a source: the pieces that it has left, where it tells them, and those that it gave so far, one after another; how often it
+-- failed, and how often it was asked; and what it answered last
 pub record SourceView : Type 0 where
   pub left : Option (List Piece)
   pub given : List Piece
+  pub faults : ℕ
+  pub asked : ℕ
+  pub last : LastAnswer
 
--- what it says, by its members
-abbrev pub source_view : {S : Type 0} → (S → Option (List Piece)) → (S → List Piece) → S → SourceView
-source_view left given s = record { left = left s; given = given s }
+-- a sink: what it took, as one piece, where it tells it; what was put to it at each call, one after another, taken or not, where it
+-- tells that; how often it failed, and how often it wanted memory
+pub record SinkView : Type 0 where
+  pub taken : Option Piece
+  pub puts : Option (List Piece)
+  pub faults : ℕ
+  pub wants : ℕ
+
+-- an input: the text that it has left, where it tells it, and the bytes that it gave so far, one after another; how often it
+-- failed, and how often it was asked; and what it answered last
+pub record InputView : Type 0 where
+  pub left : Option (List ℕ)
+  pub given : List ℕ
+  pub faults : ℕ
+  pub asked : ℕ
+  pub last : LastAnswer
+
+-- a clock: the readings that it has left, where it tells them, and how often it failed
+pub record ClockView : Type 0 where
+  pub left : Option (List ℕ)
+  pub faults : ℕ
+
+-- ---- a source's take
 
 -- the piece that was handed out
 abbrev pub piece_of : Taken → List ℕ → List Handle → Piece
@@ -86,6 +117,16 @@ abbrev pub last_of : Result Taken Fault → LastAnswer
 last_of (Err e) = answers.Fault
 last_of (Ok taken) = answer_at taken.bytes
 
+-- what a take does to what the source says
+pub record IsTake (old new : SourceView) (result : Result Taken Fault) (bytes : List ℕ) (handles : List Handle) : Type 0 where
+  pub pieces : TakesTold old.left new.left result bytes handles
+  pub given : GivesPiece old.given new.given result bytes handles
+  pub cause : HasCause old.faults new.faults result
+  pub asked : CountsOne old.asked new.asked
+  pub last : new.last ≡ last_of result
+
+-- ---- a sink's put
+
 -- what is held, with more behind it
 abbrev pub with_more : List ℕ → List Handle → Piece → Piece
 with_more bytes handles held = record { bytes = held.bytes ++ bytes; handles = held.handles ++ handles }
@@ -95,10 +136,19 @@ abbrev pub Puts : Option Piece → Option Piece → Result ℕ PutError → List
 Puts old new (Ok n) bytes handles = (held : Piece) → old ≡ Some held → new ≡ Some (with_more (take n bytes) handles held)
 Puts old new (Err e) bytes handles = (held : Piece) → old ≡ Some held → new ≡ Some held
 
+-- what a put does to what the sink says
+pub record IsPut (old new : SinkView) (result : Result ℕ PutError) (bytes : List ℕ) (handles : List Handle) : Type 0 where
+  pub taken : Puts old.taken new.taken result bytes handles
+  pub puts : (puts : List Piece) → old.puts ≡ Some puts → new.puts ≡ Some (puts ++ record { bytes = bytes; handles = handles } ∷ [])
+  pub cause : HasPutCause old.faults new.faults result
+  pub want : HasPutWant old.wants new.wants result
+
 -- at least one byte of some
 pub record IsPutSize (n : ℕ) (bytes : List ℕ) : Type 0 where
   pub at_most : n ≤ length bytes
   pub at_least : 0 < length bytes → 0 < n
+
+-- ---- an input's fetch
 
 -- the next bytes of a text
 pub record ReadsOn (text : List ℕ) (new : Option (List ℕ)) (n : ℕ) (bytes : List ℕ) : Type 0 where
@@ -122,12 +172,27 @@ abbrev pub last_fetched : Result ℕ Fault → LastAnswer
 last_fetched (Err e) = answers.Fault
 last_fetched (Ok n) = answer_at n
 
+-- what a fetch does to what the input says
+pub record IsFetch (old new : InputView) (result : Result ℕ Fault) (bytes : List ℕ) : Type 0 where
+  pub text : Fetches old.left new.left result bytes
+  pub given : Gives old.given new.given result bytes
+  pub cause : HasCause old.faults new.faults result
+  pub asked : CountsOne old.asked new.asked
+  pub last : new.last ≡ last_fetched result
+
 -- whether the last answer was the end
 abbrev pub is_end : LastAnswer → Bool
 is_end answers.End = true
 is_end answer = false
 
+-- ---- a clock's reading
+
 -- the first reading, or 0 behind the last
 pub record ReadsClock (readings : List ℕ) (new : Option (List ℕ)) (reading : ℕ) : Type 0 where
   pub is : reading ≡ slice_index readings 0
   pub left : new ≡ Some (drop 1 readings)
+
+-- what a reading does to what the clock says
+pub record IsReading (old new : ClockView) (reading : ℕ) : Type 0 where
+  pub told : (readings : List ℕ) → old.left ≡ Some readings → ReadsClock readings new.left reading
+  pub faults : old.faults ≤ new.faults

@@ -1,11 +1,10 @@
 -- How the ring of unread bytes grows.
 use Rattle.std.specs.Prelude.{ℕ, zero, suc, ◌+◌, ◌*◌, nat_lt, if◌then◌else◌}
-use Rattle.ei_backend.specs.declared.ring.TheConstants.{FIRST_CAPACITY}
 use Rattle.ei_spec.specs.declared.limits.TheConstants.{MOST_PIECE_BYTES}
 
 -- the bytes that a new ring holds
 abbrev pub first_capacity : ℕ
-first_capacity = FIRST_CAPACITY
+first_capacity = 131072
 
 -- the first of capacity, its double, the double of that and so on that is at least wanted, after at most k doublings
 unfoldable pub doubled : ℕ → ℕ → ℕ → ℕ

@@ -5,10 +5,9 @@ ghost use Rattle.ei_spec.specs.Interface.{bytes_of};
 ghost use Rattle.ei_backend.specs.Object.{interface_view, HasFixedName};
 ghost use Rattle.ei_backend.specs.Announcement.{announced_as, interface_of, version_of, side_of, known_in};
 
-use crate::interface::InterfaceName;
+use crate::interface::{InterfaceName, OtherName};
 use ei_spec::KnownInterface;
-use std::alloc::{AllocError, Global};
-use std::rc::RcStr;
+use std::alloc::AllocError;
 
 /// What an object was announced as, and at which end. It has 16 bytes: what both forms have stands at one place in them.
 #[derive(Drop)]
@@ -23,7 +22,7 @@ pub(crate) enum Announcement {
     Other {
         client_side: bool,
         version: u32,
-        name: RcStr<Global>,
+        name: OtherName,
     },
 }
 

@@ -12,10 +12,8 @@ ghost use Rattle.ei_wire.specs.declared.error.FlushError.TheVariants as flush_er
 ghost use Rattle.ei_backend.specs.declared.outside.LastAnswer.TheVariants as answers;
 ghost use Rattle.ei_backend.specs.Object.{interface_view, HasFixedName};
 ghost use Rattle.ei_backend.specs.Table.{Announced, new_table, first_object, first_server_id, found, accept, own, own_end, own_start, own_limit};
-ghost use Rattle.ei_backend.specs.Outside.{Piece, source_view};
-ghost use Rattle.ei_backend.specs.Lent.{LentSource, LentSinkWants};
-ghost use Rattle.ei_backend.specs.Outgoing.{nothing, StopsAfter, Flushes, HasRoomFor};
-ghost use Rattle.ei_backend.specs.Backend.{new_backend, ReadsOn, next, Answers, Brings, Shortens, sent, sent_new, with_object, with_room};
+ghost use Rattle.ei_backend.specs.Outgoing.{nothing, Flushes, HasRoomFor};
+ghost use Rattle.ei_backend.specs.Backend.{new_backend, Reads, next, Answers, Brings, Shortens, sent, sent_new, with_object, with_room};
 ghost use Rattle.ei_backend.specs.Backend.{body_read, Says, removed, closed_of, unsent_of, with_unsent};
 ghost use Rattle.ei_spec.specs.declared.limits.TheConstants.{MOST_MESSAGE_BYTES, MOST_PIECE_BYTES};
 
@@ -99,20 +97,7 @@ impl Backend {
     /// source failed; `HandleLimit` exactly where more than 4096 handles would be unread: the piece is
     /// dropped and the endpoint closed.
     pub fn read<S: Source>(&mut self, source: &mut S) -> Result<usize, ReadError>
-        // on a closed endpoint
-        ensures closed { self.old.closed ≡ true → IsErrOf result read_error.UnexpectedEof }
-        ensures closed_kept { self.old.closed ≡ true → self.new ≡ self.old }
-        ensures closed_source { self.old.closed ≡ true → source.new ≡ source.old }
-        // on an open one
-        ensures reads { self.old.closed ≡ false →
-            ReadsOn (source_view S.left S.given source.old) (source_view S.left S.given source.new) result self.old self.new }
-        // what the source says
-        ensures memory { IsErrOf result read_error.NoMemory → source.new ≡ source.old }
-        ensures room { length self.old.unread + MOST_PIECE_BYTES ≤ self.old.capacity → IsErrOf result read_error.NoMemory → ⊥ }
-        ensures last_piece { OnOk result (S.last source.new ≡ answers.Piece) }
-        ensures last_limit { IsErrOf result read_error.HandleLimit → S.last source.new ≡ answers.Piece }
-        ensures source { LentSource S.faults S.last S.later (IsErrOf result read_error.ReadFault)
-            ((self.old.closed ≡ false) × IsErrOf result read_error.UnexpectedEof) source.old source.new }
+        ensures reads { Reads S.view S.later result self.old self.new source.old source.new }
     {
         if self.closed {
             return Err(ReadError::UnexpectedEof);
@@ -128,16 +113,8 @@ impl Backend {
     /// `WriteFault` where the sink failed, `NoMemory` where it wants memory. Where nothing waits the sink
     /// isn't asked.
     pub fn flush<K: Sink>(&mut self, sink: &mut K) -> Result<(), FlushError>
-        ensures stops { StopsAfter (unsent_of self.old) result (unsent_of self.new) }
-        ensures took { (held : Piece) → K.taken sink.old ≡ Some held → Flushes held (unsent_of self.old) result (unsent_of self.new) (K.taken sink.new) }
+        ensures flushes { Flushes K.view K.later result (unsent_of self.old) (unsent_of self.new) sink.old sink.new }
         ensures kept { self.new ≡ with_unsent (unsent_of self.new) self.old }
-        // where nothing waits
-        ensures nothing { self.old.unsent ≡ [] → IsOk result }
-        ensures nothing_kept { self.old.unsent ≡ [] → self.new ≡ self.old }
-        ensures nothing_put { self.old.unsent ≡ [] → sink.new ≡ sink.old }
-        // what the sink says
-        ensures sink { LentSinkWants K.faults K.wants K.later (IsErrOf result flush_error.WriteFault) (IsErrOf result flush_error.NoMemory)
-            sink.old sink.new }
     {
         self.outgoing.flush(sink)
     }
@@ -187,10 +164,12 @@ impl Backend {
         args: &[Arg<'_>],
     ) -> Result<(), SendError>
         ensures ok { OnOk result (self.new ≡ sent self.old object_id opcode (map value_of_arg args.now)) }
-        ensures long { IsErrOf result send_error.MessageTooLong ↔ (MOST_MESSAGE_BYTES < size (message object_id opcode (map value_of_arg args.now))) }
+        ensures long { IsErrOf result send_error.MessageTooLong ↔
+            (MOST_MESSAGE_BYTES < size (message object_id opcode (map value_of_arg args.now))) }
         ensures not_exhausted { IsErrOf result send_error.IdsExhausted → ⊥ }
         ensures err { OnErr result (self.new ≡ self.old) }
-        ensures room { HasRoomFor object_id opcode (map value_of_arg args.now) (unsent_of self.old) self.old.room → IsErrOf result send_error.NoMemory → ⊥ }
+        ensures room { HasRoomFor object_id opcode (map value_of_arg args.now) (unsent_of self.old) self.old.room →
+            IsErrOf result send_error.NoMemory → ⊥ }
     {
         self.outgoing.send(object_id, opcode, args)
     }
@@ -209,13 +188,16 @@ impl Backend {
         version: u32,
     ) -> Result<Object, SendError>
         ensures ok { IfOk result (λ o. (o ≡ own self.old.table (interface_view interface) version)
-            × (self.new ≡ sent_new self.old object_id opcode (map value_of_arg args.now) (interface_view interface) version)) }
-        ensures exhausted { IsErrOf result send_error.IdsExhausted ↔ (own_end self.old.table ≤ self.old.table.next_own) }
+            × (self.new ≡ sent_new self.old object_id opcode (map value_of_arg args.now)
+            (interface_view interface) version)) }
+        ensures exhausted { IsErrOf result send_error.IdsExhausted ↔
+            (own_end self.old.table ≤ self.old.table.next_own) }
         ensures long { IsErrOf result send_error.MessageTooLong ↔ ((self.old.table.next_own < own_end self.old.table)
             × (MOST_MESSAGE_BYTES < size (message object_id opcode (map value_of_arg args.now)))) }
         ensures err { OnErr result (self.new ≡ self.old) }
         ensures room { HasRoomFor object_id opcode (map value_of_arg args.now) (unsent_of self.old) self.old.room
-            → self.old.table.next_own < self.old.table.room → HasFixedName (interface_view interface) → IsErrOf result send_error.NoMemory → ⊥ }
+            → self.old.table.next_own < self.old.table.room → HasFixedName (interface_view interface) →
+            IsErrOf result send_error.NoMemory → ⊥ }
     {
         if self.table.ids_left() == 0 {
             return Err(SendError::IdsExhausted);
@@ -239,10 +221,12 @@ impl Backend {
     ) -> Result<Object, SendError>
         ensures ok { IfOk result (λ o. (o ≡ own self.old.table (interface_view interface) version)
             × (self.new ≡ with_object self.old (interface_view interface) version)) }
-        ensures exhausted { IsErrOf result send_error.IdsExhausted ↔ (own_end self.old.table ≤ self.old.table.next_own) }
+        ensures exhausted { IsErrOf result send_error.IdsExhausted ↔
+            (own_end self.old.table ≤ self.old.table.next_own) }
         ensures err { OnErr result (self.new ≡ self.old) }
         ensures not_long { IsErrOf result send_error.MessageTooLong → ⊥ }
-        ensures room { self.old.table.next_own < self.old.table.room → HasFixedName (interface_view interface) → IsErrOf result send_error.NoMemory → ⊥ }
+        ensures room { self.old.table.next_own < self.old.table.room → HasFixedName (interface_view interface) →
+            IsErrOf result send_error.NoMemory → ⊥ }
     {
         self.table.new_object(interface, version)
     }
@@ -251,7 +235,8 @@ impl Backend {
     ///
     /// `InvalidId` where the id is below the highest one seen plus one, or not the peer's to give.
     pub fn new_peer_object(&mut self, id: u64, interface: InterfaceName, version: u32) -> Accepted
-        ensures read { Gives (λ o. (o, self.new.table)) result (accept self.old.table id (interface_view interface) version) }
+        ensures read { Gives (λ o. (o, self.new.table)) result
+            (accept self.old.table id (interface_view interface) version) }
         ensures announced { IfOk result (λ o. Announced (Some o) self.old.table self.new.table) }
         ensures kept { self.new ≡ record self.old { table = self.new.table } }
         ensures err { OnErr result (self.new ≡ self.old) }

@@ -10,7 +10,7 @@ use std::marker::{Model, PhantomData};
 
 /// What an input that keeps none of its text has given: it takes no memory, and noting bytes takes no time.
 ///
-/// A field of this type in an implementation of `Input` is what its member `given` reads.
+/// A field of this type in an implementation of `Input` is what its view has as `given`.
 #[derive(Drop)]
 pub struct Given {
     marker: PhantomData<u8>,
@@ -39,7 +39,7 @@ impl Given {
 
 /// What a source that keeps none of its pieces has given: it takes no memory, and noting a piece takes no time.
 ///
-/// A field of this type in an implementation of `Source` is what its member `given` reads.
+/// A field of this type in an implementation of `Source` is what its view has as `given`.
 #[derive(Drop)]
 pub struct GivenPieces {
     marker: PhantomData<u8>,
@@ -66,9 +66,38 @@ impl GivenPieces {
     {}
 }
 
+/// What was put to a sink at each call, taken or not: it takes no memory, and noting a call takes no time.
+///
+/// A field of this type in an implementation of `Sink` is what its view has as `puts`.
+#[derive(Drop)]
+pub struct PutPieces {
+    marker: PhantomData<u8>,
+    pub ghost pieces: { List Piece },
+}
+
+impl Model for PutPieces {
+    ghost also_owns = { λ _. ftrue };
+}
+
+impl PutPieces {
+    /// Nothing was put yet.
+    pub fn new() -> PutPieces
+        ensures { result.pieces ≡ [] }
+    {
+        PutPieces {
+            marker: PhantomData,
+        }
+    }
+
+    /// These bytes and handles were put, behind what was put before.
+    pub fn note(&mut self, _bytes: &[u8], _handles: &[Handle])
+        ensures { self.new.pieces ≡ self.old.pieces ++ record { bytes = _bytes.now; handles = _handles.now } ∷ [] }
+    {}
+}
+
 /// What a sink that keeps none of it has taken, as one piece: it takes no memory, and noting bytes and handles takes no time.
 ///
-/// A field of this type in an implementation of `Sink` is what its member `taken` reads.
+/// A field of this type in an implementation of `Sink` is what its view has as `taken`.
 #[derive(Drop)]
 pub struct TakenPiece {
     marker: PhantomData<u8>,

@@ -3,9 +3,7 @@
 ghost use Rattle.std.specs.Prelude.{◌≡◌, ◌≤◌, ◌+◌, ◌-◌, ◌++◌, min, take, ℕ, List, length, vec_len, Option, None, OnOk, OnErr, IfOk, Ok, Err, Some, IsErrOf};
 ghost use Rattle.circular_buffer.specs.Buffer.{buffer};
 ghost use Rattle.ei_wire.specs.declared.error.ReadError.TheVariants as read_error;
-ghost use Rattle.ei_backend.specs.Outside.{source_view};
 ghost use Rattle.ei_backend.specs.Lent.{LentSource};
-ghost use Rattle.ei_backend.specs.declared.outside.LastAnswer.TheVariants as answers;
 ghost use Rattle.ei_backend.specs.Incoming.{none_unread, ReadsIn};
 ghost use Rattle.ei_spec.specs.declared.limits.TheConstants.{MOST_PIECE_BYTES};
 
@@ -39,7 +37,8 @@ impl Model for Incoming {
 
     ghost view = { λ i. record { bytes = i.bytes.items; handles = i.handles.items; capacity = i.bytes.capacity } };
 
-    ghost invariant = { λ i. (vec_len i.room ≡ MOST_PIECE_BYTES) × (vec_len i.handle_room ≡ MOST_PIECE_HANDLES) × (i.handles.capacity ≡ MOST_UNREAD_HANDLES) };
+    ghost invariant = { λ i. (vec_len i.room ≡ MOST_PIECE_BYTES) × (vec_len i.handle_room ≡ MOST_PIECE_HANDLES) ×
+        (i.handles.capacity ≡ MOST_UNREAD_HANDLES) };
 }
 
 fn zeroed(alloc: Global, count: usize) -> Result<Vec<u8>, NoMemory>
@@ -99,12 +98,12 @@ impl Incoming {
     /// `NoMemory` before the source is asked, and only where the ring has to grow; `ReadFault` where the source failed; `UnexpectedEof` at its
     /// end; `HandleLimit` where more than 4096 handles would be unread: the piece is dropped.
     pub(crate) fn read<S: Source>(&mut self, source: &mut S) -> Result<usize, ReadError>
-        ensures reads { ReadsIn (source_view S.left S.given source.old) (source_view S.left S.given source.new) result self.old self.new }
+        ensures reads { ReadsIn (S.view source.old) (S.view source.new) result self.old self.new }
         ensures memory { IsErrOf result read_error.NoMemory → source.new ≡ source.old }
-        ensures room { length self.old.bytes + MOST_PIECE_BYTES ≤ self.old.capacity → IsErrOf result read_error.NoMemory → ⊥ }
-        ensures last_piece { OnOk result (S.last source.new ≡ answers.Piece) }
-        ensures last_limit { IsErrOf result read_error.HandleLimit → S.last source.new ≡ answers.Piece }
-        ensures source { LentSource S.faults S.last S.later (IsErrOf result read_error.ReadFault) (IsErrOf result read_error.UnexpectedEof)
+        ensures room { length self.old.bytes + MOST_PIECE_BYTES ≤ self.old.capacity →
+            IsErrOf result read_error.NoMemory → ⊥ }
+        ensures source { LentSource S.view S.later (IsErrOf result read_error.ReadFault)
+            (IsErrOf result read_error.UnexpectedEof)
             source.old source.new }
     {
         make_room(&mut self.bytes)?;

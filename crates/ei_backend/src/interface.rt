@@ -12,6 +12,7 @@ use ei_spec::KnownInterface;
 use ei_wire::NoMemory;
 use std::alloc::{AllocError, Global};
 use std::hash::{Hash, Hasher};
+use std::marker::Model;
 use std::rc::RcStr;
 
 /// The interface of an object, by its name.
@@ -22,8 +23,47 @@ use std::rc::RcStr;
 pub enum InterfaceName {
     /// One of the interfaces of the protocol.
     Known(KnownInterface),
-    /// Another name, shared by the objects that bear it.
-    Other(RcStr<Global>),
+    /// Another name.
+    Other(OtherName),
+}
+
+/// A name that is none of the protocol's, shared by the objects that bear it.
+#[derive(Debug, Drop)]
+pub struct OtherName {
+    pub(crate) name: RcStr<Global>,
+}
+
+impl Model for OtherName {
+    ghost use Rattle.std.specs.Prelude.{ℕ, List, ◌≡◌, None};
+    ghost use Rattle.std.specs.Rc.{rc_str_bytes};
+    ghost use Rattle.ei_spec.specs.Interface.{known_of};
+
+    ghost Value = { List ℕ };
+
+    ghost view = { λ other. rc_str_bytes other.name };
+
+    ghost invariant = { λ other. known_of (rc_str_bytes other.name) ≡ None };
+}
+
+impl OtherName {
+    /// The name.
+    pub fn as_str(&self) -> &str
+        ensures { result.now ≡ self.now }
+    {
+        self.name.as_str()
+    }
+}
+
+impl Clone for OtherName {
+    ghost is_clone = { λ name copy. copy ≡ name };
+
+    ghost is_infallible = { λ _. ⊥ };
+
+    fn clone(&self) -> Result<OtherName, AllocError> {
+        Ok(OtherName {
+            name: self.name.clone()?,
+        })
+    }
 }
 
 impl InterfaceName {
@@ -36,7 +76,9 @@ impl InterfaceName {
     {
         match KnownInterface::from_name(name) {
             Some(known) => Ok(InterfaceName::Known(known)),
-            None => Ok(InterfaceName::Other(RcStr::from_str(alloc, name)?)),
+            None => Ok(InterfaceName::Other(OtherName {
+                name: RcStr::from_str(alloc, name)?,
+            })),
         }
     }
 
@@ -100,7 +142,8 @@ impl Eq for InterfaceName {
 }
 
 impl Hash for InterfaceName {
-    ghost hash_input = { λ name. fed.str (bytes_of (interface_view name)) ++ fed.bool (is_known (interface_view name)) };
+    ghost hash_input = { λ name. fed.str (bytes_of (interface_view name)) ++
+        fed.bool (is_known (interface_view name)) };
 
     ghost respects_eq = { Prim.search (hashing, rules) };
 

@@ -27,7 +27,7 @@ mod words;
 
 pub use backend::Backend;
 pub use ei_spec::limits::FIRST_SERVER_ID;
-pub use given::{Given, GivenPieces, TakenPiece};
+pub use given::{Given, GivenPieces, PutPieces, TakenPiece};
 pub use has_backend::HasBackend;
 pub use interface::InterfaceName;
 pub use kinds::{Kind, shown_name};

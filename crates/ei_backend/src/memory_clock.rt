@@ -1,7 +1,7 @@
 //! A clock that gives the readings that it was made of.
 
 ghost use Rattle.std.specs.Prelude.{◌≡◌, Some, drop, slice_index, IfOk};
-ghost use Rattle.ei_backend.specs.Memory.{ReadingsView};
+ghost use Rattle.ei_backend.specs.Memory.{clock_of};
 
 use crate::outside::Clock;
 use ei_wire::NoMemory;
@@ -39,9 +39,7 @@ impl Readings {
 }
 
 impl Clock for Readings {
-    ghost readings = { λ s. Some s.left };
-
-    ghost faults = { λ _. 0 };
+    ghost view = { clock_of };
 
     ghost later = { λ _ _. Unit {0} };
 

@@ -1,8 +1,8 @@
 //! A text in memory.
 
 ghost use Rattle.std.specs.Prelude.{◌≡◌, ◌<◌, ◌≤◌, min, [], Some, drop, length, OnOk, OnErr, IfOk, IsErr};
-ghost use Rattle.ei_backend.specs.Outside.{Fetches, Gives, HasCause, last_fetched};
-ghost use Rattle.ei_backend.specs.Memory.{TextView, CountsCall, added, never_failing};
+ghost use Rattle.ei_backend.specs.Outside.{IsFetch};
+ghost use Rattle.ei_backend.specs.Memory.{CountsCall, KeepsFailing, added, never_failing, keeps_failing, keeps_failing_twice, input_of};
 
 use crate::failing::Failing;
 use crate::outside::{Fault, Input, LastAnswer};
@@ -59,27 +59,18 @@ impl MemoryText {
 }
 
 impl Input for MemoryText {
-    ghost text = { λ s. Some s.left };
+    ghost view = { input_of };
 
-    ghost given = { λ s. s.given };
+    ghost later = { λ s t. KeepsFailing s.failing t.failing };
 
-    ghost last = { λ s. s.last };
+    ghost later_refl = { λ s. keeps_failing s.failing };
 
-    ghost faults = { λ s. s.failing.faults };
-
-    ghost later = { λ _ _. Unit {0} };
-
-    ghost later_refl = { λ _. tt };
-
-    ghost later_trans = { λ _ _ _ _ _. tt };
+    ghost later_trans = { λ s t u first second. keeps_failing_twice s.failing t.failing u.failing first second };
 
     fn fetch(&mut self, bytes: &mut [u8]) -> Result<usize, Fault>
         requires { 0 < length bytes.old }
         ensures size { IfOk result (λ n. n ≤ length bytes.new) }
-        ensures text { Fetches (Some self.old.left) (Some self.new.left) result bytes.new }
-        ensures given { Gives self.old.given self.new.given result bytes.new }
-        ensures last { self.new.last ≡ last_fetched result }
-        ensures cause { HasCause self.old.failing.faults self.new.failing.faults result }
+        ensures fetches { IsFetch (input_of self.old) (input_of self.new) result bytes.new }
         // beyond the trait's: which calls fail, and all that there is room for
         ensures counts { CountsCall (IsErr result) self.old.failing self.new.failing }
         ensures whole { IfOk result (λ n. n ≡ min (length self.old.left) (length bytes.old)) }

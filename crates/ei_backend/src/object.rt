@@ -51,7 +51,12 @@ impl Model for Object {
 
 impl Object {
     pub(crate) fn new(id: u64, interface: InterfaceName, version: u32, client_side: bool) -> Object
-        ensures { result ≡ record { id = id; interface = interface_view interface; version = version; client_side = client_side } }
+        ensures { result ≡ record {
+          id = id;
+          interface = interface_view interface;
+          version = version;
+          client_side = client_side;
+        } }
     {
         Object {
             id,
@@ -67,7 +72,12 @@ impl Object {
         version: u32,
         client_side: bool,
     ) -> Object
-        ensures { result ≡ record { id = id; interface = Known interface; version = version; client_side = client_side } }
+        ensures { result ≡ record {
+          id = id;
+          interface = Known interface;
+          version = version;
+          client_side = client_side;
+        } }
     {
         Object {
             id,
@@ -180,11 +190,14 @@ impl Object {
         opcode: u32,
         args: &[Arg<'_>],
     ) -> Result<(), SendError>
-        ensures ok { OnOk result (ctx.new ≡ C.with_backend ctx.old (sent (C.seen ctx.old) self.now.id opcode (map value_of_arg args.now))) }
-        ensures long { IsErrOf result send_error.MessageTooLong ↔ (MOST_MESSAGE_BYTES < size (message self.now.id opcode (map value_of_arg args.now))) }
+        ensures ok { OnOk result (ctx.new ≡ C.with_backend ctx.old
+            (sent (C.seen ctx.old) self.now.id opcode (map value_of_arg args.now))) }
+        ensures long { IsErrOf result send_error.MessageTooLong ↔
+            (MOST_MESSAGE_BYTES < size (message self.now.id opcode (map value_of_arg args.now))) }
         ensures not_exhausted { IsErrOf result send_error.IdsExhausted → ⊥ }
         ensures err { OnErr result (ctx.new ≡ ctx.old) }
-        ensures room { HasRoomFor self.now.id opcode (map value_of_arg args.now) (unsent_of (C.seen ctx.old)) (C.seen ctx.old).room
+        ensures room { HasRoomFor self.now.id opcode (map value_of_arg args.now) (unsent_of (C.seen ctx.old))
+            (C.seen ctx.old).room
             → IsErrOf result send_error.NoMemory → ⊥ }
     {
         ctx.backend_mut().request(self.id, opcode, args)

@@ -10,7 +10,7 @@ ghost use Rattle.ei_wire.specs.declared.error.FlushError.TheVariants as flush_er
 ghost use Rattle.ei_backend.specs.Outside.{Piece, with_more};
 ghost use Rattle.ei_backend.specs.Lent.{LentSinkWants};
 ghost use Rattle.ei_backend.specs.Outgoing.{Appends, nothing, no_room, more_room, HasRoomFor, args_body, args_handles};
-ghost use Rattle.ei_backend.specs.Outgoing.{with_message, beside, kept_beside, StopsAfter, Flushes};
+ghost use Rattle.ei_backend.specs.Outgoing.{with_message, beside, kept_beside, IsPutOf, Flushes};
 
 use crate::outside::{PutError, Sink};
 use crate::words::{MOST_WORDS, words_of, write_words};
@@ -43,7 +43,8 @@ impl Model for Outgoing {
 
     ghost view = { λ o. buffered o.bytes.items o.handles.items o.room_bytes o.room_handles };
 
-    ghost invariant = { λ o. IsKept (buffered o.bytes.items o.handles.items o.room_bytes o.room_handles) (vec_capacity o.bytes) (vec_capacity o.handles) };
+    ghost invariant = { λ o. IsKept (buffered o.bytes.items o.handles.items o.room_bytes o.room_handles)
+        (vec_capacity o.bytes) (vec_capacity o.handles) };
 }
 
 impl Outgoing {
@@ -72,7 +73,8 @@ impl Outgoing {
 
     /// Makes room for so many more bytes and handles: to write them takes no memory.
     pub(crate) fn reserve(&mut self, bytes: usize, handles: usize) -> Result<(), NoMemory>
-        ensures ok { OnOk result (self.new ≡ record self.old { room = more_room bytes handles self.old.waiting self.old.room }) }
+        ensures ok { OnOk result
+            (self.new ≡ record self.old { room = more_room bytes handles self.old.waiting self.old.room }) }
         ensures err { OnErr result (self.new ≡ self.old) }
     {
         self.bytes.reserve(bytes)?;
@@ -95,7 +97,10 @@ impl Outgoing {
     pub(crate) fn cut_back(&mut self, mark: (usize, usize))
         requires { mark.0 ≡ 0 → mark.1 ≡ 0 }
         ensures { self.new ≡ record self.old {
-          waiting = record { bytes = take mark.0 self.old.waiting.bytes; handles = take mark.1 self.old.waiting.handles };
+          waiting = record {
+            bytes = take mark.0 self.old.waiting.bytes;
+            handles = take mark.1 self.old.waiting.handles;
+          };
         } }
     {
         self.bytes.truncate(mark.0);
@@ -113,11 +118,16 @@ impl Outgoing {
         opcode: u32,
         args: &[Arg<'_>],
     ) -> Result<(), SendError>
-        ensures ok { OnOk result (self.new ≡ record self.old { waiting = with_message object_id opcode (map value_of_arg args.now) self.old.waiting }) }
-        ensures long { (result ≡ Err send_error.MessageTooLong) ↔ (MOST_MESSAGE_BYTES < size (message object_id opcode (map value_of_arg args.now))) }
+        ensures ok { OnOk result (self.new ≡ record self.old {
+          waiting = with_message object_id opcode
+              (map value_of_arg args.now) self.old.waiting;
+        }) }
+        ensures long { (result ≡ Err send_error.MessageTooLong) ↔
+            (MOST_MESSAGE_BYTES < size (message object_id opcode (map value_of_arg args.now))) }
         ensures not_exhausted { IsErrOf result send_error.IdsExhausted → ⊥ }
         ensures err { OnErr result (self.new ≡ self.old) }
-        ensures room { HasRoomFor object_id opcode (map value_of_arg args.now) self.old.waiting self.old.room → IsErrOf result send_error.NoMemory → ⊥ }
+        ensures room { HasRoomFor object_id opcode (map value_of_arg args.now) self.old.waiting self.old.room →
+            IsErrOf result send_error.NoMemory → ⊥ }
     {
         let mut words = [0; MOST_WORDS];
         match words_of(args, &mut words) {
@@ -129,16 +139,8 @@ impl Outgoing {
     /// Puts all that waits into the sink, all handles with the first bytes. After a refusal the rest waits,
     /// which is at least a byte.
     pub(crate) fn flush<K: Sink>(&mut self, sink: &mut K) -> Result<(), FlushError>
-        ensures stops { StopsAfter self.old.waiting result self.new.waiting }
-        ensures took { (held : Piece) → K.taken sink.old ≡ Some held → Flushes held self.old.waiting result self.new.waiting (K.taken sink.new) }
+        ensures flushes { Flushes K.view K.later result self.old.waiting self.new.waiting sink.old sink.new }
         ensures kept { self.new.room ≡ self.old.room }
-        // where nothing waits
-        ensures nothing { self.old.waiting.bytes ≡ [] → IsOk result }
-        ensures nothing_kept { self.old.waiting.bytes ≡ [] → self.new ≡ self.old }
-        ensures nothing_put { self.old.waiting.bytes ≡ [] → sink.new ≡ sink.old }
-        // what the sink says
-        ensures sink { LentSinkWants K.faults K.wants K.later (IsErrOf result flush_error.WriteFault) (IsErrOf result flush_error.NoMemory)
-            sink.old sink.new }
     {
         if self.bytes.is_empty() {
             return Ok(());
@@ -149,11 +151,9 @@ impl Outgoing {
     /// The same, where something waits.
     #[inline(never)]
     fn put_waiting<K: Sink>(&mut self, sink: &mut K) -> Result<(), FlushError>
-        ensures stops { StopsAfter self.old.waiting result self.new.waiting }
-        ensures took { (held : Piece) → K.taken sink.old ≡ Some held → Flushes held self.old.waiting result self.new.waiting (K.taken sink.new) }
+        requires some { 0 < length self.old.waiting.bytes }
+        ensures flushes { Flushes K.view K.later result self.old.waiting self.new.waiting sink.old sink.new }
         ensures kept { self.new.room ≡ self.old.room }
-        ensures sink { LentSinkWants K.faults K.wants K.later (IsErrOf result flush_error.WriteFault) (IsErrOf result flush_error.NoMemory)
-            sink.old sink.new }
     {
         let (done, put) = put_all(sink, &self.bytes, &self.handles);
         drop_front(&mut self.bytes, done);
@@ -220,14 +220,16 @@ fn write_message(
     opcode: u32,
     args: &[Arg<'_>],
 ) -> Result<(), SendError>
-    ensures bytes { OnOk result (bytes.new.items ≡ bytes.old.items ++ bytes_of (message object_id opcode (map value_of_arg args.now))) }
+    ensures bytes { OnOk result (bytes.new.items ≡ bytes.old.items ++
+        bytes_of (message object_id opcode (map value_of_arg args.now))) }
     ensures handles { OnOk result (handles.new.items ≡ handles.old.items ++ args_handles args.now) }
     ensures long { (result ≡ Err send_error.MessageTooLong) ↔ (1048560 < length (args_body args.now)) }
     ensures not_exhausted { IsErrOf result send_error.IdsExhausted → ⊥ }
     ensures err { OnErr result (bytes.new.items ≡ bytes.old.items) }
     ensures err_handles { OnErr result (handles.new.items ≡ handles.old.items) }
     ensures room { vec_len bytes.old + (16 + length (args_body args.now)) ≤ vec_capacity bytes.old
-        → vec_len handles.old + length (args_handles args.now) ≤ vec_capacity handles.old → IsErrOf result send_error.NoMemory → ⊥ }
+        → vec_len handles.old + length (args_handles args.now) ≤ vec_capacity handles.old →
+        IsErrOf result send_error.NoMemory → ⊥ }
     ensures capacity { vec_capacity bytes.old ≤ vec_capacity bytes.new }
     ensures handle_capacity { vec_capacity handles.old ≤ vec_capacity handles.new }
 {
@@ -259,11 +261,12 @@ fn put_all<K: Sink>(
 ) -> (usize, Result<(), FlushError>)
     ensures ok { OnOk result.1 (result.0 ≡ length bytes.now) }
     ensures left { OnErr result.1 (result.0 < length bytes.now) }
-    ensures took { (held : Piece) → K.taken sink.old ≡ Some held
-        → K.taken sink.new ≡ Some (with_more (take result.0 bytes.now) (beside result.0 handles.now) held) }
-    ensures nothing { bytes.now ≡ [] → IsOk result.1 }
-    ensures nothing_put { bytes.now ≡ [] → sink.new ≡ sink.old }
-    ensures sink { LentSinkWants K.faults K.wants K.later (IsErrOf result.1 flush_error.WriteFault) (IsErrOf result.1 flush_error.NoMemory)
+    ensures took { (held : Piece) → (K.view sink.old).taken ≡ Some held
+        → (K.view sink.new).taken ≡ Some (with_more (take result.0 bytes.now) (beside result.0 handles.now) held) }
+    ensures puts { IsPutOf (record { bytes = bytes.now; handles = handles.now }) (K.view sink.old).puts
+        (K.view sink.new).puts }
+    ensures sink { LentSinkWants K.view K.later (IsErrOf result.1 flush_error.WriteFault)
+        (IsErrOf result.1 flush_error.NoMemory)
         sink.old sink.new }
 {
     let mut done = 0;

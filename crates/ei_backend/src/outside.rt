@@ -1,14 +1,13 @@
 //! The traits of the outside: where pieces come from, where bytes go, a text and a clock.
 //!
-//! What a type tells of itself is optional: a source may tell the pieces that it has left, a sink what
-//! it took. What it gave, every source and every input says. Each counts its faults: the count goes up with
-//! each fault, unless it stands at its last value, and stays at every other answer. A sink counts its wants of
-//! memory in the same way. Each has a relation "later" between two of its values, which every call keeps.
+//! Each has one view, which says all that it tells of itself, and a relation "later" between two of its values, which every call
+//! keeps. What it has left, and what it took or was put, is told or not, as the type likes. What it gave, every source and every
+//! input says. Each counts its faults: the count goes up with each fault, unless it stands at its last value, and
+//! stays at every other answer. A sink counts its wants of memory in the same way, a source and an input their calls.
 
-ghost use Rattle.std.specs.Prelude.{◌≡◌, ◌<◌, ◌≤◌, List, ℕ, Option, Some, length, IfOk};
-ghost use Rattle.ei_backend.specs.declared.outside.LastAnswer.{LastAnswer};
-ghost use Rattle.ei_backend.specs.Outside.{Piece, HasCause, HasPutCause, HasPutWant, IsPieceSize, TakesTold, GivesPiece, last_of, Puts, IsPutSize};
-ghost use Rattle.ei_backend.specs.Outside.{answer_at, Fetches, Gives, last_fetched, ReadsClock};
+ghost use Rattle.std.specs.Prelude.{◌≡◌, ◌<◌, ◌≤◌, length, IfOk};
+ghost use Rattle.ei_backend.specs.Outside.{SourceView, SinkView, InputView, ClockView, IsPieceSize, IsTake, IsPutSize, IsPut, IsFetch, IsReading};
+ghost use Rattle.ei_backend.specs.Outside.{answer_at};
 ghost use Rattle.ei_spec.specs.declared.limits.TheConstants.{MOST_PIECE_BYTES, MOST_PIECE_HANDLES};
 
 use ei_spec::Handle;
@@ -59,17 +58,8 @@ impl LastAnswer {
 
 /// Where pieces of bytes and handles come from.
 pub trait Source {
-    /// The pieces left, where it tells them.
-    ghost left: { Self → Option (List Piece) };
-
-    /// The pieces that it gave so far, one after another.
-    ghost given: { Self → List Piece };
-
-    /// How often it failed.
-    ghost faults: { Self → ℕ };
-
-    /// What it answered last.
-    ghost last: { Self → LastAnswer };
+    /// What it says of itself: its pieces, its faults, how often it was asked, and its last answer.
+    ghost view: { Self → SourceView };
 
     /// The second may come of the first by calls of this trait.
     ghost later: { Self → Self → Type 0 };
@@ -82,10 +72,7 @@ pub trait Source {
         requires room { MOST_PIECE_BYTES ≤ length bytes.old }
         requires handle_room { MOST_PIECE_HANDLES ≤ length handles.old }
         ensures size { IfOk result IsPieceSize }
-        ensures pieces { TakesTold (left self.old) (left self.new) result bytes.new handles.new }
-        ensures given { GivesPiece (given self.old) (given self.new) result bytes.new handles.new }
-        ensures cause { HasCause (faults self.old) (faults self.new) result }
-        ensures last { last self.new ≡ last_of result }
+        ensures takes { IsTake (view self.old) (view self.new) result bytes.new handles.new }
         ensures later { later self.old self.new };
 
     ghost later_refl: { (x : Self) → later x x };
@@ -95,14 +82,8 @@ pub trait Source {
 
 /// Where bytes and handles go.
 pub trait Sink {
-    /// What it took, where it tells it.
-    ghost taken: { Self → Option Piece };
-
-    /// How often it failed.
-    ghost faults: { Self → ℕ };
-
-    /// How often it wanted memory.
-    ghost wants: { Self → ℕ };
+    /// What it says of itself: what it took, what was put to it at each call, its faults and its wants of memory.
+    ghost view: { Self → SinkView };
 
     /// The second may come of the first by calls of this trait.
     ghost later: { Self → Self → Type 0 };
@@ -113,9 +94,7 @@ pub trait Sink {
     /// `Fault` where the sink failed, `NoMemory` where it wants memory; then it took nothing.
     fn put(&mut self, bytes: &[u8], handles: &[Handle]) -> Result<usize, PutError>
         ensures size { IfOk result (λ n. IsPutSize n bytes.now) }
-        ensures taken { Puts (taken self.old) (taken self.new) result bytes.now handles.now }
-        ensures cause { HasPutCause (faults self.old) (faults self.new) result }
-        ensures want { HasPutWant (wants self.old) (wants self.new) result }
+        ensures puts { IsPut (view self.old) (view self.new) result bytes.now handles.now }
         ensures later { later self.old self.new };
 
     ghost later_refl: { (x : Self) → later x x };
@@ -125,17 +104,8 @@ pub trait Sink {
 
 /// A text that comes in parts.
 pub trait Input {
-    /// The text left, where it tells it.
-    ghost text: { Self → Option (List ℕ) };
-
-    /// The bytes that it gave so far, one after another.
-    ghost given: { Self → List ℕ };
-
-    /// What it answered last.
-    ghost last: { Self → LastAnswer };
-
-    /// How often it failed.
-    ghost faults: { Self → ℕ };
+    /// What it says of itself: its text, its faults, how often it was asked, and its last answer.
+    ghost view: { Self → InputView };
 
     /// The second may come of the first by calls of this trait.
     ghost later: { Self → Self → Type 0 };
@@ -147,10 +117,7 @@ pub trait Input {
     fn fetch(&mut self, bytes: &mut [u8]) -> Result<usize, Fault>
         requires { 0 < length bytes.old }
         ensures size { IfOk result (λ n. n ≤ length bytes.new) }
-        ensures text { Fetches (text self.old) (text self.new) result bytes.new }
-        ensures given { Gives (given self.old) (given self.new) result bytes.new }
-        ensures last { last self.new ≡ last_fetched result }
-        ensures cause { HasCause (faults self.old) (faults self.new) result }
+        ensures fetches { IsFetch (view self.old) (view self.new) result bytes.new }
         ensures later { later self.old self.new };
 
     ghost later_refl: { (x : Self) → later x x };
@@ -160,19 +127,15 @@ pub trait Input {
 
 /// A clock, in microseconds.
 pub trait Clock {
-    /// The readings left, where it tells them.
-    ghost readings: { Self → Option (List ℕ) };
-
-    /// How often it failed.
-    ghost faults: { Self → ℕ };
+    /// What it says of itself: its readings and its faults.
+    ghost view: { Self → ClockView };
 
     /// The second may come of the first by calls of this trait.
     ghost later: { Self → Self → Type 0 };
 
     /// The next reading.
     fn now(&mut self) -> u64
-        ensures reading { (told : List ℕ) → readings self.old ≡ Some told → ReadsClock told (readings self.new) result }
-        ensures cause { faults self.old ≤ faults self.new }
+        ensures reads { IsReading (view self.old) (view self.new) result }
         ensures later { later self.old self.new };
 
     ghost later_refl: { (x : Self) → later x x };

@@ -1,8 +1,8 @@
 //! A source of the pieces that were pushed.
 
 ghost use Rattle.std.specs.Prelude.{◌≡◌, ◌<◌, ◌≤◌, [], ◌∷◌, ◌++◌, Some, drop, length, OnOk, OnErr, IfOk, IsErr};
-ghost use Rattle.ei_backend.specs.Outside.{IsPieceSize, TakesTold, GivesPiece, HasCause, last_of};
-ghost use Rattle.ei_backend.specs.Memory.{PiecesView, CountsCall, added, first_sizes, never_failing};
+ghost use Rattle.ei_backend.specs.Outside.{IsPieceSize, IsTake};
+ghost use Rattle.ei_backend.specs.Memory.{CountsCall, KeepsFailing, added, first_sizes, never_failing, keeps_failing, keeps_failing_twice, source_of};
 ghost use Rattle.ei_spec.specs.declared.limits.TheConstants.{MOST_PIECE_BYTES, MOST_PIECE_HANDLES};
 
 use crate::failing::Failing;
@@ -99,28 +99,19 @@ impl Pieces {
 }
 
 impl Source for Pieces {
-    ghost left = { λ s. Some s.left };
+    ghost view = { source_of };
 
-    ghost given = { λ s. s.given };
+    ghost later = { λ s t. KeepsFailing s.failing t.failing };
 
-    ghost faults = { λ s. s.failing.faults };
+    ghost later_refl = { λ s. keeps_failing s.failing };
 
-    ghost last = { λ s. s.last };
-
-    ghost later = { λ _ _. Unit {0} };
-
-    ghost later_refl = { λ _. tt };
-
-    ghost later_trans = { λ _ _ _ _ _. tt };
+    ghost later_trans = { λ s t u first second. keeps_failing_twice s.failing t.failing u.failing first second };
 
     fn take(&mut self, bytes: &mut [u8], handles: &mut [Handle]) -> Result<Taken, Fault>
         requires room { MOST_PIECE_BYTES ≤ length bytes.old }
         requires handle_room { MOST_PIECE_HANDLES ≤ length handles.old }
         ensures size { IfOk result IsPieceSize }
-        ensures pieces { TakesTold (Some self.old.left) (Some self.new.left) result bytes.new handles.new }
-        ensures given { GivesPiece self.old.given self.new.given result bytes.new handles.new }
-        ensures cause { HasCause self.old.failing.faults self.new.failing.faults result }
-        ensures last { self.new.last ≡ last_of result }
+        ensures takes { IsTake (source_of self.old) (source_of self.new) result bytes.new handles.new }
         // beyond the trait's: which calls fail, and the whole piece
         ensures counts { CountsCall (IsErr result) self.old.failing self.new.failing }
         ensures whole { IfOk result (λ taken. taken ≡ first_sizes self.old.left) }

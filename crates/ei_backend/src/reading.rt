@@ -105,7 +105,8 @@ impl Incoming {
     where
         T: Drop,
         requires { step.old ≡ no_step }
-        ensures steps { Steps T.target T.code T.values T.announced T.events self.old.bytes self.old.handles table.old table.new step.new result }
+        ensures steps { Steps T.target T.code T.values T.announced T.events self.old.bytes self.old.handles
+            table.old table.new step.new result }
         ensures within { step.new.bytes ≤ length self.old.bytes }
         ensures kept { self.new ≡ self.old }
     {
@@ -153,7 +154,8 @@ where
     T: Drop,
     requires scratch { HEADER_BYTES ≤ length scratch.old }
     requires nothing { step.old ≡ no_step }
-    ensures steps { Steps T.target T.code T.values T.announced T.events bytes.old.items handles.now table.old table.new step.new result }
+    ensures steps { Steps T.target T.code T.values T.announced T.events bytes.old.items handles.now
+        table.old table.new step.new result }
     ensures within { step.new.bytes ≤ length bytes.old.items }
     ensures kept { bytes.new ≡ bytes.old }
 {
@@ -216,7 +218,8 @@ fn read_lawful<T: MessageEnum>(
 where
     T: Drop,
     ensures read { IfSome result (λ m. (all rest : List ℕ) (handles : List Descriptor) (b : BackendView) →
-        of_target T.events (reading all handles table.now b) (found table.now id) (record { id = id; opcode = opcode; body = body.now }) rest
+        of_target T.events (reading all handles table.now b) (found table.now id)
+        (record { id = id; opcode = opcode; body = body.now }) rest
         ≡ (Message (T.target m) (T.code m) (T.values m), reading rest handles table.now b)) }
     ensures announced { IfSome result (λ m. T.announced m ≡ None) }
 {
@@ -284,7 +287,8 @@ where
     requires nothing { taken.old ≡ 0 }
     ensures ok { (rest : List ℕ) → (b : BackendView) → IfOk result (λ said. Answers T.target T.code T.values said
         (reading rest (drop taken.new handles.now) table.new b)
-        (of_outcome (reading rest handles.now table.old b) target opcode rest (body_read T.events target opcode body.now handles.now table.old))) }
+        (of_outcome (reading rest handles.now table.old b) target opcode rest
+        (body_read T.events target opcode body.now handles.now table.old))) }
     ensures announced { IfOk result (λ said. Brings T.announced said table.old table.new) }
     ensures some { (n : ℕ) → 0 < n → IfOk result (λ said. TakesSome said n) }
     ensures err { OnErr result (table.new ≡ table.old) }

@@ -15,9 +15,11 @@ pub(crate) const FIRST_CAPACITY: usize = 131072;
 /// 524288 and so on that has room for it: at most 2097152 while less than the longest message is unread.
 pub fn ring_laws()
     ensures stays { (n capacity : ℕ) → n + MOST_PIECE_BYTES ≤ capacity → grown n capacity ≡ capacity }
-    ensures doubled { (n capacity : ℕ) → capacity < n + MOST_PIECE_BYTES → (k : ℕ) × (grown n capacity ≡ first_capacity * 2 ^ k) }
+    ensures doubled { (n capacity : ℕ) → capacity < n + MOST_PIECE_BYTES → (k : ℕ) ×
+        (grown n capacity ≡ first_capacity * 2 ^ k) }
     ensures room { (n capacity : ℕ) → n + MOST_PIECE_BYTES ≤ grown n capacity }
-    ensures least { (n capacity : ℕ) → capacity < n + MOST_PIECE_BYTES → grown n capacity ≢ first_capacity → grown n capacity / 2 < n + MOST_PIECE_BYTES }
+    ensures least { (n capacity : ℕ) → capacity < n + MOST_PIECE_BYTES → grown n capacity ≢ first_capacity →
+        grown n capacity / 2 < n + MOST_PIECE_BYTES }
     ensures bounded { (n capacity : ℕ) → n < MOST_MESSAGE_BYTES → capacity ≤ 2097152 → grown n capacity ≤ 2097152 }
 {}
 

@@ -47,10 +47,12 @@ impl Model for Table {
 
     ghost coded = { table_code };
 
-    ghost view = { λ t. table_of (objects_in t.own.items) (objects_in t.peer.items) t.next_own t.next_peer t.client t.room };
+    ghost view = { λ t. table_of (objects_in t.own.items)
+        (objects_in t.peer.items) t.next_own t.next_peer t.client t.room };
 
     ghost invariant = { λ t. IsKept t.own.items t.peer.items
-        (table_of (objects_in t.own.items) (objects_in t.peer.items) t.next_own t.next_peer t.client t.room) t.own.room };
+        (table_of (objects_in t.own.items)
+        (objects_in t.peer.items) t.next_own t.next_peer t.client t.room) t.own.room };
 }
 
 impl Table {
@@ -206,7 +208,8 @@ impl Table {
         ensures exhausted { (result ≡ Err send_error.IdsExhausted) ↔ (own_end self.old ≤ self.old.next_own) }
         ensures err { OnErr result (self.new ≡ self.old) }
         ensures not_long { result ≡ Err send_error.MessageTooLong → ⊥ }
-        ensures room { self.old.next_own < self.old.room → HasFixedName (interface_view interface) → IsErrOf result send_error.NoMemory → ⊥ }
+        ensures room { self.old.next_own < self.old.room → HasFixedName (interface_view interface) →
+            IsErrOf result send_error.NoMemory → ⊥ }
     {
         let id = self.next_own;
         if id >= self.own_end() {

@@ -1,10 +1,11 @@
 //! A sink that keeps what it takes.
 
 ghost use Rattle.std.specs.Prelude.{◌≡◌, [], ◌++◌, Some, length, OnOk, OnErr, IfOk, IsErrOf};
-ghost use Rattle.ei_backend.specs.Outside.{HasPutCause, HasPutWant, Puts, IsPutSize, with_more};
-ghost use Rattle.ei_backend.specs.Memory.{TrayView, CountsCall, added, never_failing, wants_after_put};
+ghost use Rattle.ei_backend.specs.Outside.{IsPut, IsPutSize, with_more};
+ghost use Rattle.ei_backend.specs.Memory.{CountsCall, KeepsFailing, added, never_failing, keeps_failing, keeps_failing_twice, sink_of, wants_after_put};
 
 use crate::failing::Failing;
+use crate::given::PutPieces;
 use crate::outside::{PutError, Sink};
 use ei_spec::Handle;
 use ei_wire::NoMemory;
@@ -16,6 +17,7 @@ use std::marker::Model;
 pub struct Tray {
     bytes: Vec<u8>,
     handles: Vec<Handle>,
+    puts: PutPieces,
     failing: Failing,
     wants: u64,
 }
@@ -27,6 +29,7 @@ impl Model for Tray {
 
     ghost view = { λ s. record {
       held = record { bytes = s.bytes.items; handles = s.handles.items };
+      puts = s.puts.pieces;
       failing = s.failing;
       wants = s.wants;
     } };
@@ -36,11 +39,12 @@ impl Tray {
     /// A sink that took nothing yet, and never fails.
     pub fn new(alloc: Global) -> Tray
         ensures { result ≡
-            record { held = record { bytes = []; handles = [] }; failing = never_failing; wants = 0 } }
+            record { held = record { bytes = []; handles = [] }; puts = []; failing = never_failing; wants = 0 } }
     {
         Tray {
             bytes: Vec::new(alloc),
             handles: Vec::new(alloc),
+            puts: PutPieces::new(),
             failing: Failing::never(alloc),
             wants: 0,
         }
@@ -91,23 +95,17 @@ fn extend_both(
 }
 
 impl Sink for Tray {
-    ghost taken = { λ s. Some s.held };
+    ghost view = { sink_of };
 
-    ghost faults = { λ s. s.failing.faults };
+    ghost later = { λ s t. KeepsFailing s.failing t.failing };
 
-    ghost wants = { λ s. s.wants };
+    ghost later_refl = { λ s. keeps_failing s.failing };
 
-    ghost later = { λ _ _. Unit {0} };
-
-    ghost later_refl = { λ _. tt };
-
-    ghost later_trans = { λ _ _ _ _ _. tt };
+    ghost later_trans = { λ s t u first second. keeps_failing_twice s.failing t.failing u.failing first second };
 
     fn put(&mut self, bytes: &[u8], handles: &[Handle]) -> Result<usize, PutError>
         ensures size { IfOk result (λ n. IsPutSize n bytes.now) }
-        ensures taken { Puts (Some self.old.held) (Some self.new.held) result bytes.now handles.now }
-        ensures cause { HasPutCause self.old.failing.faults self.new.failing.faults result }
-        ensures want { HasPutWant self.old.wants self.new.wants result }
+        ensures puts { IsPut (sink_of self.old) (sink_of self.new) result bytes.now handles.now }
         // beyond the trait's: which calls fail, and all that was handed to it
         ensures counts { CountsCall (IsErrOf result PutError.Fault) self.old.failing self.new.failing }
         ensures wants { self.new.wants ≡ wants_after_put result self.old.wants }
@@ -115,6 +113,7 @@ impl Sink for Tray {
         ensures ok { OnOk result (self.new.held ≡ with_more bytes.now handles.now self.old.held) }
         ensures err { OnErr result (self.new.held ≡ self.old.held) }
     {
+        self.puts.note(bytes, handles);
         if self.failing.fails_next() {
             return Err(PutError::Fault);
         }

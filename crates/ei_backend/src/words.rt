@@ -36,7 +36,8 @@ pub(crate) fn words_of(args: &[Arg<'_>], words: &mut [u32; MOST_WORDS]) -> Optio
 fn put_arg(words: &mut [u32; MOST_WORDS], count: usize, arg: &Arg<'_>) -> Option<usize>
     requires { count ≤ MOST_WORDS }
     ensures count { IfSome result (λ more. more ≤ MOST_WORDS) }
-    ensures bytes { IfSome result (λ more. word_bytes (take more words.new) ≡ word_bytes (take count words.old) ++ written (value_of_arg arg.now)) }
+    ensures bytes { IfSome result (λ more. word_bytes (take more words.new) ≡ word_bytes (take count words.old) ++
+        written (value_of_arg arg.now)) }
     ensures handles { IsSome result → handles_of (value_of_arg arg.now) ≡ [] }
 {
     match arg {
@@ -53,7 +54,8 @@ fn put_arg(words: &mut [u32; MOST_WORDS], count: usize, arg: &Arg<'_>) -> Option
 fn put_word(words: &mut [u32; MOST_WORDS], count: usize, word: u32) -> Option<usize>
     requires { count ≤ MOST_WORDS }
     ensures count { IfSome result (λ more. more ≤ MOST_WORDS) }
-    ensures bytes { IfSome result (λ more. word_bytes (take more words.new) ≡ word_bytes (take count words.old) ++ le4 word) }
+    ensures bytes { IfSome result (λ more. word_bytes (take more words.new) ≡ word_bytes (take count words.old) ++
+        le4 word) }
 {
     if count == MOST_WORDS {
         return None;
@@ -67,7 +69,8 @@ fn put_word(words: &mut [u32; MOST_WORDS], count: usize, word: u32) -> Option<us
 fn put_long(words: &mut [u32; MOST_WORDS], count: usize, long: u64) -> Option<usize>
     requires { count ≤ MOST_WORDS }
     ensures count { IfSome result (λ more. more ≤ MOST_WORDS) }
-    ensures bytes { IfSome result (λ more. word_bytes (take more words.new) ≡ word_bytes (take count words.old) ++ le8 long) }
+    ensures bytes { IfSome result (λ more. word_bytes (take more words.new) ≡ word_bytes (take count words.old) ++
+        le8 long) }
 {
     let count = put_word(words, count, (long % 4294967296) as u32)?;
     put_word(words, count, (long / 4294967296) as u32)

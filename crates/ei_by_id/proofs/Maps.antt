@@ -8,8 +8,8 @@ use Rattle.std.proofs.lemmas.Bool.{eqb-true}
 use Rattle.std.proofs.lemmas.Bool.Decides.{nat_tests}
 use Rattle.ei_keyed.specs.Keyed.{keyed, with_value, without_key}
 use Rattle.ei_keyed.specs.MapOf.{map_of}
-use Rattle.ei_by_id.specs.ById.{passes, kept}
-use Rattle.ei_by_id.specs.Entries.{KeysDiffer}
+use Rattle.ei_by_id.specs.ById.{passes, kept, Finds}
+use Rattle.ei_by_id.specs.Entries.{KeysDiffer, first_value}
 
 same_key : (k : ℕ) → eqb k k ≡ true
 same_key k = grind (arith, nat_tests)
@@ -166,3 +166,45 @@ module _ {V : Type 0} where
   filtered test xs d = same_map nat_cmp_total nat_cmp-IsAntisymmetric (map_of (filter (λ x. test x.1) xs)) (kept test (map_of xs)) (λ k.
       got (filter (λ x. test x.1) xs) k ∙ keep_at test xs k d ∙ ap (λ (o : Option V). cond (passes test o) o None) (sym (got xs k))
       ∙ sym (get-retain_keys (map_of xs) (λ id. passes test (get (map_of xs) id)) k (λ x t. ap (λ (q : ℕ). passes test (get (map_of xs) q)) (sym (nat_cmp-IsAntisymmetric k x t)))))
+
+  -- ---- the first that passes a test
+
+  pub first_passes : (test : V → Bool) (x : ℕ × V) (xs all : List (ℕ × V)) → all ≡ x ∷ xs → test x.1 ≡ true → first_value test all ≡ Some x.1
+  first_passes test x xs all is t = ap (first_value test) is ∙ ap (λ (b : Bool). cond b (Some x.1) (first_value test xs)) t
+
+  pub first_fails : (test : V → Bool) (x : ℕ × V) (xs all : List (ℕ × V)) → all ≡ x ∷ xs → test x.1 ≡ false → first_value test all ≡ first_value test xs
+  first_fails test x xs all is t = ap (first_value test) is ∙ ap (λ (b : Bool). cond b (Some x.1) (first_value test xs)) t
+
+  -- it stands under its key
+  pub first_found : (test : V → Bool) (xs : List (ℕ × V)) (v : V) → KeysDiffer xs → first_value test xs ≡ Some v → (k : ℕ) × (keyed k xs ≡ Some v) × (test v ≡ true)
+  first_found test [] v d e = absurd cc
+  first_found test (x ∷ xs) v d e = by (test x.1) refl e (first_found test xs v d.1)
+    where
+      onto : (k : ℕ) × (keyed k xs ≡ Some v) × (test v ≡ true) → (k : ℕ) × (keyed k (x ∷ xs) ≡ Some v) × (test v ≡ true)
+      onto p = (p.0, at (eqb p.0 x.0) refl, p.2)
+        where
+          at : (b : Bool) → eqb p.0 x.0 ≡ b → cond b (Some x.1) (keyed p.0 xs) ≡ Some v
+          at true f = absurd (let q = ap (λ (k : ℕ). keyed k xs) (eqb-true p.0 x.0 f) in let none = d.0 in let some = p.1 in cc)
+          at false f = p.1
+
+      by : (b : Bool) → test x.1 ≡ b → cond b (Some x.1) (first_value test xs) ≡ Some v → (first_value test xs ≡ Some v → (k : ℕ) × (keyed k xs ≡ Some v) × (test v ≡ true)) →
+          (k : ℕ) × (keyed k (x ∷ xs) ≡ Some v) × (test v ≡ true)
+      by true t f rest = (let same : x.1 ≡ v = cc in (x.0, rw (same_key x.0, same) refl, rw (← same) t))
+      by false t f rest = onto (rest f)
+
+  -- none passes it
+  pub none_found : (test : V → Bool) (xs : List (ℕ × V)) → first_value test xs ≡ None → (k : ℕ) → passes test (keyed k xs) ≡ false
+  none_found test [] e k = refl
+  none_found test (x ∷ xs) e k = by (test x.1) (eqb k x.0) refl e (λ f. none_found test xs f k)
+    where
+      by : (b c : Bool) → test x.1 ≡ b → cond b (Some x.1) (first_value test xs) ≡ None → (first_value test xs ≡ None → passes test (keyed k xs) ≡ false) → passes test (cond c (Some x.1) (keyed k xs)) ≡ false
+      by true c t f rest = absurd cc
+      by false true t f rest = t
+      by false false t f rest = rest f
+
+  pub finds : (test : V → Bool) (xs : List (ℕ × V)) → KeysDiffer xs → Finds test (map_of xs) (first_value test xs)
+  finds test xs d = by (first_value test xs) refl
+    where
+      by : (o : Option V) → first_value test xs ≡ o → Finds test (map_of xs) o
+      by None e = λ k. ap (passes test) (got xs k) ∙ none_found test xs e k
+      by (Some v) e = (let p = first_found test xs v d e in (p.0, got xs p.0 ∙ p.1, p.2))

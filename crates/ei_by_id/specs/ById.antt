@@ -1,5 +1,5 @@
 -- Values by ids.
-use Rattle.std.specs.Prelude.{Bool, false, Option, Some, None}
+use Rattle.std.specs.Prelude.{◌≡◌, ℕ, Bool, true, false, Option, Some, None}
 use Rattle.std.specs.Ordering.{nat_cmp}
 use Rattle.std.specs.FinMap as finite
 
@@ -12,3 +12,8 @@ module _ {V : Type 0} where
   -- the ids whose values pass the test, with these
   abbrev pub kept : (V → Bool) → finite.FinMap nat_cmp V → finite.FinMap nat_cmp V
   kept test values = finite.retain_keys values (λ id. passes test (finite.get values id))
+
+  -- one of the values that pass the test; none exactly where no value passes
+  abbrev pub Finds : (V → Bool) → finite.FinMap nat_cmp V → Option V → Type 0
+  Finds test values None = (id : ℕ) → passes test (finite.get values id) ≡ false
+  Finds test values (Some value) = (id : ℕ) × (finite.get values id ≡ Some value) × (test value ≡ true)

@@ -9,8 +9,8 @@ ghost use Rattle.std.specs.FinMap as finite;
 ghost use Rattle.std.specs.Borrow.{sem};
 ghost use Rattle.ei_keyed.specs.Keyed.{Decides};
 ghost use Rattle.ei_keyed.specs.MapOf.{map_of};
-ghost use Rattle.ei_by_id.specs.ById.{kept};
-ghost use Rattle.ei_by_id.specs.Entries.{KeysDiffer};
+ghost use Rattle.ei_by_id.specs.ById.{kept, Finds};
+ghost use Rattle.ei_by_id.specs.Entries.{KeysDiffer, first_value};
 ghost use Rattle.ei_by_id.specs.Lends.{lends_get};
 
 use ei_keyed::Keyed;
@@ -67,6 +67,15 @@ impl<V> ById<V> {
     {
         self.values.get_mut(id)
     }
+
+    /// A value at which the test, which answers by the value alone, is `true`: the first that was put in. `None`
+    /// exactly where there is none.
+    pub fn find<F: Fn(&V) -> bool>(&self, test: F) -> Option<&V>
+        requires callable { (f : F) (x : _) → F.pre f x }
+        ensures { (test_of : V → Bool) → Decides F.Fn test_of test → Finds test_of self.now (option_copied result) }
+    {
+        first(&self.values, test)
+    }
 }
 
 impl<V: Drop> ById<V> {
@@ -93,7 +102,8 @@ impl<V: Drop> ById<V> {
     ) -> Result<(), AllocError>
         requires callable { (f : F) (x : _) → F.pre f x }
         requires decided { (test_of : V → Bool) × Decides F.Fn test_of test }
-        ensures ok { (test_of : V → Bool) → Decides F.Fn test_of test → OnOk result (self.new ≡ finite.insert (kept test_of self.old) id value) }
+        ensures ok { (test_of : V → Bool) → Decides F.Fn test_of test →
+            OnOk result (self.new ≡ finite.insert (kept test_of self.old) id value) }
         ensures err { OnErr result (self.new ≡ self.old) }
     {
         self.values.reserve(1)?;
@@ -118,6 +128,21 @@ impl<V: Drop> ById<V> {
     {
         self.values.retain(test);
     }
+}
+
+/// The first value at which the test is `true`.
+fn first<V, F: Fn(&V) -> bool>(values: &Keyed<V>, test: F) -> Option<&V>
+    requires { (f : F) (x : _) → F.pre f x }
+    ensures { (test_of : V → Bool) → Decides F.Fn test_of test →
+        option_copied result ≡ first_value test_of values.now.items }
+{
+    let mut rest = values.iter();
+    while let Some((_, value)) = rest.next() {
+        if test(value) {
+            return Some(value);
+        }
+    }
+    None
 }
 
 /// Gives a key its value, in place of the one before. There is room for it.

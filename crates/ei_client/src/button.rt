@@ -62,6 +62,10 @@ impl Message for Event {
         rows!(opcode_of(self))
     }
 
+    fn arguments(&self, alloc: Global) -> Result<Vec<Arg<'_>>, NoMemory> {
+        rows!(list_row(self, alloc))
+    }
+
     fn args(&self, alloc: Global) -> Result<Vec<Arg<'_>>, NoMemory> {
         rows!(show_row(self, alloc))
     }

@@ -21,7 +21,8 @@ impl Device {
     ///
     /// `NoMemory`: nothing is sent.
     pub fn start_emulating(&self, ctx: &mut Context, last_serial: u32, sequence: u32) -> Sent
-        ensures sends { Sends (request (codes "start_emulating")) self.now (Word last_serial ∷ Word sequence ∷ []) ctx.old ctx.new result }
+        ensures sends { Sends (request (codes "start_emulating")) self.now
+            (Word last_serial ∷ Word sequence ∷ []) ctx.old ctx.new result }
     {
         let args = [Arg::Uint32(last_serial), Arg::Uint32(sequence)];
         self.object.request(ctx, 1, &args)
@@ -31,7 +32,8 @@ impl Device {
     ///
     /// `NoMemory`: nothing is sent.
     pub fn stop_emulating(&self, ctx: &mut Context, last_serial: u32) -> Sent
-        ensures sends { Sends (request (codes "stop_emulating")) self.now (Word last_serial ∷ []) ctx.old ctx.new result }
+        ensures sends { Sends (request (codes "stop_emulating")) self.now
+            (Word last_serial ∷ []) ctx.old ctx.new result }
     {
         self.object.request(ctx, 2, &[Arg::Uint32(last_serial)])
     }
@@ -41,7 +43,8 @@ impl Device {
     ///
     /// `NoMemory`: nothing is sent.
     pub fn frame(&self, ctx: &mut Context, last_serial: u32, timestamp: u64) -> Sent
-        ensures sends { Sends (request (codes "frame")) self.now (Word last_serial ∷ Long timestamp ∷ []) ctx.old ctx.new result }
+        ensures sends { Sends (request (codes "frame")) self.now
+            (Word last_serial ∷ Long timestamp ∷ []) ctx.old ctx.new result }
     {
         let args = [Arg::Uint32(last_serial), Arg::Uint64(timestamp)];
         self.object.request(ctx, 3, &args)
@@ -189,6 +192,10 @@ impl Message for Event {
 
     fn opcode(&self) -> u32 {
         rows!(opcode_of(self))
+    }
+
+    fn arguments(&self, alloc: Global) -> Result<Vec<Arg<'_>>, NoMemory> {
+        rows!(list_row(self, alloc))
     }
 
     fn args(&self, alloc: Global) -> Result<Vec<Arg<'_>>, NoMemory> {

@@ -168,6 +168,10 @@ impl MessageEnum for Event {
         ))
     }
 
+    fn arguments(&self, alloc: Global) -> Result<Vec<Arg<'_>>, NoMemory> {
+        interfaces!(each_event(self, (_, event) => event.arguments(alloc)))
+    }
+
     fn args(&self, alloc: Global) -> Result<Vec<Arg<'_>>, NoMemory> {
         interfaces!(each_event(self, (_, event) => event.args(alloc)))
     }

@@ -16,7 +16,8 @@ impl Handshake {
     ///
     /// `NoMemory`: nothing is sent.
     pub fn handshake_version(&self, ctx: &mut Context, version: u32) -> Sent
-        ensures sends { Sends (request (codes "handshake_version")) self.now (Word version ∷ []) ctx.old ctx.new result }
+        ensures sends { Sends (request (codes "handshake_version")) self.now
+            (Word version ∷ []) ctx.old ctx.new result }
     {
         self.object.request(ctx, 0, &[Arg::Uint32(version)])
     }
@@ -107,6 +108,10 @@ impl Message for Event {
 
     fn opcode(&self) -> u32 {
         rows!(opcode_of(self))
+    }
+
+    fn arguments(&self, alloc: Global) -> Result<Vec<Arg<'_>>, NoMemory> {
+        rows!(list_row(self, alloc))
     }
 
     fn args(&self, alloc: Global) -> Result<Vec<Arg<'_>>, NoMemory> {

@@ -14,7 +14,8 @@ impl Pointer {
     ///
     /// `NoMemory`: nothing is sent.
     pub fn motion_relative(&self, ctx: &mut Context, x: RawFloat, y: RawFloat) -> Sent
-        ensures sends { Sends (request (codes "motion_relative")) self.now (Word x.0 ∷ Word y.0 ∷ []) ctx.old ctx.new result }
+        ensures sends { Sends (request (codes "motion_relative")) self.now
+            (Word x.0 ∷ Word y.0 ∷ []) ctx.old ctx.new result }
     {
         let args = [Arg::Float(x.0), Arg::Float(y.0)];
         self.object.request(ctx, 1, &args)
@@ -58,6 +59,10 @@ impl Message for Event {
 
     fn opcode(&self) -> u32 {
         rows!(opcode_of(self))
+    }
+
+    fn arguments(&self, alloc: Global) -> Result<Vec<Arg<'_>>, NoMemory> {
+        rows!(list_row(self, alloc))
     }
 
     fn args(&self, alloc: Global) -> Result<Vec<Arg<'_>>, NoMemory> {

@@ -1,11 +1,15 @@
 //! The proxies of a client: an object and its kind.
 
-ghost use Rattle.std.specs.Prelude.{◌≡◌, ◌↔◌, ◌<◌, ◌≤◌, ⊤, Some, true, map, IfOk, OnOk, OnErr, IsErrOf};
+ghost use Rattle.std.specs.Prelude.{◌≡◌, ◌↔◌, ◌<◌, ◌≤◌, ⊤, Some, true, map, IfOk, OnOk, OnErr, IsErrOf, IsTrue};
+ghost use Rattle.std.specs.Hash as fed;
+ghost use Rattle.std.specs.Cmp.{partial_equiv_from_equiv};
+ghost use Rattle.std.specs.Cmp.Rules.{hashing};
+ghost use Rattle.std.proofs.Common.{rules};
 ghost use Rattle.ei_spec.specs.Interface.{Known};
 ghost use Rattle.ei_spec.specs.Message.{message, size};
 ghost use Rattle.ei_wire.specs.Gives.{Gives, value_of_arg};
 ghost use Rattle.ei_wire.specs.declared.error.SendError.TheVariants as send_error;
-ghost use Rattle.ei_backend.specs.Object.{proxy_text, shown_of};
+ghost use Rattle.ei_backend.specs.Object.{proxy_text, same_object, same_object_equiv, shown_of};
 ghost use Rattle.ei_backend.specs.Table.{Announced, accept, own, own_end};
 ghost use Rattle.ei_backend.specs.Outgoing.{HasRoomFor};
 ghost use Rattle.ei_backend.specs.Backend.{removed, sent, sent_new, unsent_of};
@@ -19,6 +23,7 @@ use ei_spec::KnownInterface;
 use ei_wire::{Arg, ParseError, Sealed, SendError};
 use std::alloc::AllocError;
 use std::fmt;
+use std::hash::{Hash, Hasher};
 use std::marker::{Model, PhantomData};
 
 /// What a call that sends a message answers.
@@ -26,10 +31,8 @@ pub type Sent = Result<(), SendError>;
 
 /// An object of one interface, by its kind: `Seat` is `Proxy<kinds::Seat>`.
 #[derive(Drop)]
-#[derive_where(PartialEq, Eq, Hash)]
 pub struct Proxy<K: Kind> {
     pub(crate) object: Object,
-    #[derive_where(skip)]
     kind: PhantomData<K>,
 }
 
@@ -100,6 +103,34 @@ impl<K: Kind> Clone for Proxy<K> {
             object: self.object.clone()?,
             kind: PhantomData,
         })
+    }
+}
+
+/// Two proxies are equal where their objects are.
+impl<K: Kind> PartialEq for Proxy<K> {
+    ghost eq = { same_object };
+
+    ghost laws = { partial_equiv_from_equiv same_object_equiv };
+
+    fn eq(&self, other: &Proxy<K>) -> bool
+        ensures value { result ≡ same_object self.now other.now }
+        ensures same { IsTrue result ↔ (self.now ≡ other.now) }
+    {
+        self.object == other.object
+    }
+}
+
+impl<K: Kind> Eq for Proxy<K> {
+    ghost laws = { same_object_equiv };
+}
+
+impl<K: Kind> Hash for Proxy<K> {
+    ghost hash_input = { λ p. fed.u64 p.id };
+
+    ghost respects_eq = { Prim.search (hashing, rules) };
+
+    fn hash<H: Hasher>(&self, state: &mut H) {
+        self.object.hash(state);
     }
 }
 

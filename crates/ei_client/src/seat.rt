@@ -24,7 +24,8 @@ impl Seat {
     ///
     /// `NoMemory`: nothing is sent.
     pub fn request_device(&self, ctx: &mut Context, capabilities: u64) -> Sent
-        ensures sends { Sends (request (codes "request_device")) self.now (Long capabilities ∷ []) ctx.old ctx.new result }
+        ensures sends { Sends (request (codes "request_device")) self.now
+            (Long capabilities ∷ []) ctx.old ctx.new result }
     {
         self.object.request(ctx, 2, &[Arg::Uint64(capabilities)])
     }
@@ -78,6 +79,10 @@ impl Message for Event {
 
     fn opcode(&self) -> u32 {
         rows!(opcode_of(self))
+    }
+
+    fn arguments(&self, alloc: Global) -> Result<Vec<Arg<'_>>, NoMemory> {
+        rows!(list_row(self, alloc))
     }
 
     fn args(&self, alloc: Global) -> Result<Vec<Arg<'_>>, NoMemory> {

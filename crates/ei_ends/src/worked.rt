@@ -13,12 +13,15 @@ ghost use Rattle.ei_ends.specs.Worked.{connection, sync, done, disconnect, seat,
 pub fn an_ended_connection()
     ensures answered { talk_answered.client.taken ≡ Took done 1 ∷ Took connection 0 ∷ [] }
     ensures answered_joined { Joined true talk_answered.server talk_answered.client no_piece no_piece }
-    ensures may_announce { AreListedCalls true (seat 0xff00000000000001 ∷ device 0xff00000000000001 0xff00000000000002 ∷ [])
+    ensures may_announce { AreListedCalls true
+        (seat 0xff00000000000001 ∷ device 0xff00000000000001 0xff00000000000002 ∷ [])
         (done ∷ connection ∷ []) (Took sync 1 ∷ []) }
-    ensures server_sent { talk_ended.server.sent ≡ device 0xff00000000000001 0xff00000000000002 ∷ seat 0xff00000000000001 ∷ done ∷ connection ∷ [] }
+    ensures server_sent { talk_ended.server.sent ≡
+        device 0xff00000000000001 0xff00000000000002 ∷ seat 0xff00000000000001 ∷ done ∷ connection ∷ [] }
     ensures server_taken { talk_ended.server.taken ≡ Took sync 1 ∷ [] }
     ensures client_sent { talk_ended.client.sent ≡ disconnect ∷ sync ∷ [] }
-    ensures client_taken { talk_ended.client.taken ≡ Missed 0xff00000000000001 2 ∷ Missed 0xff00000000000000 2 ∷ Took done 1 ∷ Took connection 0 ∷ [] }
+    ensures client_taken { talk_ended.client.taken ≡
+        Missed 0xff00000000000001 2 ∷ Missed 0xff00000000000000 2 ∷ Took done 1 ∷ Took connection 0 ∷ [] }
     ensures joined { Joined true talk_ended.server talk_ended.client no_piece no_piece }
 {}
 
@@ -28,8 +31,10 @@ pub fn a_dropped_handle()
         Took (keyboard 0xff00000000000002 0xff00000000000003) 0 ∷ Took (device 0xff00000000000001 0xff00000000000002) 0
         ∷ Took (seat 0xff00000000000001) 0 ∷ Took connection 0 ∷ [] }
     ensures dropped { (handle : Handle) → (talk_keymap handle).client.taken ≡
-        Missed 0xff00000000000006 1 ∷ Missed 0xff00000000000005 1 ∷ Missed 0xff00000000000004 1 ∷ Missed 0xff00000000000000 1 ∷ talk_keyboard.client.taken }
+        Missed 0xff00000000000006 1 ∷ Missed 0xff00000000000005 1 ∷ Missed 0xff00000000000004 1 ∷
+        Missed 0xff00000000000000 1 ∷ talk_keyboard.client.taken }
     ensures next_gets_it { (handle next : Handle) → (talk_keymaps handle next).client.taken ≡
         Took (keymap 0xff00000000000003 handle) 1 ∷ (talk_keymap handle).client.taken }
-    ensures joined { (handle next : Handle) → Joined true (talk_keymaps handle next).server (talk_keymaps handle next).client no_piece no_piece }
+    ensures joined { (handle next : Handle) →
+        Joined true (talk_keymaps handle next).server (talk_keymaps handle next).client no_piece no_piece }
 {}

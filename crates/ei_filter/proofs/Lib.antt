@@ -1,2 +1,1 @@
-pub mod TouchesBefore
 pub mod SiftedRight

@@ -18,7 +18,7 @@ use Rattle.ei_session.specs.Requests.{Request, Plain, DeviceClosed}
 use Rattle.ei_session.proofs.Choices.{or_none, or_true, and_true, and_false, turned, not_both}
 use Rattle.ei_record.specs.Replayable.{disconnects, mask_of, if_it, takes_ids, gives_mask, next_device, mask_before, closes_device, is_there, says_touch, touch_is_down, touches_before, asks_badly, names_none, device_of, lacks, goes_with, is_input_of, touches_badly, writes_badly, stands_badly, is_wrong, wrong_from, IsReplayable}
 use Rattle.ei_record.proofs.Lists.{right, was_right}
-use Rattle.ei_filter.proofs.TouchesBefore.{down_one, down_members, down_distinct, down_count, distinct_filter}
+use Rattle.ei_record.proofs.TouchesBefore.{down_one, down_members, down_distinct, down_count, distinct_filter}
 use Rattle.ei_filter.specs.Sifted.{Test, is_let, is_framed, begins, passes_with, begun_of, input_passes, some_passes, passes, timed_by, count_frame, kept, counted, sifted_from, sifted}
 
 abbrev or_else : {A : Type 0} → Option A → Option A → Option A

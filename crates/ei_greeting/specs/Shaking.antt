@@ -147,11 +147,12 @@ unfoldable pub versions_told : Objects → BackendView → List Raw → VersionM
 versions_told objects b [] = finite.empty
 versions_told objects b (m ∷ before) = with_version (versions_told objects b before) (shake objects b m)
 
-abbrev pub answer_to : Greeter → ℕ → Option Shake → List Raw
-answer_to g id (Some Begins) = greeting g id
-answer_to g id said = []
+-- what answers an event to that object
+abbrev pub answer_to : Greeter → Option ObjectView → Option Shake → List Raw
+answer_to g (Some target) (Some Begins) = greeting g target.id
+answer_to g target said = []
 
 -- what the client sends, the oldest first
 unfoldable pub answers : Greeter → Objects → BackendView → List Raw → List Raw
 answers g objects b [] = []
-answers g objects b (m ∷ before) = answers g objects b before ++ answer_to g m.id (shake objects b m)
+answers g objects b (m ∷ before) = answers g objects b before ++ answer_to g (objects m.id) (shake objects b m)

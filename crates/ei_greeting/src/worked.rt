@@ -25,7 +25,12 @@ pub fn begins()
 pub fn connects()
     ensures handover { ending 200 ((begun ++ shaken) ∷ []) ≡ Connected (record {
       serial = 5;
-      connection = record { id = 18374686479671623680; interface = Known known.Connection; version = 1; client_side = true };
+      connection = record {
+        id = 18374686479671623680;
+        interface = Known known.Connection;
+        version = 1;
+        client_side = true;
+      };
       versions = three;
     }) }
     ensures left { (opened 200 (begun ∷ (shaken ++ seat) ∷ [])).left.unread ≡ seat }
@@ -35,5 +40,6 @@ pub fn connects()
 /// A message to an object that isn't there, and one to another than that of the handshake.
 pub fn strangers()
     ensures stranger { ending 200 (header 9 16 0 ∷ []) ≡ Refused (Handshake (handshake.InvalidObject 9)) }
-    ensures other { ending_with ((header 9 28 2 ++ (0 ∷ 0 ∷ 0 ∷ 0 ∷ 0 ∷ 0 ∷ 0 ∷ 0 ∷ 0 ∷ 0 ∷ 0 ∷ 0 ∷ [])) ∷ []) ≡ Refused (Handshake handshake.NonHandshakeEvent) }
+    ensures other { ending_with ((header 9 28 2 ++ (0 ∷ 0 ∷ 0 ∷ 0 ∷ 0 ∷ 0 ∷ 0 ∷ 0 ∷ 0 ∷ 0 ∷ 0 ∷ 0 ∷ [])) ∷ []) ≡
+        Refused (Handshake handshake.NonHandshakeEvent) }
 {}

@@ -47,7 +47,8 @@ impl Handlers {
 
     /// Keeps a handler for the callback, in place of one that stood there, which is dropped unused.
     pub fn add(&mut self, callback: u64, handler: Handler) -> Result<(), AllocError>
-        ensures ok { OnOk result ((k : ℕ) → handler_of self.new k ≡ (if k == callback then Some handler else handler_of self.old k)) }
+        ensures ok { OnOk result ((k : ℕ) → handler_of self.new k ≡
+            (if k == callback then Some handler else handler_of self.old k)) }
         ensures receipts { receipts_of self.new ≡ receipts_of self.old }
         ensures err { OnErr result ((k : ℕ) → handler_of self.new k ≡ handler_of self.old k) }
     {
@@ -59,9 +60,11 @@ impl Handlers {
 
     /// The end of a callback: its handler, if it has one, is taken out and called, and a receipt is kept.
     pub fn done(&mut self, callback: u64, value: u64) -> Result<(), AllocError>
-        ensures receipt { OnOk result (Keeps (λ handler. Run.post handler.run) (handler_of self.old callback) callback value
+        ensures receipt { OnOk result (Keeps (λ handler. Run.post handler.run)
+            (handler_of self.old callback) callback value
             (receipts_of self.old) (receipts_of self.new)) }
-        ensures gone { OnOk result ((k : ℕ) → handler_of self.new k ≡ (if k == callback then None else handler_of self.old k)) }
+        ensures gone { OnOk result ((k : ℕ) → handler_of self.new k ≡
+            (if k == callback then None else handler_of self.old k)) }
         ensures err_receipts { OnErr result (receipts_of self.new ≡ receipts_of self.old) }
         ensures err_waiting { OnErr result ((k : ℕ) → handler_of self.new k ≡ handler_of self.old k) }
     {

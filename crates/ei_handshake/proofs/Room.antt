@@ -24,7 +24,8 @@ use Rattle.ei_backend.specs.Sends.{SendsText, SendsNew}
 use Rattle.ei_backend.proofs.GoingOut.{message_length}
 use Rattle.ei_server.specs.Handshake.{event}
 use Rattle.ei_session.specs.Replies.{settled_event}
-use Rattle.ei_handshake.specs.declared.server.TheConstants.{MOST_EVENT_BYTES, CONNECTION_BYTES, MOST_SETTLED_BYTES, MOST_FINISH_BYTES}
+use Rattle.ei_handshake.specs.declared.sizes.TheConstants.{MOST_VERSION_BYTES}
+use Rattle.ei_handshake.specs.declared.server.TheConstants.{CONNECTION_BYTES, MOST_SETTLED_BYTES, MOST_FINISH_BYTES}
 use Rattle.ei_handshake.specs.Versions.{VersionMap}
 use Rattle.ei_handshake.specs.Handshaker.{HandshakerView, RefusesFinish, event_if, has_required, kept_events, sends, hands_over}
 use Rattle.ei_handshake.specs.declared.server.EisHandshakeResp.{EisHandshakeResp}
@@ -36,26 +37,26 @@ pub less_spare : (a b : ℕ) (waiting : Piece) (room : Room) → HasSpare a 0 wa
 less_spare a b waiting room h le = record { spare_bytes = omega (arith, h.spare_bytes); spare_handles = h.spare_handles }
 
 -- a version's event is short
-few_bytes : (i : KnownInterface) (id v : ℕ) → size (message id 1 (Letters (name_of i) ∷ Word v ∷ [])) ≤ MOST_EVENT_BYTES
-few_bytes i id v = leb-true _ MOST_EVENT_BYTES (of_each (λ (k : KnownInterface). leb (size (message id 1 (Letters (name_of k) ∷ Word v ∷ []))) MOST_EVENT_BYTES) refl i)
+few_bytes : (i : KnownInterface) (id v : ℕ) → size (message id 1 (Letters (name_of i) ∷ Word v ∷ [])) ≤ MOST_VERSION_BYTES
+few_bytes i id v = leb-true _ MOST_VERSION_BYTES (of_each (λ (k : KnownInterface). leb (size (message id 1 (Letters (name_of k) ∷ Word v ∷ []))) MOST_VERSION_BYTES) refl i)
 
-spent_one : (b : BackendView) (m : Raw) (n : ℕ) → size m ≤ MOST_EVENT_BYTES → HasSpare (n + MOST_EVENT_BYTES) 0 (unsent_of b) b.room → HasSpare n 0 (unsent_of (sends b (m ∷ []))) b.room
+spent_one : (b : BackendView) (m : Raw) (n : ℕ) → size m ≤ MOST_VERSION_BYTES → HasSpare (n + MOST_VERSION_BYTES) 0 (unsent_of b) b.room → HasSpare n 0 (unsent_of (sends b (m ∷ []))) b.room
 spent_one b m n few h = record {
   spare_bytes = omega (arith, h.spare_bytes, length-append b.unsent (all_bytes (m ∷ [])), length-append (bytes_of m) [], message_length m, few);
   spare_handles = h.spare_handles;
 }
 
-spent_none : (b : BackendView) (n : ℕ) → HasSpare (n + MOST_EVENT_BYTES) 0 (unsent_of b) b.room → HasSpare n 0 (unsent_of (sends b [])) b.room
+spent_none : (b : BackendView) (n : ℕ) → HasSpare (n + MOST_VERSION_BYTES) 0 (unsent_of b) b.room → HasSpare n 0 (unsent_of (sends b [])) b.room
 spent_none b n h = record { spare_bytes = omega (arith, h.spare_bytes, length-append b.unsent []); spare_handles = h.spare_handles }
 
-spent_event : (b : BackendView) (handshake : ℕ) (i : KnownInterface) (o : Option ℕ) (n : ℕ) → HasSpare (n + MOST_EVENT_BYTES) 0 (unsent_of b) b.room →
+spent_event : (b : BackendView) (handshake : ℕ) (i : KnownInterface) (o : Option ℕ) (n : ℕ) → HasSpare (n + MOST_VERSION_BYTES) 0 (unsent_of b) b.room →
     HasSpare n 0 (unsent_of (sends b (event_if handshake i o))) b.room
 spent_event b handshake i None n h = spent_none b n h
 spent_event b handshake i (Some v) n h = spent_one b (settled_event handshake i v) n (few_bytes i handshake v) h
 
 -- an event, or none, leaves the room but for the most bytes of one
 pub spent : (b new : BackendView) (handshake : ℕ) (i : KnownInterface) (o : Option ℕ) (n : ℕ) → new ≡ sends b (event_if handshake i o) →
-    HasSpare (n + MOST_EVENT_BYTES) 0 (unsent_of b) b.room → HasSpare n 0 (unsent_of new) new.room
+    HasSpare (n + MOST_VERSION_BYTES) 0 (unsent_of b) b.room → HasSpare n 0 (unsent_of new) new.room
 spent b new handshake i o n is h = subst (λ (x : BackendView). HasSpare n 0 (unsent_of x) x.room) (sym is) (spent_event b handshake i o n h)
 
 -- ---- what is sent within it
@@ -67,12 +68,12 @@ is_sent (Err send_error.NoMemory) memory long ids = absurd (memory refl)
 is_sent (Err send_error.MessageTooLong) memory long ids = absurd (long refl)
 is_sent (Err send_error.IdsExhausted) memory long ids = absurd (ids refl)
 
-fits : (b : BackendView) (m : Raw) → size m ≤ MOST_EVENT_BYTES → HasSpare MOST_EVENT_BYTES 0 (unsent_of b) b.room → HasSpare (size m) 0 (unsent_of b) b.room
-fits b m few h = less_spare MOST_EVENT_BYTES (size m) (unsent_of b) b.room h few
+fits : (b : BackendView) (m : Raw) → size m ≤ MOST_VERSION_BYTES → HasSpare MOST_VERSION_BYTES 0 (unsent_of b) b.room → HasSpare (size m) 0 (unsent_of b) b.room
+fits b m few h = less_spare MOST_VERSION_BYTES (size m) (unsent_of b) b.room h few
 
 -- the event of a version is sent
 pub event_is_sent : (i : KnownInterface) (target : ObjectView) (v : ℕ) (b new : BackendView) (r : Result (Unit {0}) SendError) →
-    SendsText (event (codes "interface_version")) target (Letters (name_of i) ∷ Word v ∷ []) b new r → HasSpare MOST_EVENT_BYTES 0 (unsent_of b) b.room → IsOk r
+    SendsText (event (codes "interface_version")) target (Letters (name_of i) ∷ Word v ∷ []) b new r → HasSpare MOST_VERSION_BYTES 0 (unsent_of b) b.room → IsOk r
 event_is_sent i target v b new r s h =
     let few = few_bytes i target.id v in
     is_sent r (s.room (fits b (message target.id 1 (Letters (name_of i) ∷ Word v ∷ [])) few h))

@@ -87,20 +87,20 @@ sends b messages = record b { unsent = b.unsent ++ all_bytes messages }
 abbrev pub hands_over : BackendView → ℕ → ℕ → BackendView
 hands_over b handshake serial = record (sends b (connection_event handshake serial b.table.next_own ∷ [])) { table = without (with_own b.table (Known known.Connection) 1) handshake }
 
--- ---- what stays
+-- ---- what stays, at a handshaker of either end
 
 -- the handshaker and the endpoint are as before
-pub record Same (h : HandshakerView) (b : BackendView) (new : HandshakerView) (sent : BackendView) : Type 0 where
+pub record Same {H : Type 0} (h : H) (b : BackendView) (new : H) (sent : BackendView) : Type 0 where
   pub handshaker : new ≡ h
   pub endpoint : sent ≡ b
 
 -- they are, but that the endpoint has these messages more to send, and may have made more memory ready
-pub record Leaves (messages : List Raw) (h : HandshakerView) (b : BackendView) (new : HandshakerView) (sent : BackendView) : Type 0 where
+pub record Leaves {H : Type 0} (messages : List Raw) (h : H) (b : BackendView) (new : H) (sent : BackendView) : Type 0 where
   pub handshaker : new ≡ h
   pub endpoint : endpoint_of sent ≡ endpoint_of (sends b messages)
 
 -- they are, but that the endpoint may have made more memory ready
-pub record SameButMemory (h : HandshakerView) (b : BackendView) (new : HandshakerView) (sent : BackendView) : Type 0 where
+pub record SameButMemory {H : Type 0} (h : H) (b : BackendView) (new : H) (sent : BackendView) : Type 0 where
   pub handshaker : new ≡ h
   pub endpoint : endpoint_of sent ≡ endpoint_of b
 
@@ -169,8 +169,8 @@ abbrev pub HandlesAsked : ℕ → HandshakerView → BackendView → Asked → R
 HandlesAsked handshake h b asked.Finish result new sent = Finishes handshake h b result new sent
 HandlesAsked handshake h b m result new sent = Keeps h b m result new sent
 
--- how any other request is refused
-abbrev pub RefusesOther : Error → HandshakerView → BackendView → HandshakerView → BackendView → Type 0
+-- how a message of another interface is refused
+abbrev pub RefusesOther : {H : Type 0} → Error → H → BackendView → H → BackendView → Type 0
 RefusesOther (error.Handshake handshake_error.NonHandshakeEvent) h b new sent = Same h b new sent
 RefusesOther e h b new sent = ⊥
 

@@ -1,3 +1,4 @@
+pub mod Client
 pub mod Handshaker
 pub mod Pending
 pub mod Versions
@@ -10,3 +11,4 @@ pub use Rattle.ei_session.specs.SettledMap
 pub use Rattle.ei_backend.specs.Backend
 pub use Rattle.ei_backend.specs.Outgoing
 pub use Rattle.ei_backend.specs.Table
+pub use Rattle.ei_greeting.specs.Shaking

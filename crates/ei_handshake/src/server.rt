@@ -10,11 +10,12 @@ ghost use Rattle.ei_handshake.specs.Handshaker.{untold, settled_version, with_ve
 ghost use Rattle.ei_handshake.specs.Handshaker.{Handles, KeepsButFinish, is_repeated, told, Completes, RefusesFinish};
 ghost use Rattle.ei_types.specs.declared.error.HandshakeError.TheVariants as handshake_error;
 
+use crate::sizes::{HEADER_BYTES, LONG_BYTES, MOST_VERSION_BYTES, WORD_BYTES};
 use crate::versions::Versions;
 use ei_backend::HasBackend;
 use ei_server::{Connection, Context, Handshake, Request, handshake};
 use ei_spec::KnownInterface;
-use ei_spec::limits::{MOST_NAME_BYTES, SETTLED_INTERFACES};
+use ei_spec::limits::SETTLED_INTERFACES;
 use ei_types::{ContextType, Error, HandshakeError, known_interfaces};
 use ei_wire::{EiText, NoMemory};
 use std::alloc::Global;
@@ -34,25 +35,11 @@ pub struct EisHandshakeResp {
     pub negotiated_interfaces: Versions,
 }
 
-/// The bytes of a header; of a number; and of an id.
-const HEADER_BYTES: usize = 16;
-
-const WORD_BYTES: usize = 4;
-
-const LONG_BYTES: usize = 8;
-
-/// The most bytes of an interface's name as an argument: its length, and the name with a closing byte, padded to whole words.
-const MOST_NAME_ARGUMENT_BYTES: usize = WORD_BYTES
-    + (MOST_NAME_BYTES + WORD_BYTES) / WORD_BYTES * WORD_BYTES;
-
-/// The most bytes of the event that tells a version: the name and the version.
-const MOST_EVENT_BYTES: usize = HEADER_BYTES + MOST_NAME_ARGUMENT_BYTES + WORD_BYTES;
-
 /// The bytes of the event that hands the connection over: its serial, its id and its version.
 const CONNECTION_BYTES: usize = HEADER_BYTES + WORD_BYTES + LONG_BYTES + WORD_BYTES;
 
 /// The most bytes of the events that tell the versions.
-const MOST_SETTLED_BYTES: usize = SETTLED_INTERFACES * MOST_EVENT_BYTES;
+const MOST_SETTLED_BYTES: usize = SETTLED_INTERFACES * MOST_VERSION_BYTES;
 
 /// The most bytes of the events that answer a finish.
 const MOST_FINISH_BYTES: usize = MOST_SETTLED_BYTES + CONNECTION_BYTES;
@@ -74,7 +61,8 @@ impl Model for EisHandshaker {
 
     ghost coded = { handshaker_code };
 
-    ghost view = { λ h. record { serial = h.initial_serial; versions = h.versions; name = h.name; context_type = h.context_type } };
+    ghost view = { λ h.
+        record { serial = h.initial_serial; versions = h.versions; name = h.name; context_type = h.context_type } };
 }
 
 impl EisHandshaker {
@@ -87,7 +75,8 @@ impl EisHandshaker {
     ) -> Result<EisHandshaker, NoMemory>
         requires { IsSome (found ctx.old.table 0) }
         ensures fresh { IfOk result (λ h. h ≡ untold initial_serial) }
-        ensures greets { OnOk result (ForSome (found ctx.old.table 0) (λ handshake. ctx.new ≡ sends ctx.old (greeting_to handshake.id ∷ []))) }
+        ensures greets { OnOk result (ForSome (found ctx.old.table 0)
+            (λ handshake. ctx.new ≡ sends ctx.old (greeting_to handshake.id ∷ []))) }
         ensures err { OnErr result (ctx.new ≡ ctx.old) }
     {
         let handshake = ctx.handshake().unwrap();
@@ -97,7 +86,7 @@ impl EisHandshaker {
         Ok(EisHandshaker {
             alloc,
             initial_serial,
-            versions: Versions::new(),
+            versions: Versions::new(alloc),
             name: None,
             context_type: None,
         })
@@ -186,7 +175,8 @@ impl EisHandshaker {
         ensures first { OnOk result (is_some self.old.context_type ≡ false) }
         ensures ok { OnOk result (self.new ≡ record self.old { context_type = Some context_type }) }
         ensures err { OnErr result (self.new ≡ self.old) }
-        ensures only { IfErr result (λ e. (e ≡ handshake_error.DuplicateEvent) × (is_some self.old.context_type ≡ true)) }
+        ensures only { IfErr result (λ e. (e ≡ handshake_error.DuplicateEvent) ×
+            (is_some self.old.context_type ≡ true)) }
     {
         if self.context_type.is_some() {
             return Err(HandshakeError::DuplicateEvent);
@@ -248,7 +238,7 @@ impl EisHandshaker {
             return Err(Error::Handshake(HandshakeError::MissingInterface));
         }
         let connection = handshake.connection(ctx, self.initial_serial, 1)?;
-        let versions = mem::replace(&mut self.versions, Versions::new());
+        let versions = mem::replace(&mut self.versions, Versions::new(self.alloc));
         Ok(EisHandshakeResp {
             connection,
             name,
@@ -285,7 +275,7 @@ fn send_if_kept(
     versions: &Versions,
     interface: KnownInterface,
 )
-    requires { HasSpare MOST_EVENT_BYTES 0 (unsent_of ctx.old) ctx.old.room }
+    requires { HasSpare MOST_VERSION_BYTES 0 (unsent_of ctx.old) ctx.old.room }
     ensures { ctx.new ≡ sends ctx.old (event_if handshake.now.id interface (settled_in versions.now interface)) }
 {
     if let Some(version) = versions.version(interface) {
@@ -300,7 +290,8 @@ fn send_if_kept(
 fn send_kept(handshake: &Handshake, ctx: &mut Context, versions: &Versions)
     requires { HasSpare MOST_SETTLED_BYTES 0 (unsent_of ctx.old) ctx.old.room }
     ensures sends { ctx.new ≡ sends ctx.old (kept_events handshake.now.id versions.now) }
-    ensures spare { (n : ℕ) → HasSpare (n + MOST_SETTLED_BYTES) 0 (unsent_of ctx.old) ctx.old.room → HasSpare n 0 (unsent_of ctx.new) ctx.new.room }
+    ensures spare { (n : ℕ) → HasSpare (n + MOST_SETTLED_BYTES) 0 (unsent_of ctx.old) ctx.old.room →
+        HasSpare n 0 (unsent_of ctx.new) ctx.new.room }
 {
     let interfaces = known_interfaces();
     for (interface, _) in &interfaces {

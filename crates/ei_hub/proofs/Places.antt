@@ -108,12 +108,12 @@ within_none limit (d ∷ clients) none k c at on = absurd cc
 -- ---- a client that has just joined
 
 pub starts_alone : (setup : Setup) (start : Start) (v : ClientView) → v.answer ≡ None → Stands setup [] [] v.session → v.source.given ≡ start.given → v.requests ≡ [] →
-    ((held : Piece) → start.took ≡ Some held → Greeted held v.took) → IsAlone setup start [] [] v
+    Greeted start.sink v.sink → IsAlone setup start [] [] v
 starts_alone setup start v none stands given requests greets = record {
   goes_on = none;
   stands = stands;
   given = given ∙ sym (append-nil start.given);
   requests = requests ∙ sym (ap (λ (m : List Raw). map (request_in_code m) (framed setup [] m)) (none_accepted setup) ∙ ap (λ (l : List Request). map (request_in_code []) l) (framed_none setup []));
-  replies = subst (λ (m : List Raw). Replied setup m start.took v.took) (sym (none_accepted setup)) (greeted setup start.took v.took greets);
+  replies = subst (λ (m : List Raw). Replied setup m start.sink v.sink) (sym (none_accepted setup)) (greeted setup start.sink v.sink greets);
   frames = sym (ap (λ (m : List Raw). frames_made (each (slot setup) m)) (none_accepted setup) ∙ no_frames setup);
 }

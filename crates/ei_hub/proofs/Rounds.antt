@@ -2,7 +2,7 @@
 use Rattle.std.proofs.Common.{◌≡◌, ℕ, ◌+◌, ◌≤◌, ◌<◌, List, length, Option, Some, refl, sym, subst, ◌∙◌, add-zero, below_more, arith}
 use Rattle.std.specs.Prelude.{slice_get, IsSome}
 use Rattle.ei_spec.specs.Piece.{Piece}
-use Rattle.ei_backend.specs.declared.outside.LastAnswer.{LastAnswer}
+use Rattle.ei_backend.specs.Outside.{SourceView, SinkView}
 use Rattle.ei_hub.specs.declared.client.Client.{Client}
 use Rattle.ei_hub.specs.Clocks.{GaveReadings}
 use Rattle.ei_hub.specs.Limit.{AreWithin}
@@ -21,12 +21,11 @@ ended_more {S = S} {K = K} ms zs at others before this =
     (λ k low d now. before k low d (sym (others k (λ e. absurd (omega (arith, low, e)))) ∙ now))
     this
 
-module _ {S K : Type 0} (left : S → Option (List Piece)) (given : S → List Piece) (source_faults : S → ℕ) (last : S → LastAnswer) (source_later : S → S → Type 0)
-    (taken : K → Option Piece) (sink_faults : K → ℕ) (sink_later : K → K → Type 0)
+module _ {S K : Type 0} (source_view : S → SourceView) (source_later : S → S → Type 0) (sink_view : K → SinkView) (sink_later : K → K → Type 0)
     (source_same : (a : S) → source_later a a) (sink_same : (a : K) → sink_later a a)
     (source_trans : (a b c : S) → source_later a b → source_later b c → source_later a c) (sink_trans : (a b c : K) → sink_later a b → sink_later b c → sink_later a c) where
   abbrev So : ℕ → Option (List ℕ) → Option (List ℕ) → Client S K → Client S K → Type 0
-  So turns before after c d = Since left given source_faults last source_later taken sink_faults sink_later turns before after c d
+  So turns before after c d = Since source_view source_later sink_view sink_later turns before after c d
 
   -- what became of the client at a place
   abbrev Each : ℕ → Option (List ℕ) → Option (List ℕ) → List (Client S K) → List (Client S K) → ℕ → Type 0
@@ -37,11 +36,11 @@ module _ {S K : Type 0} (left : S → Option (List Piece)) (given : S → List P
   starts before xs k c d at now =
       let same : c ≡ d = cc in
       subst (λ (e : Client S K). So 0 before before c e) same
-      (since_still left given source_faults last source_later taken sink_faults sink_later source_same sink_same 0 before before c (gave_nothing before) (λ none. refl))
+      (since_still source_view source_later sink_view sink_later source_same sink_same 0 before before c (gave_nothing before) (λ none. refl))
 
   then_so : (m n : ℕ) (before mid after : Option (List ℕ)) → GaveReadings mid after → (c d e : Client S K) → So m before mid c d → So n mid after d e → So (m + n) before after c e
   then_so m n before mid after gave c d e g h =
-      since_then left given source_faults last source_later taken sink_faults sink_later source_trans sink_trans m n before mid after gave c d e g h
+      since_then source_view source_later sink_view sink_later source_trans sink_trans m n before mid after gave c d e g h
 
   -- one round after others
   pub all_then : (m n : ℕ) (before mid after : Option (List ℕ)) (xs ms zs : List (Client S K)) → length zs ≡ length ms → GaveReadings mid after →
@@ -63,7 +62,7 @@ module _ {S K : Type 0} (left : S → Option (List Piece)) (given : S → List P
     -- a client of another number
     beside : (n k : ℕ) → (k ≡ at → ⊥) → Each n before mid xs ms k → Each n before after xs zs k
     beside n k ne g c d was now =
-        let still = since_still left given source_faults last source_later taken sink_faults sink_later source_same sink_same 0 mid after d gave (λ none. refl) in
+        let still = since_still source_view source_later sink_view sink_later source_same sink_same 0 mid after d gave (λ none. refl) in
         let both = then_so n 0 before mid after gave c d d (g c d was (sym (others k ne) ∙ now)) still in
         subst (λ (t : ℕ). So t before after c d) (add-zero n) both
 

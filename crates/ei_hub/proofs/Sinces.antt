@@ -5,13 +5,13 @@ use Rattle.std.proofs.lemmas.List.{append-nil}
 use Rattle.ei_spec.specs.Piece.{Piece}
 use Rattle.ei_session.specs.Setup.{Setup}
 use Rattle.ei_backend.specs.Lent.{LentSource, LentSink}
-use Rattle.ei_backend.specs.Outside.{SourceView}
-use Rattle.ei_backend.specs.declared.outside.LastAnswer.{LastAnswer}
+use Rattle.ei_backend.specs.Outside.{SourceView, SinkView}
 use Rattle.ei_backend.proofs.Lending.{source_as, source_twice, sink_as, sink_twice, untouched_source, untouched_sink}
 use Rattle.ei_types.specs.declared.error.Error.{Error}
 use Rattle.ei_types.specs.declared.error.Error.TheVariants as error
 use Rattle.ei_serve.specs.declared.session.Ended.{Ended as HowEnded}
-use Rattle.ei_serve.specs.Serving.{ArePieces, IsSourceEnd}
+use Rattle.ei_serve.specs.Serving.{IsSourceEnd}
+use Rattle.ei_backend.specs.Pieces.{ArePieces}
 use Rattle.ei_serve.specs.Whole.{Serves}
 use Rattle.ei_serve.proofs.AsTold.{same_behind}
 use Rattle.ei_hub.specs.declared.client.Client.{Client}
@@ -110,13 +110,12 @@ some_none : (answer : Option (Result HowEnded Error)) → answer ≡ None → Is
 some_none None none is = absurd cc
 some_none (Some a) none is = absurd cc
 
-module _ {S K : Type 0} (left : S → Option (List Piece)) (given : S → List Piece) (source_faults : S → ℕ) (last : S → LastAnswer) (source_later : S → S → Type 0)
-    (taken : K → Option Piece) (sink_faults : K → ℕ) (sink_later : K → K → Type 0) where
+module _ {S K : Type 0} (source_view : S → SourceView) (source_later : S → S → Type 0) (sink_view : K → SinkView) (sink_later : K → K → Type 0) where
   abbrev So : ℕ → Option (List ℕ) → Option (List ℕ) → Client S K → Client S K → Type 0
-  So turns before after c d = Since left given source_faults last source_later taken sink_faults sink_later turns before after c d
+  So turns before after c d = Since source_view source_later sink_view sink_later turns before after c d
 
   abbrev view : Client S K → ClientView
-  view c = seen left given taken c
+  view c = seen source_view sink_view c
 
   -- nothing happened to it, or it had its end
   pub since_still : ((a : S) → source_later a a) → ((a : K) → sink_later a a) → (turns : ℕ) (before after : Option (List ℕ)) (c : Client S K) → GaveReadings before after → (c.end ≡ None → turns ≡ 0) → So turns before after c c
@@ -137,8 +136,8 @@ module _ {S K : Type 0} (left : S → Option (List Piece)) (given : S → List P
   -- one turn
   pub since_turned : (before after : Option (List ℕ)) (c d : Client S K) → c.end ≡ None →
       ((setup : Setup) (start : Start) (pieces : List Piece) (times : List ℕ) → IsAlone setup start pieces times (view c) → TurnsAlone setup start pieces times (AreTaken before after) (view c) (view d)) →
-      LentSource source_faults last source_later (IsEndOf d.end error.ReadFault) (IsInputEnd d.end) c.source d.source →
-      LentSink sink_faults sink_later (IsEndOf d.end error.WriteFault) c.sink d.sink →
+      LentSource source_view source_later (IsEndOf d.end error.ReadFault) (IsInputEnd d.end) c.source d.source →
+      LentSink sink_view sink_later (IsEndOf d.end error.WriteFault) c.sink d.sink →
       (d.end ≡ None → d.session.taken ≡ c.session.taken + 1) → So 1 before after c d
   since_turned before after c d going alone source sink more = record {
     kept = λ some. absurd (some_none c.end going some);

@@ -30,7 +30,8 @@ use Rattle.ei_serve.specs.Steps.{GivesOut, Goes, GoesInPart}
 use Rattle.ei_serve.specs.Taking.{with_next}
 use Rattle.ei_serve.specs.Refusing.{refusal_of}
 use Rattle.ei_serve.specs.Turning.{Closes, ClosesRefused, Finds, GoesOn, Stays, BreaksOff, Turns}
-use Rattle.ei_serve.specs.Serving.{ArePieces, GavePieces, IsSourceEnd}
+use Rattle.ei_serve.specs.Serving.{IsSourceEnd}
+use Rattle.ei_backend.specs.Pieces.{ArePieces, GavePieces}
 use Rattle.ei_serve.specs.Whole.{Serves}
 use Rattle.ei_serve.proofs.Going.{gives_then}
 use Rattle.ei_serve.proofs.Running.{Running, Took, replied_then}
@@ -84,6 +85,8 @@ part_own setup before last times old new g = record {
   replies = g.replies;
   drawn = draws_all g.used;
   leaves = leaves_all g.used;
+  least = g.least;
+  most = g.most;
 }
 
 -- a turn, over a clock that gives it the readings that it used, and no other
@@ -104,7 +107,7 @@ module _ (setup : Setup) (pieces : List Piece) (times : List ℕ) (t : SessionSt
   goes_on_own h = record { piece = h.piece; used = h.used; hands = h.hands; stands = h.stands; goes = goes_own setup _ _ times h.used old new h.goes }
 
   stays_own : Stays old new → Stays (over_readings (Some []) old) (over_readings (Some []) new)
-  stays_own h = record { keeps = h.keeps; out = h.out; took = h.took; readings = refl }
+  stays_own h = record { keeps = h.keeps; out = h.out; sink = h.sink; readings = refl }
 
   breaks_own : (h : BreaksOff setup pieces times old new) → BreaksOff setup pieces times (over_readings (Some h.goes.used) old) (over_readings (Some []) new)
   breaks_own h = record { piece = h.piece; hands = h.hands; room = h.room; few = h.few; goes = part_own setup _ _ times old new h.goes }
@@ -157,7 +160,7 @@ gave_one piece x z h = record {
 
 -- what is said of a whole session says nothing of the source but what is left
 beside : (setup : Setup) (told : List Piece) (left : Option (List Piece)) (answer : Result HowEnded Error) (x z v w : Around) →
-    v.out ≡ x.out → v.took ≡ x.took → v.readings ≡ x.readings → w.out ≡ z.out → w.took ≡ z.took → w.readings ≡ z.readings → Serves setup told left answer x z → Serves setup told left answer v w
+    v.out ≡ x.out → v.sink ≡ x.sink → v.readings ≡ x.readings → w.out ≡ z.out → w.sink ≡ z.sink → w.readings ≡ z.readings → Serves setup told left answer x z → Serves setup told left answer v w
 beside setup told left answer x z v w a b c d e f h = rw (a, b, c, d, e, f) (record {
   answer = h.answer;
   requests = h.requests;
@@ -181,17 +184,17 @@ module _ (setup : Setup) (start : Start) (pieces : List Piece) (times : List ℕ
 
   -- the source, as when the client joined
   abbrev source_then : SourceView
-  source_then = record { left = behind_these x.source.left; given = start.given }
+  source_then = record x.source { left = behind_these x.source.left; given = start.given }
 
   gives_x : GivesOut setup [] past [] times [] x.requests
   gives_x = gives_all setup past times x.requests alone.requests (omega (arith, alone.frames))
 
   module _ (more : List ℕ) where
     abbrev then_so : Around
-    then_so = around source_then [] start.took (Some (times ++ more))
+    then_so = around source_then [] start.sink (Some (times ++ more))
 
     abbrev now_so : Around
-    now_so = around x.source x.requests x.took (Some more)
+    now_so = around x.source x.requests x.sink (Some more)
 
     took_at : (left : Option (List Piece)) (told : List Piece) → behind_these left ≡ Some told → Took told left (length pieces) pieces
     took_at None told is = absurd cc
@@ -207,6 +210,7 @@ module _ (setup : Setup) (start : Start) (pieces : List Piece) (times : List ℕ
       stands = alone.stands;
       took = λ told is. took_at x.source.left told is;
       given = alone.given;
+      asked = omega arith;
       gives = gives_x;
       replied = alone.replies;
       drawn = draws_own times more;
@@ -229,7 +233,7 @@ module _ (setup : Setup) (start : Start) (pieces : List Piece) (times : List ℕ
     })
 
     abbrev end_so : ClientView → Around
-    end_so z = around z.source z.requests z.took (Some [])
+    end_so z = around z.source z.requests z.sink (Some [])
 
     ended_so : (z : ClientView) (answer : Result HowEnded Error) → ((told : List Piece) (left : Option (List Piece)) → ArePieces source_then z.source (IsSourceEnd answer) told left → Serves setup told left answer then_so (end_so z)) →
         (told : List Piece) (left : Option (List Piece)) → ArePieces x.source z.source (IsSourceEnd answer) told left → Serves setup (pieces ++ told) left answer (at_start start (times ++ more)) (at_now z)
@@ -239,10 +243,10 @@ module _ (setup : Setup) (start : Start) (pieces : List Piece) (times : List ℕ
 
   module _ (before after : Option (List ℕ)) (z : ClientView) where
     abbrev from_here : Around
-    from_here = around x.source x.requests x.took before
+    from_here = around x.source x.requests x.sink before
 
     abbrev to_there : Around
-    to_there = around z.source z.requests z.took after
+    to_there = around z.source z.requests z.sink after
 
     went_on : z.answer ≡ None → GoesOn setup pieces times z.session from_here to_there → GoesOnAlone setup start pieces times (AreTaken before after) x z
     went_on none g =
@@ -258,7 +262,7 @@ module _ (setup : Setup) (start : Start) (pieces : List Piece) (times : List ℕ
             stands = g.stands;
             given = g.hands.given ∙ ap (λ (l : List Piece). l ++ g.piece ∷ []) alone.given ∙ append_assoc start.given pieces (g.piece ∷ []);
             requests = all_given setup then (times ++ g.used) z.requests gives;
-            replies = replied_then setup past then start.took x.took z.took alone.replies g.goes.replies;
+            replies = replied_then setup past then start.sink x.sink z.sink g.goes.behind alone.replies g.goes.replies;
             frames = omega (arith, alone.frames, g.goes.frames, length-append times g.used);
           };
           drawn_so = (g.goes.drawn, g.goes.leaves);

@@ -6,7 +6,7 @@ use Rattle.ei_spec.specs.Groups.{frames_made}
 use Rattle.ei_session.specs.Setup.{Setup}
 use Rattle.ei_session.specs.Requests.{slot, framed}
 use Rattle.ei_session.specs.Served.{accepted}
-use Rattle.ei_backend.specs.Outside.{SourceView}
+use Rattle.ei_backend.specs.Outside.{SourceView, SinkView}
 use Rattle.ei_request.specs.declared.event.EisRequest.{EisRequest}
 use Rattle.ei_standing.specs.Standing.{request_in_code}
 use Rattle.ei_types.specs.declared.error.Error.{Error}
@@ -14,22 +14,23 @@ use Rattle.ei_serve.specs.declared.session.Ended.{Ended as HowEnded}
 use Rattle.ei_serve.specs.declared.state.SessionState.{SessionState}
 use Rattle.ei_serve.specs.Around.{Around, around, no_source}
 use Rattle.ei_serve.specs.Standing.{Stands}
-use Rattle.ei_serve.specs.Serving.{Replied, ArePieces, IsSourceEnd}
+use Rattle.ei_serve.specs.Serving.{Replied, IsSourceEnd}
+use Rattle.ei_backend.specs.Pieces.{ArePieces}
 use Rattle.ei_serve.specs.Whole.{Serves}
 
--- What a client shows: its session; what its source says of its pieces; what it asked for; what its sink took, where that is
--- told; and how its session ended, where it did.
+-- What a client shows: its session; what its source and its sink say of themselves; what it asked for; and how
+-- its session ended, where it did.
 pub record ClientView : Type 0 where
   pub session : SessionState
   pub source : SourceView
   pub requests : List EisRequest
-  pub took : Option Piece
+  pub sink : SinkView
   pub answer : Option (Result HowEnded Error)
 
--- what its source had given, and its sink taken, when it joined
+-- what its source had given, and what its sink said of itself, when it joined
 pub record Start : Type 0 where
   pub given : List Piece
-  pub took : Option Piece
+  pub sink : SinkView
 
 -- The client goes on. Since it joined its source gave these pieces, and its session used these readings: it stands for them, it
 -- handed out what their messages give, and a sink that tells has the replies to them behind what it had.
@@ -38,7 +39,7 @@ pub record IsAlone (setup : Setup) (start : Start) (pieces : List Piece) (times 
   pub stands : Stands setup pieces times c.session
   pub given : c.source.given ≡ start.given ++ pieces
   pub requests : c.requests ≡ map (request_in_code (accepted setup (stream pieces))) (framed setup times (accepted setup (stream pieces)))
-  pub replies : Replied setup (accepted setup (stream pieces)) start.took c.took
+  pub replies : Replied setup (accepted setup (stream pieces)) start.sink c.sink
   pub frames : length times ≡ frames_made (each (slot setup) (accepted setup (stream pieces)))
 
 -- the source gave these pieces; of those that it told they are the first
@@ -56,11 +57,11 @@ pub record GoesOnAlone (setup : Setup) (start : Start) (pieces : List Piece) (ti
 
 -- what stood around its session when it joined, over a clock that gives it these readings
 abbrev pub at_start : Start → List ℕ → Around
-at_start start times = around no_source [] start.took (Some times)
+at_start start times = around no_source [] start.sink (Some times)
 
 -- and what stands around it now
 abbrev pub at_now : ClientView → Around
-at_now c = around no_source c.requests c.took (Some [])
+at_now c = around no_source c.requests c.sink (Some [])
 
 -- The client has this end. With some pieces more, and more readings, which are so, it did what a session by itself does over the
 -- pieces that its source gave since it joined, and those that it told.

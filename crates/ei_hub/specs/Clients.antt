@@ -1,7 +1,6 @@
 -- The clients of a hub, as contracts speak of them.
 use Rattle.std.specs.Prelude.{◌≡◌, ℕ, ◌+◌, ◌<◌, List, length, slice_get, Option, Some, None, Result, Err}
-use Rattle.ei_spec.specs.Piece.{Piece}
-use Rattle.ei_backend.specs.Outside.{source_view}
+use Rattle.ei_backend.specs.Outside.{SourceView, SinkView}
 use Rattle.ei_backend.specs.Lent.{LentSink}
 use Rattle.ei_session.specs.Setup.{Setup}
 use Rattle.ei_types.specs.declared.error.Error.{Error}
@@ -16,13 +15,13 @@ use Rattle.ei_hub.specs.declared.join.JoinCause.TheVariants as cause
 use Rattle.ei_hub.specs.declared.hub.TheConstants.{MOST_CLIENTS}
 use Rattle.ei_hub.specs.Alone.{ClientView}
 
--- what a client shows, by the members of its source and its sink
-abbrev pub seen : {S K : Type 0} → (S → Option (List Piece)) → (S → List Piece) → (K → Option Piece) → Client S K → ClientView
-seen left given taken c = record {
+-- what a client shows
+abbrev pub seen : {S K : Type 0} → (S → SourceView) → (K → SinkView) → Client S K → ClientView
+seen source_view sink_view c = record {
   session = c.session;
-  source = source_view left given c.source;
+  source = source_view c.source;
   requests = c.requests.items;
-  took = taken c.sink;
+  sink = sink_view c.sink;
   answer = c.end;
 }
 
@@ -63,10 +62,10 @@ pub record OneMore {S K : Type 0} (n : ℕ) (old new : Hub S K) : Type 0 where
   pub others : (k : ℕ) → k < count_of old → slice_get (clients_of new) k ≡ slice_get (clients_of old) k
 
 -- what comes back to a client that could not join: its source as it was, and its sink, with a front of the greeting
-pub record ComesBack {S K : Type 0} (taken : K → Option Piece) (faults : K → ℕ) (later : K → K → Type 0) (source : S) (sink : K) (e : JoinError S K) : Type 0 where
+pub record ComesBack {S K : Type 0} (view : K → SinkView) (later : K → K → Type 0) (source : S) (sink : K) (e : JoinError S K) : Type 0 where
   pub source_is : e.source ≡ source
-  pub greeted_in_part : (held : Piece) → taken sink ≡ Some held → GreetedInPart held (taken e.sink)
-  pub sink_is : LentSink faults later (e.cause ≡ cause.WriteFault) sink e.sink
+  pub greeted_in_part : GreetedInPart (view sink) (view e.sink)
+  pub sink_is : LentSink view later (e.cause ≡ cause.WriteFault) sink e.sink
 
 -- the client's end is this error
 abbrev pub IsEndOf : Option (Result HowEnded Error) → Error → Type 0

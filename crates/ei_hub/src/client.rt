@@ -34,18 +34,19 @@ impl<S: Source, K: Sink> Client<S, K> {
     pub(crate) fn turn<C: Clock>(&mut self, clock: &mut C)
         requires going { ¬ IsOver self.old.session }
         ensures alone { (setup : Started) (start : Start) (pieces : List Piece) (times : List ℕ) →
-            IsAlone setup start pieces times (seen S.left S.given K.taken self.old) →
-            TurnsAlone setup start pieces times (AreTaken (C.readings clock.old) (C.readings clock.new))
-            (seen S.left S.given K.taken self.old) (seen S.left S.given K.taken self.new) }
+            IsAlone setup start pieces times (seen S.view K.view self.old) →
+            TurnsAlone setup start pieces times (AreTaken (C.view clock.old).left (C.view clock.new).left)
+            (seen S.view K.view self.old) (seen S.view K.view self.new) }
         // where it goes on it took one piece more, within the same limit
-        ensures within { (limit : ℕ) → IsWithin limit self.old.session → self.new.end ≡ None → IsWithin limit self.new.session }
+        ensures within { (limit : ℕ) → IsWithin limit self.old.session → self.new.end ≡ None →
+            IsWithin limit self.new.session }
         ensures more { self.new.end ≡ None → self.new.session.taken ≡ self.old.session.taken + 1 }
         // what source, sink and clock say
-        ensures source { LentSource S.faults S.last S.later (IsEndOf self.new.end error.ReadFault) (IsInputEnd self.new.end)
+        ensures source { LentSource S.view S.later (IsEndOf self.new.end error.ReadFault) (IsInputEnd self.new.end)
             self.old.source self.new.source }
-        ensures sink { LentSink K.faults K.later (IsEndOf self.new.end error.WriteFault) self.old.sink self.new.sink }
+        ensures sink { LentSink K.view K.later (IsEndOf self.new.end error.WriteFault) self.old.sink self.new.sink }
         ensures clock { LentClock C.later clock.old clock.new }
-        ensures gave { GaveReadings (C.readings clock.old) (C.readings clock.new) }
+        ensures gave { GaveReadings (C.view clock.old).left (C.view clock.new).left }
     {
         let turned = self.session.turn(&mut self.source, &mut self.sink, clock, &mut self.requests);
         self.end = ended_by(turned);

@@ -65,13 +65,15 @@ impl<S: Source, K: Sink> Hub<S, K> {
         ensures one_more { IfOk result (λ n. OneMore n self.old self.new) }
         // it stands for no pieces, over what its source had given and its sink taken
         ensures alone { IfOk result (λ n. ForClient n self.new (λ c.
-            IsAlone (started_by self.old) (record { given = S.given source; took = K.taken sink }) [] [] (seen S.left S.given K.taken c))) }
-        ensures came { IfOk result (λ n. ForClient n self.new (λ c. (c.source ≡ source) × LentSink K.faults K.later ⊥ sink c.sink)) }
+            IsAlone (started_by self.old) (record { given = (S.view source).given; sink = K.view sink }) [] []
+            (seen S.view K.view c))) }
+        ensures came { IfOk result (λ n. ForClient n self.new (λ c.
+            (c.source ≡ source) × LentSink K.view K.later ⊥ sink c.sink)) }
         ensures setup { started_by self.new ≡ started_by self.old }
         // a refusal
         ensures kept { OnErr result (clients_of self.new ≡ clients_of self.old) }
         ensures full { IfErr result (λ e. e.cause ≡ JoinCause.Full ↔ MOST_CLIENTS ≤ count_of self.old) }
-        ensures back { IfErr result (λ e. ComesBack K.taken K.faults K.later source sink e) }
+        ensures back { IfErr result (λ e. ComesBack K.view K.later source sink e) }
     {
         let number = self.clients.len();
         if number >= MOST_CLIENTS {
@@ -156,17 +158,18 @@ impl<S: Source, K: Sink> Hub<S, K> {
         requires going { ForClient client self.old (λ c. c.end ≡ None) }
         ensures same { SameHub self.old self.new }
         ensures others { SameOthers client self.old self.new }
-        ensures alone { (setup : Started) (start : Start) (pieces : List Piece) (times : List ℕ) → ForBoth client self.old self.new (λ c d.
-            IsAlone setup start pieces times (seen S.left S.given K.taken c) →
-            TurnsAlone setup start pieces times (AreTaken (C.readings clock.old) (C.readings clock.new))
-            (seen S.left S.given K.taken c) (seen S.left S.given K.taken d)) }
+        ensures alone { (setup : Started) (start : Start) (pieces : List Piece) (times : List ℕ) →
+            ForBoth client self.old self.new (λ c d.
+            IsAlone setup start pieces times (seen S.view K.view c) →
+            TurnsAlone setup start pieces times (AreTaken (C.view clock.old).left (C.view clock.new).left)
+            (seen S.view K.view c) (seen S.view K.view d)) }
         // what source, sink and clock say
         ensures source { ForBoth client self.old self.new (λ c d.
-            LentSource S.faults S.last S.later (IsEndOf d.end error.ReadFault) (IsInputEnd d.end) c.source d.source) }
+            LentSource S.view S.later (IsEndOf d.end error.ReadFault) (IsInputEnd d.end) c.source d.source) }
         ensures sink { ForBoth client self.old self.new (λ c d.
-            LentSink K.faults K.later (IsEndOf d.end error.WriteFault) c.sink d.sink) }
+            LentSink K.view K.later (IsEndOf d.end error.WriteFault) c.sink d.sink) }
         ensures clock { LentClock C.later clock.old clock.new }
-        ensures gave { GaveReadings (C.readings clock.old) (C.readings clock.new) }
+        ensures gave { GaveReadings (C.view clock.old).left (C.view clock.new).left }
     {
         self.turn_at(client as usize, clock);
     }
@@ -180,17 +183,18 @@ impl<S: Source, K: Sink> Hub<S, K> {
         // a client that had its end
         ensures kept { (k : ℕ) → ForBoth k self.old self.new (λ c d. IsSome c.end → d ≡ c) }
         // one that was alone, over some of the readings that the clock gave meanwhile
-        ensures alone { (k : ℕ) (setup : Started) (start : Start) (pieces : List Piece) (times : List ℕ) → ForBoth k self.old self.new (λ c d.
-            IsAlone setup start pieces times (seen S.left S.given K.taken c) →
-            AnswersAlone setup start pieces times (AreSomeGiven (C.readings clock.old) (C.readings clock.new)) d.end
-            (seen S.left S.given K.taken c) (seen S.left S.given K.taken d)) }
+        ensures alone { (k : ℕ) (setup : Started) (start : Start) (pieces : List Piece) (times : List ℕ) →
+            ForBoth k self.old self.new (λ c d.
+            IsAlone setup start pieces times (seen S.view K.view c) →
+            AnswersAlone setup start pieces times (AreSomeGiven (C.view clock.old).left (C.view clock.new).left) d.end
+            (seen S.view K.view c) (seen S.view K.view d)) }
         // what source, sink and clock say
         ensures source { (k : ℕ) → ForBoth k self.old self.new (λ c d. c.end ≡ None →
-            LentSource S.faults S.last S.later (IsEndOf d.end error.ReadFault) (IsInputEnd d.end) c.source d.source) }
+            LentSource S.view S.later (IsEndOf d.end error.ReadFault) (IsInputEnd d.end) c.source d.source) }
         ensures sink { (k : ℕ) → ForBoth k self.old self.new (λ c d. c.end ≡ None →
-            LentSink K.faults K.later (IsEndOf d.end error.WriteFault) c.sink d.sink) }
+            LentSink K.view K.later (IsEndOf d.end error.WriteFault) c.sink d.sink) }
         ensures clock { LentClock C.later clock.old clock.new }
-        ensures gave { GaveReadings (C.readings clock.old) (C.readings clock.new) }
+        ensures gave { GaveReadings (C.view clock.old).left (C.view clock.new).left }
     {
         self.serve_rounds(clock);
     }
@@ -198,11 +202,11 @@ impl<S: Source, K: Sink> Hub<S, K> {
     /// Rounds of turns, until nobody goes on.
     fn serve_rounds<C: Clock>(&mut self, clock: &mut C)
         ensures same { SameHub self.old self.new }
-        ensures since { (k : ℕ) → ForBoth k self.old self.new (λ c d. Since S.left S.given S.faults S.last S.later
-            K.taken K.faults K.later 0 (C.readings clock.old) (C.readings clock.new) c d) }
+        ensures since { (k : ℕ) → ForBoth k self.old self.new (λ c d.
+            Since S.view S.later K.view K.later 0 (C.view clock.old).left (C.view clock.new).left c d) }
         ensures ended { (k : ℕ) → ForClient k self.new (λ d. IsSome d.end) }
         ensures clock { LentClock C.later clock.old clock.new }
-        ensures gave { GaveReadings (C.readings clock.old) (C.readings clock.new) }
+        ensures gave { GaveReadings (C.view clock.old).left (C.view clock.new).left }
     {
         for _round in 0..u64::from(self.setup.pieces) + 1 {
             if !self.serve_round(clock) {
@@ -214,10 +218,10 @@ impl<S: Source, K: Sink> Hub<S, K> {
     /// One turn of each client that goes on, by rising number. It answers whether one goes on still.
     fn serve_round<C: Clock>(&mut self, clock: &mut C) -> bool
         ensures same { SameHub self.old self.new }
-        ensures since { (k : ℕ) → ForBoth k self.old self.new (λ c d. Since S.left S.given S.faults S.last S.later
-            K.taken K.faults K.later 1 (C.readings clock.old) (C.readings clock.new) c d) }
+        ensures since { (k : ℕ) → ForBoth k self.old self.new (λ c d.
+            Since S.view S.later K.view K.later 1 (C.view clock.old).left (C.view clock.new).left c d) }
         ensures clock { LentClock C.later clock.old clock.new }
-        ensures gave { GaveReadings (C.readings clock.old) (C.readings clock.new) }
+        ensures gave { GaveReadings (C.view clock.old).left (C.view clock.new).left }
         ensures ended { result ≡ false → (k : ℕ) → ForClient k self.new (λ d. IsSome d.end) }
     {
         let mut goes_on = false;
@@ -234,10 +238,10 @@ impl<S: Source, K: Sink> Hub<S, K> {
         requires joined { at < count_of self.old }
         ensures same { SameHub self.old self.new }
         ensures others { SameOthers at self.old self.new }
-        ensures since { ForBoth at self.old self.new (λ c d. Since S.left S.given S.faults S.last S.later
-            K.taken K.faults K.later 1 (C.readings clock.old) (C.readings clock.new) c d) }
+        ensures since { ForBoth at self.old self.new (λ c d.
+            Since S.view S.later K.view K.later 1 (C.view clock.old).left (C.view clock.new).left c d) }
         ensures clock { LentClock C.later clock.old clock.new }
-        ensures gave { GaveReadings (C.readings clock.old) (C.readings clock.new) }
+        ensures gave { GaveReadings (C.view clock.old).left (C.view clock.new).left }
         ensures ended { result ≡ false → ForClient at self.new (λ d. IsSome d.end) }
     {
         if !self.goes_on(at) {
@@ -261,18 +265,19 @@ impl<S: Source, K: Sink> Hub<S, K> {
         requires going { ForClient at self.old (λ c. c.end ≡ None) }
         ensures same { SameHub self.old self.new }
         ensures others { SameOthers at self.old self.new }
-        ensures alone { (setup : Started) (start : Start) (pieces : List Piece) (times : List ℕ) → ForBoth at self.old self.new (λ c d.
-            IsAlone setup start pieces times (seen S.left S.given K.taken c) →
-            TurnsAlone setup start pieces times (AreTaken (C.readings clock.old) (C.readings clock.new))
-            (seen S.left S.given K.taken c) (seen S.left S.given K.taken d)) }
+        ensures alone { (setup : Started) (start : Start) (pieces : List Piece) (times : List ℕ) →
+            ForBoth at self.old self.new (λ c d.
+            IsAlone setup start pieces times (seen S.view K.view c) →
+            TurnsAlone setup start pieces times (AreTaken (C.view clock.old).left (C.view clock.new).left)
+            (seen S.view K.view c) (seen S.view K.view d)) }
         ensures more { ForBoth at self.old self.new (λ c d. d.end ≡ None → d.session.taken ≡ c.session.taken + 1) }
         // what source, sink and clock say
         ensures source { ForBoth at self.old self.new (λ c d.
-            LentSource S.faults S.last S.later (IsEndOf d.end error.ReadFault) (IsInputEnd d.end) c.source d.source) }
+            LentSource S.view S.later (IsEndOf d.end error.ReadFault) (IsInputEnd d.end) c.source d.source) }
         ensures sink { ForBoth at self.old self.new (λ c d.
-            LentSink K.faults K.later (IsEndOf d.end error.WriteFault) c.sink d.sink) }
+            LentSink K.view K.later (IsEndOf d.end error.WriteFault) c.sink d.sink) }
         ensures clock { LentClock C.later clock.old clock.new }
-        ensures gave { GaveReadings (C.readings clock.old) (C.readings clock.new) }
+        ensures gave { GaveReadings (C.view clock.old).left (C.view clock.new).left }
     {
         let one = &mut self.clients[at];
         one.turn(clock);

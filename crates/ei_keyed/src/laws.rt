@@ -17,6 +17,8 @@ pub fn maps<V>()
 
 /// Keys that rise, from one number on and below another, still do after a value is put in or taken out.
 pub fn rises<V>()
-    ensures put { (xs : List (ℕ × V)) (from key : ℕ) (value : V) → RiseWithin from key xs → RiseWithin from (key + 1) (xs ++ (key, value) ∷ []) }
-    ensures taken { (xs : List (ℕ × V)) (from end key : ℕ) → RiseWithin from end xs → RiseWithin from end (without_key key xs) }
+    ensures put { (xs : List (ℕ × V)) (from key : ℕ) (value : V) → RiseWithin from key xs →
+        RiseWithin from (key + 1) (xs ++ (key, value) ∷ []) }
+    ensures taken { (xs : List (ℕ × V)) (from end key : ℕ) → RiseWithin from end xs →
+        RiseWithin from end (without_key key xs) }
 {}

@@ -146,7 +146,8 @@ impl<V: Drop> Keyed<V> {
     /// Keeps the values at which the test, which answers by the value alone, is `true`.
     pub fn retain<F: Fn(&V) -> bool>(&mut self, test: F)
         requires { (f : F) (x : _) → F.pre f x }
-        ensures items { (kept : V → Bool) → Decides F.Fn kept test → self.new.items ≡ filter (λ x. kept x.1) self.old.items }
+        ensures items { (kept : V → Bool) → Decides F.Fn kept test →
+            self.new.items ≡ filter (λ x. kept x.1) self.old.items }
         ensures room { self.old.room ≤ self.new.room }
     {
         self.places.retain(test);

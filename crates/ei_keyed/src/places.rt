@@ -182,7 +182,8 @@ impl<V: Drop> Places<V> {
     /// Keeps the values at which the test is `true`.
     pub(crate) fn retain<F: Fn(&V) -> bool>(&mut self, test: F)
         requires { (f : F) (x : _) → F.pre f x }
-        ensures items { (kept : V → Bool) → Decides F.Fn kept test → live self.new.places ≡ filter (λ x. kept x.1) (live self.old.places) }
+        ensures items { (kept : V → Bool) → Decides F.Fn kept test →
+            live self.new.places ≡ filter (λ x. kept x.1) (live self.old.places) }
         ensures room { self.old.room ≤ self.new.room }
     {
         self.all.retain(

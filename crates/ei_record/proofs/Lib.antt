@@ -15,3 +15,4 @@ pub mod Suits
 pub mod Comes
 pub mod Alive
 pub mod Law
+pub mod TouchesBefore

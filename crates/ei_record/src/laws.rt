@@ -10,7 +10,8 @@ ghost use Rattle.ei_record.specs.Worked.{Rows};
 
 /// What a server hands out can be played back: the requests of any stream, whatever the clock told.
 pub fn handed_out()
-    ensures { (setup : Setup) (stream readings : List ℕ) → IsBytes stream → IsReplayable setup (framed setup readings (accepted setup stream)) }
+    ensures { (setup : Setup) (stream readings : List ℕ) → IsBytes stream →
+        IsReplayable setup (framed setup readings (accepted setup stream)) }
 {}
 
 /// The worked rows.

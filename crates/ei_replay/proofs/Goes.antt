@@ -27,7 +27,7 @@ use Rattle.ei_replay.specs.declared.played.Played.{Played}
 use Rattle.ei_replay.specs.Steps.{kind_of, step_of, IsNamed}
 use Rattle.ei_replay.specs.Made.{MadeView, touched, takes, closed}
 use Rattle.ei_replay.specs.Played.{over_after, id_behind, next_behind, next_after, with_made, changed_at, changed, devices_after, Follows, Touched, IsMade, device_of_input, Stands}
-use Rattle.ei_replay.proofs.TouchesBefore.{down_one}
+use Rattle.ei_record.proofs.TouchesBefore.{down_one}
 use Rattle.ei_replay.proofs.TouchedAs.{touched_as, touched_once}
 
 -- ---- the definitions, with one more item

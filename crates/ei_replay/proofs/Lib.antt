@@ -1,4 +1,3 @@
-pub mod TouchesBefore
 pub mod Tells
 pub mod TouchedAs
 pub mod Goes

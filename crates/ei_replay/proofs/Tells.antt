@@ -21,7 +21,7 @@ use Rattle.ei_replay.specs.declared.played.Played.{Played}
 use Rattle.ei_replay.specs.Steps.{kind_of, step_of, goes_with, IsNamed}
 use Rattle.ei_replay.specs.Made.{MadeView, has_touch, refuses_kind, refuses}
 use Rattle.ei_replay.specs.Played.{if_open, open_device, is_it, wrong_input, wrong_step, wrong_at, Touched, IsMade, device_of_input, Stands}
-use Rattle.ei_replay.proofs.TouchesBefore.{down_count}
+use Rattle.ei_record.proofs.TouchesBefore.{down_count}
 
 -- ---- Bools
 

@@ -16,5 +16,6 @@ pub fn of_session()
         map asked_of (map (request_in_code (accepted setup stream)) (framed setup readings (accepted setup stream)))
         ≡ framed setup readings (accepted setup stream) }
     ensures right { (setup : Setup) (stream readings : List ℕ) → IsBytes stream →
-        IsReplayable setup (map asked_of (map (request_in_code (accepted setup stream)) (framed setup readings (accepted setup stream)))) }
+        IsReplayable setup (map asked_of (map (request_in_code (accepted setup stream))
+        (framed setup readings (accepted setup stream)))) }
 {}

@@ -132,7 +132,8 @@ impl Played {
     /// A device of these capabilities is made, unless there are none.
     fn make(&mut self, mask: DeviceCapabilities) -> Result<(), AllocError>
         ensures next { OnOk result (self.new.next ≡ next_behind (bits_of mask) self.old.next) }
-        ensures devices { OnOk result (self.new.devices.items ≡ with_made (bits_of mask) self.old.next self.old.devices.items) }
+        ensures devices { OnOk result (self.new.devices.items ≡
+            with_made (bits_of mask) self.old.next self.old.devices.items) }
         ensures over { self.new.over ≡ self.old.over }
         ensures capabilities { self.new.capabilities ≡ self.old.capabilities }
     {

@@ -9,12 +9,9 @@ ghost use Rattle.ei_spec.specs.declared.limits.TheConstants.{MOST_MESSAGE_BYTES}
 ghost use Rattle.ei_spec.specs.Interface.{Known};
 ghost use Rattle.ei_spec.specs.Message.{size};
 ghost use Rattle.ei_wire.specs.declared.error.SendError.TheVariants as send_error;
-ghost use Rattle.ei_wire.specs.declared.error.FlushError.TheVariants as flush_error;
 ghost use Rattle.ei_types.specs.Enums.{disconnect_reason_number};
 ghost use Rattle.ei_backend.specs.Backend.{unsent_of, with_unsent};
-ghost use Rattle.ei_backend.specs.Outside.{Piece};
-ghost use Rattle.ei_backend.specs.Lent.{LentSinkWants};
-ghost use Rattle.ei_backend.specs.Outgoing.{StopsAfter, Flushes};
+ghost use Rattle.ei_backend.specs.Outgoing.{Flushes};
 ghost use Rattle.ei_backend.specs.Table.{own_end};
 ghost use Rattle.ei_backend.specs.Endpoint.{endpoint_of};
 ghost use Rattle.ei_request.specs.Held.{is_seat, is_device, is_of_key, has_interface, untouched, changed_first, group_of, waiting_of};
@@ -190,17 +187,9 @@ impl Connection {
     /// `WriteFault` where the sink failed, `NoMemory` where it wants memory. Where nothing waits the sink
     /// isn't asked.
     pub fn flush<K: Sink>(&mut self, sink: &mut K) -> Result<(), FlushError>
-        ensures stops { StopsAfter (unsent_of self.old.ctx) result (unsent_of self.new.ctx) }
-        ensures took { (held : Piece) → K.taken sink.old ≡ Some held → Flushes held (unsent_of self.old.ctx) result (unsent_of self.new.ctx) (K.taken
-            sink.new) }
-        ensures kept { self.new ≡ record self.old { ctx = with_unsent (unsent_of self.new.ctx) self.old.ctx } }
-        // where nothing waits
-        ensures nothing { self.old.ctx.unsent ≡ [] → IsOk result }
-        ensures nothing_kept { self.old.ctx.unsent ≡ [] → self.new ≡ self.old }
-        ensures nothing_put { self.old.ctx.unsent ≡ [] → sink.new ≡ sink.old }
-        // what the sink says
-        ensures sink { LentSinkWants K.faults K.wants K.later (IsErrOf result flush_error.WriteFault) (IsErrOf result flush_error.NoMemory)
+        ensures flushes { Flushes K.view K.later result (unsent_of self.old.ctx) (unsent_of self.new.ctx)
             sink.old sink.new }
+        ensures kept { self.new ≡ record self.old { ctx = with_unsent (unsent_of self.new.ctx) self.old.ctx } }
     {
         self.context.flush(sink)
     }
@@ -214,7 +203,10 @@ impl Connection {
     /// `NoMemory`, and never where there is room for the event: nothing is sent.
     pub fn invalid_object(&mut self, invalid_id: u64) -> Result<(), SendError>
         ensures sends { AllOrNothing result self.old
-            (record self.old { ctx = says self.old.ctx (no_object_event self.old.proxy.id self.old.last_serial invalid_id) }) self.new }
+            (record self.old {
+              ctx = says self.old.ctx
+                  (no_object_event self.old.proxy.id self.old.last_serial invalid_id);
+            }) self.new }
         ensures room { HasRoomOf (no_object_event self.old.proxy.id self.old.last_serial invalid_id) self.old.ctx
             → IsErrOf result send_error.NoMemory → ⊥ }
     {
@@ -361,13 +353,15 @@ impl Connection {
         reason: DisconnectReason,
         explanation: Option<&str>,
     ) -> Result<(), SendError>
-        ensures ok { OnOk result (Disconnects self.old (disconnect_reason_number reason) (option_copied explanation.entry) self.new) }
+        ensures ok { OnOk result (Disconnects self.old (disconnect_reason_number reason)
+            (option_copied explanation.entry) self.new) }
         ensures err { OnErr result (Unchanged self.old self.new) }
         ensures ring { self.new.ctx.capacity ≡ self.old.ctx.capacity }
         // when it is refused
         ensures not_exhausted { IsErrOf result send_error.IdsExhausted → ⊥ }
         ensures long { IsErrOf result send_error.MessageTooLong ↔
-            (MOST_MESSAGE_BYTES < size (disconnected_event self.old.proxy.id 0 (disconnect_reason_number reason) (option_copied explanation.entry))) }
+            (MOST_MESSAGE_BYTES < size (disconnected_event self.old.proxy.id 0 (disconnect_reason_number reason)
+            (option_copied explanation.entry))) }
     {
         let bytes = sending::text_bytes(explanation).saturating_add(END_BYTES);
         if bytes > MOST_MESSAGE_BYTES as usize {
@@ -397,6 +391,14 @@ impl Connection {
         ensures { result ≡ holds_device self.now device.now }
     {
         self.devices.get(Sought::Key(device)).is_some()
+    }
+
+    /// Whether a device that is held has the interface of this object: it was announced, and neither it was released nor its
+    /// device taken away.
+    pub fn has_interface_object(&self, object: &Object) -> bool
+        ensures { result ≡ is_some (find (has_interface object.now.id) self.now.devices) }
+    {
+        self.devices.get(Sought::Interface(object.id())).is_some()
     }
 
     /// What is held of the device of that id.
@@ -491,7 +493,10 @@ impl Connection {
 
     /// No touch of the device is down any more.
     pub(crate) fn clear_touches(&mut self, device: &Device)
-        ensures { self.new ≡ record self.old { devices = changed_first (is_of_key device.now) untouched self.old.devices } }
+        ensures { self.new ≡ record self.old {
+          devices = changed_first
+              (is_of_key device.now) untouched self.old.devices;
+        } }
     {
         self.devices.clear_touches(device);
     }
@@ -516,7 +521,8 @@ impl Connection {
     ) -> Result<(), InputError>
         ensures accepted { OnOk result (asked_refusal version asked (find (has_interface id) self.old.devices) ≡ None) }
         ensures ok { OnOk result (self.new ≡ obeys self.old id asked) }
-        ensures why { IfErr result (TellsOfInput version (asked_refusal version asked (find (has_interface id) self.old.devices))) }
+        ensures why { IfErr result (TellsOfInput version
+            (asked_refusal version asked (find (has_interface id) self.old.devices))) }
         ensures err { OnErr result (self.new ≡ self.old) }
     {
         match asked {
@@ -561,7 +567,8 @@ impl Connection {
         serial: u32,
         time: u64,
     ) -> Result<(), AllocError>
-        ensures queue { OnOk result (queue.new.items ≡ queue.old.items ++ group_of (find (is_device id) self.old.devices) serial time) }
+        ensures queue { OnOk result (queue.new.items ≡ queue.old.items ++
+            group_of (find (is_device id) self.old.devices) serial time) }
         ensures ok { OnOk result (self.new ≡ emptied_at self.old id) }
         ensures same { OnErr result (queue.new.items ≡ queue.old.items) }
         ensures err { OnErr result (self.new ≡ self.old) }
@@ -572,7 +579,8 @@ impl Connection {
     /// Hands out what waits on the device of that id, with a frame. There is room for it.
     pub(crate) fn hand_out(&mut self, queue: &mut Queue, id: u64, serial: u32, time: u64)
         requires room { length (waiting_of (find (is_device id) self.old.devices)) + 2 ≤ queue.old.room }
-        ensures queue { queue.new.items ≡ queue.old.items ++ group_of (find (is_device id) self.old.devices) serial time }
+        ensures queue { queue.new.items ≡ queue.old.items ++
+            group_of (find (is_device id) self.old.devices) serial time }
         ensures ok { self.new ≡ emptied_at self.old id }
         ensures left { 0 < queue.new.room }
     {

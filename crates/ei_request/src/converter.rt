@@ -113,7 +113,7 @@ impl EisRequestConverter {
     /// `NoMemory`. A refused call queues nothing, asks no clock, and leaves touches, serial and buffers.
     #[inline(always)]
     pub fn handle_request<C: Clock>(&mut self, clock: &mut C, request: Request) -> Result<(), Error>
-        ensures handles { Handles self.old request (C.readings clock.old) result (C.readings clock.new) self.new }
+        ensures handles { Handles self.old request (C.view clock.old).left result (C.view clock.new).left self.new }
         ensures kept { OnErr result (clock.new ≡ clock.old) }
         ensures clock { LentClock C.later clock.old clock.new }
     {
@@ -132,7 +132,7 @@ impl EisRequestConverter {
         request: Request,
     ) -> Result<(), Error>
         ensures handles { HandlesTo self.old id version (meaning_of request)
-            (C.readings clock.old) result (C.readings clock.new) self.new }
+            (C.view clock.old).left result (C.view clock.new).left self.new }
         ensures kept { OnErr result (clock.new ≡ clock.old) }
         ensures clock { LentClock C.later clock.old clock.new }
     {
@@ -149,9 +149,11 @@ impl EisRequestConverter {
     /// A request to an interface of a device: an input, or else the release.
     #[inline(always)]
     fn obey(&mut self, id: u64, version: u32, asked: Option<InputEvent>) -> Result<(), Error>
-        ensures accepted { OnOk result (asked_refusal version asked (find (has_interface id) self.old.handle.devices) ≡ None) }
+        ensures accepted { OnOk result (asked_refusal version asked (find (has_interface id) self.old.handle.devices) ≡
+            None) }
         ensures ok { OnOk result (self.new ≡ record self.old { handle = obeys self.old.handle id asked }) }
-        ensures why { IfErr result (Tells (asked_refusal version asked (find (has_interface id) self.old.handle.devices))) }
+        ensures why { IfErr result (Tells (asked_refusal version asked
+            (find (has_interface id) self.old.handle.devices))) }
         ensures err { OnErr result (self.new ≡ self.old) }
     {
         if let Err(refused) = self.handle.obey(id, version, asked) {
@@ -215,7 +217,8 @@ impl EisRequestConverter {
     /// `InvalidCapabilities` where a bit of the mask is no capability's, or that of one which the seat wasn't given.
     fn masked(&self, id: u64, mask: u64) -> Result<Option<(Seat, DeviceCapabilities)>, Error>
         ensures accepted { OnOk result (mask_refusal mask (find (is_seat id) self.now.handle.seats) ≡ None) }
-        ensures ok { IfOk result (λ found. found ≡ option_map (λ s. (s.proxy, set_of mask)) (find (is_seat id) self.now.handle.seats)) }
+        ensures ok { IfOk result (λ found. found ≡ option_map
+            (λ s. (s.proxy, set_of mask)) (find (is_seat id) self.now.handle.seats)) }
         ensures why { IfErr result (Tells (mask_refusal mask (find (is_seat id) self.now.handle.seats))) }
     {
         let Some(held) = self.handle.find_seat(id) else {
@@ -238,7 +241,7 @@ impl EisRequestConverter {
         request: device::Request,
     ) -> Result<(), Error>
         ensures handles { (version : ℕ) → HandlesTo self.old id version (device_meaning request)
-            (C.readings clock.old) result (C.readings clock.new) self.new }
+            (C.view clock.old).left result (C.view clock.new).left self.new }
         ensures kept { OnErr result (clock.new ≡ clock.old) }
         ensures clock { LentClock C.later clock.old clock.new }
     {
@@ -262,7 +265,7 @@ impl EisRequestConverter {
     ) -> Result<(), Error>
         requires { closes_group (device_meaning request) ≡ true }
         ensures handles { (version : ℕ) → HandlesTo self.old id version (device_meaning request)
-            (C.readings clock.old) result (C.readings clock.new) self.new }
+            (C.view clock.old).left result (C.view clock.new).left self.new }
         ensures kept { OnErr result (clock.new ≡ clock.old) }
         ensures later { C.later clock.old clock.new }
     {
@@ -294,7 +297,7 @@ impl EisRequestConverter {
 /// The time of a frame that is made for so many inputs: the clock's next reading. Where no input waits no frame is made, and the
 /// clock isn't asked.
 fn made_time<C: Clock>(clock: &mut C, waiting: usize) -> u64
-    ensures time { Times true (nat_lt 0 waiting) result (C.readings clock.old) (C.readings clock.new) }
+    ensures time { Times true (nat_lt 0 waiting) result (C.view clock.old).left (C.view clock.new).left }
     ensures clock { LentClock C.later clock.old clock.new }
 {
     if waiting > 0 { clock.now() } else { 0 }

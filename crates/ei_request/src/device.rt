@@ -138,7 +138,8 @@ impl Device {
 
     /// Whether the device still has the interface of the capability; false where the connection doesn't hold it.
     pub fn has_capability(&self, conn: &Connection, capability: DeviceCapability) -> bool
-        ensures { result ≡ is_some (interface_in (interface_of capability) (find (is_of_key self.now) conn.now.devices)) }
+        ensures { result ≡ is_some (interface_in (interface_of capability)
+            (find (is_of_key self.now) conn.now.devices)) }
     {
         conn.interface_of(self, capability.interface()).is_some()
     }
@@ -195,8 +196,10 @@ impl Device {
     /// `NoMemory`, and never where there is room for the event: nothing is sent.
     pub fn start_emulating(&self, conn: &mut Connection, sequence: u32) -> Result<(), SendError>
         requires held { holds_device conn.old self.now ≡ true }
-        ensures sends { AllOrNothing result conn.old (tells conn.old (λ serial. start_emulating_event self.now.proxy.id serial sequence)) conn.new }
-        ensures room { HasRoomOf (start_emulating_event self.now.proxy.id (next_serial conn.old.last_serial) sequence) conn.old.ctx
+        ensures sends { AllOrNothing result conn.old
+            (tells conn.old (λ serial. start_emulating_event self.now.proxy.id serial sequence)) conn.new }
+        ensures room { HasRoomOf (start_emulating_event self.now.proxy.id
+            (next_serial conn.old.last_serial) sequence) conn.old.ctx
             → IsErrOf result send_error.NoMemory → ⊥ }
     {
         tell!(conn, serial => self.proxy.start_emulating(conn.context_mut(), serial, sequence))
@@ -207,8 +210,10 @@ impl Device {
     /// `NoMemory`, and never where there is room for the event: nothing is sent.
     pub fn stop_emulating(&self, conn: &mut Connection) -> Result<(), SendError>
         requires held { holds_device conn.old self.now ≡ true }
-        ensures sends { AllOrNothing result conn.old (tells conn.old (stop_emulating_event self.now.proxy.id)) conn.new }
-        ensures room { HasRoomOf (stop_emulating_event self.now.proxy.id (next_serial conn.old.last_serial)) conn.old.ctx
+        ensures sends { AllOrNothing result conn.old
+            (tells conn.old (stop_emulating_event self.now.proxy.id)) conn.new }
+        ensures room { HasRoomOf (stop_emulating_event self.now.proxy.id
+            (next_serial conn.old.last_serial)) conn.old.ctx
             → IsErrOf result send_error.NoMemory → ⊥ }
     {
         tell!(conn, serial => self.proxy.stop_emulating(conn.context_mut(), serial))
@@ -220,7 +225,8 @@ impl Device {
     /// `NoMemory`, and never where there is room for the event: nothing is sent.
     pub fn frame(&self, conn: &mut Connection, time: u64) -> Result<(), SendError>
         requires held { holds_device conn.old self.now ≡ true }
-        ensures sends { AllOrNothing result conn.old (tells conn.old (λ serial. frame_event self.now.proxy.id serial time)) conn.new }
+        ensures sends { AllOrNothing result conn.old
+            (tells conn.old (λ serial. frame_event self.now.proxy.id serial time)) conn.new }
         ensures room { HasRoomOf (frame_event self.now.proxy.id (next_serial conn.old.last_serial) time) conn.old.ctx
             → IsErrOf result send_error.NoMemory → ⊥ }
     {

@@ -79,7 +79,8 @@ impl Model for DeviceTable {
 
     ghost coded = { table_code };
 
-    ghost view = { λ d. record { items = values d.held.items; room = d.held.room; id_room = d.ids.room; next = d.next } };
+    ghost view = { λ d.
+        record { items = values d.held.items; room = d.held.room; id_room = d.ids.room; next = d.next } };
 
     ghost invariant = { λ d. IsTable d.held.items d.ids.items d.next d.exact };
 }
@@ -300,7 +301,8 @@ impl DeviceTable {
 
     /// Adds the ids that go with the device of that key; none where it isn't held.
     pub(crate) fn push_ids(&self, device: &Device, ids: &mut Vec<u64>) -> Result<(), SendError>
-        ensures ok { OnOk result (ids.new.items ≡ ids.old.items ++ gone_ids (find (is_of_key device.now) self.now.items)) }
+        ensures ok { OnOk result (ids.new.items ≡ ids.old.items ++
+            gone_ids (find (is_of_key device.now) self.now.items)) }
         ensures only { IfErr result (λ e. e ≡ send_error.NoMemory) }
     {
         match self.get(Sought::Key(device)) {
@@ -311,7 +313,8 @@ impl DeviceTable {
 
     /// Adds the ids that go with the devices of the seat of that id.
     pub(crate) fn push_ids_of_seat(&self, seat: u64, ids: &mut Vec<u64>) -> Result<(), SendError>
-        ensures ok { OnOk result (ids.new.items ≡ ids.old.items ++ all_device_ids (filter (is_of_seat seat) self.now.items)) }
+        ensures ok { OnOk result (ids.new.items ≡ ids.old.items ++
+            all_device_ids (filter (is_of_seat seat) self.now.items)) }
         ensures only { IfErr result (λ e. e ≡ send_error.NoMemory) }
     {
         let mut rest = self.held.iter();
@@ -333,8 +336,10 @@ impl DeviceTable {
         input: InputEvent,
     ) -> Result<(), InputError>
         ensures accepted { OnOk result (input_refusal version input (find (has_interface id) self.old.items) ≡ None) }
-        ensures ok { OnOk result (self.new.items ≡ changed_first (has_interface id) (takes_input input) self.old.items) }
-        ensures why { IfErr result (TellsOfInput version (input_refusal version input (find (has_interface id) self.old.items))) }
+        ensures ok { OnOk result (self.new.items ≡
+            changed_first (has_interface id) (takes_input input) self.old.items) }
+        ensures why { IfErr result (TellsOfInput version
+            (input_refusal version input (find (has_interface id) self.old.items))) }
         ensures err { OnErr result (self.new.items ≡ self.old.items) }
     {
         match sought_mut(&mut self.held, &self.ids, self.exact, Sought::Interface(id)) {
@@ -368,7 +373,8 @@ impl DeviceTable {
         serial: u32,
         time: u64,
     ) -> Result<(), AllocError>
-        ensures queue { OnOk result (queue.new.items ≡ queue.old.items ++ group_of (find (is_device id) self.old.items) serial time) }
+        ensures queue { OnOk result (queue.new.items ≡ queue.old.items ++
+            group_of (find (is_device id) self.old.items) serial time) }
         ensures ok { OnOk result (self.new.items ≡ changed_first (is_device id) emptied self.old.items) }
         ensures same { OnErr result (queue.new.items ≡ queue.old.items) }
         ensures err { OnErr result (self.new.items ≡ self.old.items) }

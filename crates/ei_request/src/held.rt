@@ -116,7 +116,14 @@ impl Model for HeldDevice {
 
     ghost coded = { device_code };
 
-    ghost view = { λ d. record { device = d.device; name = d.name; interfaces = d.interfaces.items; waiting = d.waiting.items; touches = d.touches.items } };
+    ghost view = { λ d.
+        record {
+          device = d.device;
+          name = d.name;
+          interfaces = d.interfaces.items;
+          waiting = d.waiting.items;
+          touches = d.touches.items;
+        } };
 }
 
 impl HeldDevice {
@@ -127,7 +134,13 @@ impl HeldDevice {
         name: Option<EiText>,
         interfaces: Vec<Object>,
     ) -> HeldDevice
-        ensures { result ≡ record { device = device; name = name; interfaces = interfaces.items; waiting = []; touches = [] } }
+        ensures { result ≡ record {
+          device = device;
+          name = name;
+          interfaces = interfaces.items;
+          waiting = [];
+          touches = [];
+        } }
     {
         HeldDevice {
             device,
@@ -194,7 +207,8 @@ impl HeldDevice {
     /// The interface of that id leaves it. Says whether the table of the ids had it with that number, and no more has it.
     pub(crate) fn give_up(&mut self, ids: &mut Keyed<u64>, number: u64, id: u64) -> bool
         ensures gone { self.new ≡ without_interface id self.old }
-        ensures forgotten { result ≡ true → (nat_eq id self.old.device.proxy.id ≡ false) × Forgets number (id ∷ []) ids.old.items ids.new.items }
+        ensures forgotten { result ≡ true → (nat_eq id self.old.device.proxy.id ≡ false) ×
+            Forgets number (id ∷ []) ids.old.items ids.new.items }
     {
         take_out_interface(&mut self.interfaces, id);
         id != self.id() && forget_id(ids, number, id)
@@ -278,7 +292,8 @@ impl HeldDevice {
         serial: u32,
         time: u64,
     ) -> Result<(), AllocError>
-        ensures queue { OnOk result (queue.new.items ≡ queue.old.items ++ group_requests self.old.device self.old.waiting serial time) }
+        ensures queue { OnOk result (queue.new.items ≡ queue.old.items ++
+            group_requests self.old.device self.old.waiting serial time) }
         ensures ok { OnOk result (self.new ≡ emptied self.old) }
         ensures same { OnErr result (queue.new.items ≡ queue.old.items) }
         ensures err { OnErr result (self.new ≡ self.old) }
@@ -292,7 +307,8 @@ impl HeldDevice {
     /// where nothing waits. There is room for it.
     pub(crate) fn hand_out(&mut self, queue: &mut Queue, serial: u32, time: u64)
         requires room { length self.old.waiting + 2 ≤ queue.old.room }
-        ensures queue { queue.new.items ≡ queue.old.items ++ group_requests self.old.device self.old.waiting serial time }
+        ensures queue { queue.new.items ≡ queue.old.items ++
+            group_requests self.old.device self.old.waiting serial time }
         ensures emptied { self.new ≡ emptied self.old }
         ensures left { 0 < queue.new.room }
     {
@@ -313,7 +329,8 @@ impl HeldDevice {
 
     /// The same, where it is a device of the seat of that id.
     pub(crate) fn push_ids_if_of_seat(&self, seat: u64, ids: &mut Vec<u64>) -> Result<(), SendError>
-        ensures ok { OnOk result (ids.new.items ≡ ids.old.items ++ all_device_ids (filter (is_of_seat seat) (self.now ∷ []))) }
+        ensures ok { OnOk result (ids.new.items ≡ ids.old.items ++
+            all_device_ids (filter (is_of_seat seat) (self.now ∷ []))) }
         ensures only { IfErr result (λ e. e ≡ send_error.NoMemory) }
     {
         if self.is_of_seat(seat) {
@@ -459,7 +476,8 @@ fn lift(
     input: InputEvent,
 ) -> Result<(), InputError>
     ensures ok { OnOk result (touches.new.items ≡ without_first (nat_eq touch_id) touches.old.items) }
-    ensures waits { OnOk result (waiting.new.items ≡ (if list_any (nat_eq touch_id) touches.old.items then waiting.old.items ++ input ∷ [] else
+    ensures waits { OnOk result (waiting.new.items ≡
+        (if list_any (nat_eq touch_id) touches.old.items then waiting.old.items ++ input ∷ [] else
         waiting.old.items)) }
     ensures err { OnErr result (touches.new.items ≡ touches.old.items) }
     ensures err_waiting { OnErr result (waiting.new.items ≡ waiting.old.items) }

@@ -64,7 +64,8 @@ pub(crate) fn push_seat_ids(
     id: u64,
     ids: &mut Vec<u64>,
 ) -> Result<(), SendError>
-    ensures ok { OnOk result (ids.new.items ≡ ids.old.items ++ gone_with_seat devices.now.items (find (is_seat id) seats.now)) }
+    ensures ok { OnOk result (ids.new.items ≡ ids.old.items ++
+        gone_with_seat devices.now.items (find (is_seat id) seats.now)) }
     ensures only { IfErr result (λ e. e ≡ send_error.NoMemory) }
 {
     match find_seat(seats, id) {

@@ -20,7 +20,8 @@ use Rattle.ei_serve.specs.declared.state.SessionState.{SessionState}
 use Rattle.ei_serve.specs.Around.{Around}
 use Rattle.ei_serve.specs.Refusing.{refusal_of}
 use Rattle.ei_serve.specs.Turning.{Closes, ClosesRefused, Finds, GoesOn, Stays, BreaksOff, Turns, IsAtEnd}
-use Rattle.ei_serve.specs.Serving.{IsSourceEnd, AreTold, BeginAsGiven, ArePieces, GavePieces}
+use Rattle.ei_serve.specs.Serving.{IsSourceEnd}
+use Rattle.ei_backend.specs.Pieces.{AreTold, BeginAsGiven, ArePieces, GavePieces}
 use Rattle.ei_serve.specs.Whole.{Serves}
 use Rattle.ei_serve.proofs.Going.{goes_beside, breaks_beside}
 use Rattle.ei_serve.proofs.Running.{Running, Took}
@@ -37,7 +38,7 @@ Gave before after came = after.given ≡ before.given ++ came
 
 -- a source that says the same, but told these pieces
 abbrev told_as : Option (List Piece) → SourceView → SourceView
-told_as left v = record { left = left; given = v.given }
+told_as left v = record v { left = left }
 
 module _ (before after : SourceView) (came more : List Piece) (gave : Gave before after came) where
   abbrev before_as : SourceView
@@ -54,6 +55,8 @@ module _ (before after : SourceView) (came more : List Piece) (gave : Gave befor
             let e : came ++ more ≡ pieces = cc in
             subst (λ (l : List Piece). IsFirst l (Some more) piece) (ap (λ (l : List Piece). l ++ more) (sym same) ∙ e) (record { first = refl; left_is = refl });
         given = h.given;
+        asked = h.asked;
+        last = h.last;
       }
 
   none_came : after.given ≡ before.given → came ++ more ≡ more
@@ -65,6 +68,8 @@ module _ (before after : SourceView) (came more : List Piece) (gave : Gave befor
         let e : came ++ more ≡ pieces = cc in
         (sym e ∙ none_came h.given ∙ no_more, ap (λ (l : List Piece). Some l) no_more);
     given = h.given;
+    asked = h.asked;
+    last = h.last;
   }
 
   keeps_so : Keeps before after → Keeps before_as after_as
@@ -73,6 +78,7 @@ module _ (before after : SourceView) (came more : List Piece) (gave : Gave befor
         let e : came ++ more ≡ pieces = cc in
         ap (λ (l : List Piece). Some l) (sym (none_came h.given) ∙ e);
     given = h.given;
+    asked = h.asked;
   }
 
 -- ---- a turn
@@ -91,6 +97,7 @@ gave_one before after piece h = record {
   came = piece ∷ [];
   gave = h.given;
   told = λ told is. let f = h.told told is in (drop 1 told, f.left_is, front_is told piece f.first);
+  asked = omega (arith, h.asked.once);
 }
 
 gave_none : (before after : SourceView) → HasNone before after → GavePieces before after
@@ -98,6 +105,7 @@ gave_none before after h = record {
   came = [];
   gave = h.given ∙ sym (append-nil before.given);
   told = λ told is. let n = h.told told is in ([], n.1, n.0);
+  asked = omega (arith, h.asked.once);
 }
 
 gave_nothing : (before after : SourceView) → Keeps before after → GavePieces before after
@@ -105,6 +113,7 @@ gave_nothing before after h = record {
   came = [];
   gave = h.given ∙ sym (append-nil before.given);
   told = λ told is. (told, h.told told is, refl);
+  asked = omega (arith, h.asked);
 }
 
 refused_gave : (setup : Setup) (pieces : List Piece) (times : List ℕ) (refusal : Option Cause) (y z : Around) → ClosesRefused setup pieces times refusal y z → GavePieces y.source z.source
@@ -136,6 +145,7 @@ all_gave setup n s t r x y z run turns =
           let took = run.took told is in
           let rest = last.told (drop n told) took.left_is in
           (rest.0, rest.1, sym (take-append-drop n told) ∙ ap (λ (l : List Piece). l ++ drop n told) took.are ∙ ap (λ (l : List Piece). run.pieces ++ l) rest.2 ∙ sym (append_assoc run.pieces last.came rest.0));
+      asked = omega (arith, run.asked, run.count, last.asked, length-append run.pieces last.came);
     }
 
 module _ (setup : Setup) (pieces : List Piece) (times : List ℕ) (t : SessionState) (y z : Around) (came more : List Piece) (gave : Gave y.source z.source came) where
@@ -175,7 +185,7 @@ module _ (setup : Setup) (pieces : List Piece) (times : List ℕ) (t : SessionSt
   }
 
   stays_so : Stays y z → Stays start finish
-  stays_so h = record { keeps = keeps_so y.source z.source came more gave h.keeps; out = h.out; took = h.took; readings = h.readings }
+  stays_so h = record { keeps = keeps_so y.source z.source came more gave h.keeps; out = h.out; sink = h.sink; readings = h.readings }
 
   breaks_so : BreaksOff setup pieces times y z → BreaksOff setup pieces times start finish
   breaks_so h = record {
@@ -226,6 +236,7 @@ module _ (setup : Setup) (n : ℕ) (s t : SessionState) (r : Result Turn Error) 
         let e : told ≡ pieces = cc in
         subst (λ (l : List Piece). Took l mid n run.pieces) e took;
     given = run.given;
+    asked = run.asked;
     gives = run.gives;
     replied = run.replied;
     drawn = run.drawn;
@@ -308,4 +319,4 @@ unasked v ended told left (inr h) =
     h.left_is ∙ ap (λ (l : List Piece). Some l) (sym (h.told_is ∙ ap (λ (l : List Piece). l ++ h.more) none))
 
 pub nothing_given : (v : SourceView) → GavePieces v v
-nothing_given v = record { came = []; gave = sym (append-nil v.given); told = λ told is. (told, is, refl) }
+nothing_given v = record { came = []; gave = sym (append-nil v.given); told = λ told is. (told, is, refl); asked = omega arith }

@@ -1,18 +1,21 @@
 -- What a session says of the outside.
-use Rattle.std.proofs.Common.{◌≡◌, false, ◌≤◌, ℕ, zero, suc, List, [], ◌∷◌, length, take, Option, Some, Result, Ok, Err, refl, ap, ◌∙◌}
+use Rattle.std.proofs.Common.{◌≡◌, false, ◌≤◌, ℕ, zero, suc, List, [], ◌∷◌, length, take, Option, Some, Result, Ok, Err, refl, ap, subst, ◌∙◌, arith}
 use Rattle.std.specs.Prelude.{OnErr, IsErrOf}
 use Rattle.std.specs.Option.{ForSome}
 use Rattle.std.proofs.lemmas.List.{append-nil}
 use Rattle.ei_spec.specs.declared.handle.Handle.{Handle}
 use Rattle.ei_spec.specs.Message.{bytes_of}
-use Rattle.ei_backend.specs.Outside.{Piece, with_more}
-use Rattle.ei_backend.specs.Outgoing.{beside, sent_front}
+use Rattle.ei_backend.specs.Outside.{Piece, SinkView, with_more}
+use Rattle.ei_backend.specs.Outgoing.{IsPutOf, Went, beside, sent_front}
+use Rattle.ei_backend.proofs.GoingOut.{none_put}
+use Rattle.ei_wire.specs.declared.error.FlushError.{FlushError}
 use Rattle.ei_backend.specs.Table.{found, new_table, first_object, first_server_id}
 use Rattle.ei_backend.specs.Backend.{BackendView, new_backend, unsent_of}
 use Rattle.ei_handshake.specs.Handshaker.{sends}
 use Rattle.ei_session.specs.Replies.{greeting, greeting_to}
 use Rattle.ei_serve.specs.Causes.{Greeted, GreetedInPart}
 use Rattle.ei_serve.proofs.Standing.{found_first}
+use Rattle.ei_serve.proofs.Going.{none_more}
 
 abbrev ok_of : {T : Type 0} (E : Type 0) → T → Result T E
 ok_of E x = Ok x
@@ -48,11 +51,28 @@ front_is : (n : ℕ) (waiting held : Piece) → waiting ≡ the_greeting → sen
 front_is n waiting held e = rw e (ap (λ (handles : List Handle). with_more (take n (bytes_of greeting)) handles held) (no_beside n))
 
 -- what a sink has after the flush of the greeting
-pub greeted : (held waiting : Piece) (taken : Option Piece) → waiting ≡ the_greeting → taken ≡ Some (with_more waiting.bytes waiting.handles held) → Greeted held taken
-greeted held waiting taken w t = t ∙ ap (λ (x : Piece). Some (with_more x.bytes x.handles held)) w
+pub greeted : (waiting left : Piece) (old new : SinkView) → waiting ≡ the_greeting → Went waiting (Ok tt) left old new → Greeted old new
+greeted waiting left old new w h = record {
+  told = λ held told. h.took held told ∙ ap (λ (x : Piece). Some (with_more x.bytes x.handles held)) w;
+  puts = subst (λ (p : Piece). IsPutOf p old.puts new.puts) w h.puts;
+}
 
-pub greeted_in_part : (held waiting : Piece) (taken : Option Piece) → waiting ≡ the_greeting → (n : ℕ) × (n ≤ length waiting.bytes) × (taken ≡ Some (sent_front n waiting held)) → GreetedInPart held taken
-greeted_in_part held waiting taken w h = (h.0, rw (← ap (λ (x : Piece). length x.bytes) w) h.1, h.2 ∙ ap (λ (x : Piece). Some x) (front_is h.0 waiting held w))
+-- and where it was refused
+pub greeted_in_part : (waiting left : Piece) (e : FlushError) (old new : SinkView) → waiting ≡ the_greeting → Went waiting (Err e) left old new → GreetedInPart old new
+greeted_in_part waiting left e old new w h = record {
+  told = λ held told.
+      let x = h.took held told in
+      let few : x.0 ≤ length waiting.bytes = omega (arith, x.1) in
+      (x.0, rw (← ap (λ (p : Piece). length p.bytes) w) few, x.2 ∙ ap (λ (p : Piece). Some p) (front_is x.0 waiting held w));
+  puts = subst (λ (p : Piece). IsPutOf p old.puts new.puts) w h.puts;
+}
+
+-- the sink wasn't lent yet
+pub not_greeted : (sink : SinkView) → GreetedInPart sink sink
+not_greeted sink = record {
+  told = λ held told. (0, omega arith, told ∙ ap (λ (p : Piece). Some p) (none_more held));
+  puts = none_put the_greeting sink.puts;
+}
 
 pub on_err : {T E : Type 0} (r : Result T E) (P : Type 0) → P → OnErr r P
 on_err (Ok x) P p = tt

@@ -4,7 +4,8 @@ use Rattle.std.proofs.lemmas.List.{append-nil}
 use Rattle.ei_spec.specs.declared.handle.Handle.{Handle}
 use Rattle.ei_spec.specs.Message.{Raw, Whole, front}
 use Rattle.ei_spec.specs.Piece.{Piece}
-use Rattle.ei_backend.specs.Outgoing.{Flushes, nothing}
+use Rattle.ei_backend.specs.Outside.{SinkView}
+use Rattle.ei_backend.specs.Outgoing.{Went, nothing}
 use Rattle.ei_backend.specs.Backend.{BackendView, Answers, Brings, next, unsent_of, with_unsent}
 use Rattle.ei_backend.specs.declared.message.PendingRequestResult.{PendingRequestResult}
 use Rattle.ei_backend.specs.declared.message.PendingRequestResult.TheVariants as pending
@@ -107,7 +108,7 @@ module _ (setup : Setup) (past : List Raw) (times rest : List ℕ) (handles : Li
       }
 
       -- it couldn't be told
-      pub untold : (f : SendError) (e : Error) (y : Phase) (took : Option Piece) (result : Result Step Error) → f ≡ send_error.NoMemory → result ≡ Err e → e ≡ error_of_send f → Steps setup past times rest handles result y (around no_source out took readings) (around no_source out took readings)
+      pub untold : (f : SendError) (e : Error) (y : Phase) (took : SinkView) (result : Result Step Error) → f ≡ send_error.NoMemory → result ≡ Err e → e ≡ error_of_send f → Steps setup past times rest handles result y (around no_source out took readings) (around no_source out took readings)
       untold f e y took result f_is is_err e_is = no_memory setup past times rest handles y e (around no_source out took readings) result is_err (e_is ∙ ap error_of_send f_is)
 
       module _ (end : ConnectionView) (end_is : end ≡ record lent { ctx = says lent.ctx (no_object_event lent.proxy.id lent.last_serial id) }) where
@@ -127,8 +128,8 @@ module _ (setup : Setup) (past : List Raw) (times rest : List ℕ) (handles : Li
         grown = sym (append-nil out) ∙ ap (λ (q : List EisRequest). out ++ q) (sym stood.queue)
 
         -- all was sent
-        pub tells : (flushed : ConnectionView) → unsent_of flushed.ctx ≡ nothing → flushed ≡ record end { ctx = with_unsent (unsent_of flushed.ctx) end.ctx } → (before now : Option Piece) →
-            ((held : Piece) → before ≡ Some held → Flushes held (unsent_of end.ctx) (Ok tt) (unsent_of flushed.ctx) now) → (z : ConverterView) → z ≡ record { handle = flushed; queue = d.queue } →
+        pub tells : (flushed : ConnectionView) → unsent_of flushed.ctx ≡ nothing → flushed ≡ record end { ctx = with_unsent (unsent_of flushed.ctx) end.ctx } → (before now : SinkView) →
+            Went (unsent_of end.ctx) (Ok tt) (unsent_of flushed.ctx) before now → (z : ConverterView) → z ≡ record { handle = flushed; queue = d.queue } →
             Steps setup past times rest handles (Ok step.Handled) (phase.Connected z) (around no_source out before readings) (around no_source out now readings)
         tells flushed sent kept before now took z z_is =
             subst (λ (y : ConverterView). Steps setup past times rest handles (Ok step.Handled) (phase.Connected y) (around no_source out before readings) (around no_source out now readings))
@@ -137,7 +138,7 @@ module _ (setup : Setup) (past : List Raw) (times rest : List ℕ) (handles : Li
             end (record d { handle = end }) refl followed same_ring flushed sent kept before now took refl)
 
         -- or not all
-        pub cut : (waiting : Piece) (f : FlushError) (e : Error) (y : Phase) (before now : Option Piece) (result : Result Step Error) → result ≡ Err e → e ≡ error_of_flush f → ((held : Piece) → before ≡ Some held → Flushes held (unsent_of end.ctx) (Err f) waiting now) →
+        pub cut : (waiting : Piece) (f : FlushError) (e : Error) (y : Phase) (before now : SinkView) (result : Result Step Error) → result ≡ Err e → e ≡ error_of_flush f → Went (unsent_of end.ctx) (Err f) waiting before now →
             Steps setup past times rest handles result y (around no_source out before readings) (around no_source out now readings)
         cut waiting f e y before now result is_err e_is took =
             rw is_err (cut_off setup past times rest handles gone.0.m gone.0.after [] d taken false (judge_unknown setup past gone.0.m stood.held.connected none) d.queue gave out out grown readings readings (draws_none readings readings refl)

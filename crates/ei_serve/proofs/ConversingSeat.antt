@@ -1,5 +1,5 @@
 -- What a server sends when it goes over to the connection, and what stands then.
-use Rattle.std.proofs.Common.{◌≡◌, ◌≤◌, ◌<◌, ℕ, zero, suc, true, false, List, [], ◌∷◌, take, Option, Some, None, Result, Err, refl, sym, ap, subst, ◌∙◌, arith}
+use Rattle.std.proofs.Common.{◌≡◌, ◌≤◌, ◌<◌, ℕ, zero, suc, true, false, List, [], ◌∷◌, take, Option, Some, None, Result, Ok, Err, refl, sym, ap, subst, ◌∙◌, arith}
 use Rattle.std.specs.Prelude.{IsErrOf, ◌↔◌}
 use Rattle.ei_spec.specs.declared.handle.Handle.{Handle}
 use Rattle.ei_spec.specs.Message.{Raw, all_bytes}
@@ -14,8 +14,8 @@ use Rattle.ei_wire.specs.declared.error.SendError.TheVariants as send_error
 use Rattle.ei_session.specs.Setup.{Setup}
 use Rattle.ei_session.specs.Handshake.{connected, is_finish, is_the_finish}
 use Rattle.ei_session.specs.Replies.{name_event, finish_events}
-use Rattle.ei_backend.specs.Outside.{with_more}
-use Rattle.ei_backend.specs.Outgoing.{Flushes, nothing, sent_front}
+use Rattle.ei_backend.specs.Outside.{SinkView, with_more}
+use Rattle.ei_backend.specs.Outgoing.{IsPutOf, Went, nothing, sent_front}
 use Rattle.ei_backend.specs.Table.{TableView, own_end}
 use Rattle.ei_backend.specs.Backend.{BackendView, unsent_of, with_unsent}
 use Rattle.ei_backend.specs.Endpoint.{Endpoint}
@@ -63,7 +63,7 @@ module _ (setup : Setup) (before : List Raw) (after : List ℕ) (handles : List 
         absurd (omega (arith, here, end_is, next_is))
 
     -- the seat couldn't be announced
-    pub unseated : (T : Type 0) (f : SendError) (d : Error) (took : Option Piece) (result : Result ConverterView Error) → result ≡ Err d → d ≡ error_of_send f → (IsErrOf {T = T} (Err f) send_error.IdsExhausted ↔ (own_end lent.ctx.table ≤ lent.ctx.table.next_own)) →
+    pub unseated : (T : Type 0) (f : SendError) (d : Error) (took : SinkView) (result : Result ConverterView Error) → result ≡ Err d → d ≡ error_of_send f → (IsErrOf {T = T} (Err f) send_error.IdsExhausted ↔ (own_end lent.ctx.table ≤ lent.ctx.table.next_own)) →
         (IsErrOf {T = T} (Err f) send_error.MessageTooLong ↔ ((lent.ctx.table.next_own < own_end lent.ctx.table) × (is_long_name (name_event lent.ctx.table.next_own) None ≡ true))) →
         Connects setup before finish after handles result took took
     unseated T send_error.MessageTooLong d took result is d_is out_of long = let z : false ≡ true = (long.0 refl).1 in absurd cc
@@ -86,7 +86,7 @@ module _ (setup : Setup) (before : List Raw) (after : List ℕ) (handles : List 
           ap unsent_of b_is
           ∙ waiting_is seated.ctx (all_bytes (finish_events setup before)) (all_first setup before finish context resp f handed seated added (ap (λ (e : Endpoint). e.unsent) over.endpoint)) held.no_handles
 
-      pub connects : (new : BackendView) (old taken : Option Piece) → unsent_of new ≡ nothing → new ≡ with_unsent (unsent_of new) b → ((h : Piece) → old ≡ Some h → taken ≡ Some (with_more b.unsent b.unsent_handles h)) →
+      pub connects : (new : BackendView) (old taken : SinkView) → unsent_of new ≡ nothing → new ≡ with_unsent (unsent_of new) b → Went (unsent_of b) (Ok tt) (unsent_of new) old taken →
           IsConnected setup (finish ∷ before) [] after handles (record { handle = record seated { ctx = new }; queue = made.queue }) × TellsFinish setup before old taken
       connects new old taken none kept took =
           let new_is : new ≡ with_unsent nothing seated.ctx = kept ∙ ap (λ (p : Piece). with_unsent p b) none ∙ ap (λ (x : BackendView). with_unsent nothing x) b_is in
@@ -100,15 +100,18 @@ module _ (setup : Setup) (before : List Raw) (after : List ℕ) (handles : List 
               unsent = ap (λ (x : BackendView). x.unsent) new_is;
               queue = ap (λ (x : ConverterView). x.queue) made_is;
             },
-            λ h told. took h told ∙ ap (λ (p : Piece). Some (with_more p.bytes p.handles h)) to_go,
+            record { told = λ h told. took.took h told ∙ ap (λ (p : Piece). Some (with_more p.bytes p.handles h)) to_go; puts = subst (λ (p : Piece). IsPutOf p old.puts taken.puts) to_go took.puts },
           )
 
       -- the sink was cut off
-      pub cuts_off : (waiting : Piece) (e : FlushError) (y : Error) (result : Result ConverterView Error) (old taken : Option Piece) → ((h : Piece) → old ≡ Some h → Flushes h (unsent_of b) (Err e) waiting taken) → result ≡ Err y → y ≡ error_of_flush e →
+      pub cuts_off : (waiting : Piece) (e : FlushError) (y : Error) (result : Result ConverterView Error) (old taken : SinkView) → Went (unsent_of b) (Err e) waiting old taken → result ≡ Err y → y ≡ error_of_flush e →
           Connects setup before finish after handles result old taken
       cuts_off waiting e y result old taken took r_is y_is = rw (r_is, y_is) (
         cut_so e,
-        λ h told.
-            let x = took h told in
-            (x.0, x.2 ∙ ap (λ (p : Piece). Some (sent_front x.0 p h)) to_go ∙ ap (λ (p : Piece). Some p) (front_of x.0 (all_bytes (finish_events setup before)) h)),
+        record {
+          told = λ h told.
+              let x = took.took h told in
+              (x.0, x.2 ∙ ap (λ (p : Piece). Some (sent_front x.0 p h)) to_go ∙ ap (λ (p : Piece). Some p) (front_of x.0 (all_bytes (finish_events setup before)) h));
+          puts = subst (λ (p : Piece). IsPutOf p old.puts taken.puts) to_go took.puts;
+        },
       )

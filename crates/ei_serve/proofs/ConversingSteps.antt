@@ -1,6 +1,6 @@
 -- What becomes of the message at the front of a connection, by what was done with it.
 use Rattle.std.proofs.Common.{◌≡◌, ◌≤◌, ℕ, zero, suc, Bool, true, false, List, [], ◌∷◌, ◌++◌, take, Option, Some, None}
-use Rattle.std.proofs.Common.{Ok, Err, refl, sym, ap, subst, ◌∙◌}
+use Rattle.std.proofs.Common.{Ok, Err, refl, sym, ap, subst, ◌∙◌, arith}
 use Rattle.std.specs.Prelude.{map}
 use Rattle.std.proofs.lemmas.List.{append-nil}
 use Rattle.ei_spec.specs.declared.handle.Handle.{Handle}
@@ -20,8 +20,8 @@ use Rattle.ei_session.specs.Requests.{Request, Plain, Bind, RequestDevice, Ready
 use Rattle.ei_session.proofs.AllParts.{replies_more}
 use Rattle.ei_session.proofs.KeptByRequests.{fixed_versions, stays_connected}
 use Rattle.ei_session.proofs.RunsOut.{exhausting_last}
-use Rattle.ei_backend.specs.Outside.{with_more}
-use Rattle.ei_backend.specs.Outgoing.{Flushes, nothing, sent_front}
+use Rattle.ei_backend.specs.Outside.{SinkView, with_more}
+use Rattle.ei_backend.specs.Outgoing.{IsPutOf, Went, nothing, sent_front}
 use Rattle.ei_backend.specs.Backend.{BackendView, unsent_of, with_unsent}
 use Rattle.ei_types.specs.Errors.{error_of_flush}
 use Rattle.ei_types.specs.declared.error.Error.{Error}
@@ -38,9 +38,10 @@ use Rattle.ei_standing.specs.Standing.{TookOne, handed_as, key_by, plain_as}
 use Rattle.ei_serve.specs.declared.phase.Phase.TheVariants as phase
 use Rattle.ei_serve.specs.Around.{around, no_source}
 use Rattle.ei_serve.specs.Standing.{IsConnected, most_capacity}
-use Rattle.ei_serve.specs.Steps.{GivesOut, Replies, RepliesInPart, Goes, Breaks, RefusesStep, HandlesOne, EndsWith}
+use Rattle.ei_serve.specs.Steps.{GivesOut, bytes_only, Replies, RepliesInPart, Goes, Breaks, RefusesStep, HandlesOne, EndsWith}
 use Rattle.ei_serve.proofs.Asked.{held_with}
-use Rattle.ei_serve.proofs.Going.{none_more, replies_none, extends}
+use Rattle.ei_serve.proofs.Puts.{no_puts, puts_one}
+use Rattle.ei_serve.proofs.Going.{none_more, replies_none, in_part_none, extends}
 use Rattle.ei_serve.proofs.TookBehind.{Gave, Draws}
 
 -- ---- what is handed out, by any versions that agree
@@ -84,11 +85,14 @@ ahead_one setup past rest m after false w j =
 ahead_one setup past rest m after true w j = ([], ap (λ (u : Reading Refusal). u.past) (read_final (judge setup) past rest m after w j))
 
 -- none of its answer went out
-none_sent : (setup : Setup) (past : List Raw) (m : Raw) (took : Option Piece) → RepliesInPart setup past (m ∷ past) took took
-none_sent setup past m took held told = (reply setup past m, 0, replies_more setup past m, told ∙ ap (λ (x : Piece). Some x) (none_more held))
+none_sent : (setup : Setup) (past : List Raw) (m : Raw) (took : SinkView) → RepliesInPart setup past (m ∷ past) took took
+none_sent setup past m took = record {
+  told = λ held told. (reply setup past m, 0, replies_more setup past m, told ∙ ap (λ (x : Piece). Some x) (none_more held));
+  puts = no_puts setup past (m ∷ past) took.puts;
+}
 
 -- nothing was given yet, and perhaps a reading taken
-pub breaks_early : (setup : Setup) (past : List Raw) (times rest used : List ℕ) (out new : List EisRequest) (took : Option Piece) (before after : Option (List ℕ)) → new ≡ out → Draws used before after → Breaks setup past times rest (around no_source out took before) (around no_source new took after)
+pub breaks_early : (setup : Setup) (past : List Raw) (times rest used : List ℕ) (out new : List EisRequest) (took : SinkView) (before after : Option (List ℕ)) → new ≡ out → Draws used before after → Breaks setup past times rest (around no_source out took before) (around no_source new took after)
 breaks_early setup past times rest used out new took before after same draws = record {
   reached = past;
   used = used;
@@ -99,9 +103,11 @@ breaks_early setup past times rest used out new took before after same draws = r
     grown = λ versions are. same ∙ sym (append-nil out);
     framed_is = λ later. sym (append-nil (framed setup ((times ++ used) ++ later) past));
   };
-  replies = λ held told. ([], 0, sym (append-nil (replies setup past)), told ∙ ap (λ (x : Piece). Some x) (none_more held));
+  replies = in_part_none setup past took;
   drawn = draws.drawn;
   leaves = draws.leaves;
+  least = omega arith;
+  most = omega (arith, draws.few);
 }
 
 -- ---- what the sink takes
@@ -114,23 +120,28 @@ waiting_is : (b : BackendView) (bytes : List ℕ) → b.unsent ≡ bytes → b.u
 waiting_is b bytes u h = rw (u, h) refl
 
 -- all of the answer, or a front of it
-pub all_sent : (setup : Setup) (past : List Raw) (m : Raw) (b : BackendView) (old new : Option Piece) → unsent_of b ≡ record { bytes = all_bytes (reply setup past m); handles = [] } →
-    ((held : Piece) → old ≡ Some held → Flushes held (unsent_of b) (Ok tt) nothing new) → Replies setup past (m ∷ past) old new
-all_sent setup past m b old new w took held told = (
-  reply setup past m,
-  replies_more setup past m,
-  took held told ∙ ap (λ (p : Piece). Some (with_more p.bytes p.handles held)) w,
-)
+pub all_sent : (setup : Setup) (past : List Raw) (m : Raw) (b : BackendView) (old new : SinkView) → unsent_of b ≡ bytes_only (all_bytes (reply setup past m)) → Went (unsent_of b) (Ok tt) nothing old new → Replies setup past (m ∷ past) old new
+all_sent setup past m b old new w went = record {
+  told = λ held told. (
+    reply setup past m,
+    replies_more setup past m,
+    went.took held told ∙ ap (λ (p : Piece). Some (with_more p.bytes p.handles held)) w,
+  );
+  puts = puts_one setup past m (all_bytes (reply setup past m)) old.puts new.puts refl (subst (λ (p : Piece). IsPutOf p old.puts new.puts) w went.puts);
+}
 
-pub front_sent : (setup : Setup) (past : List Raw) (m : Raw) (b : BackendView) (waiting : Piece) (f : FlushError) (old new : Option Piece) → unsent_of b ≡ record { bytes = all_bytes (reply setup past m); handles = [] } →
-    ((held : Piece) → old ≡ Some held → Flushes held (unsent_of b) (Err f) waiting new) → RepliesInPart setup past (m ∷ past) old new
-front_sent setup past m b waiting f old new w took held told =
-    let x = took held told in (
-      reply setup past m,
-      x.0,
-      replies_more setup past m,
-      x.2 ∙ ap (λ (p : Piece). Some (sent_front x.0 p held)) w ∙ ap (λ (p : Piece). Some p) (front_of x.0 (all_bytes (reply setup past m)) held),
-    )
+pub front_sent : (setup : Setup) (past : List Raw) (m : Raw) (b : BackendView) (waiting : Piece) (f : FlushError) (old new : SinkView) → unsent_of b ≡ bytes_only (all_bytes (reply setup past m)) → Went (unsent_of b) (Err f) waiting old new →
+    RepliesInPart setup past (m ∷ past) old new
+front_sent setup past m b waiting f old new w went = record {
+  told = λ held told.
+      let x = went.took held told in (
+        reply setup past m,
+        x.0,
+        replies_more setup past m,
+        x.2 ∙ ap (λ (p : Piece). Some (sent_front x.0 p held)) w ∙ ap (λ (p : Piece). Some p) (front_of x.0 (all_bytes (reply setup past m)) held),
+      );
+  puts = puts_one setup past m (all_bytes (reply setup past m)) old.puts new.puts refl (subst (λ (p : Piece). IsPutOf p old.puts new.puts) w went.puts);
+}
 
 -- ---- behind a message that was taken
 
@@ -149,7 +160,7 @@ module _ (setup : Setup) (past : List Raw) (times rest : List ℕ) (handles : Li
   given_one : GivesOut setup past (m ∷ past) times used out given
   given_one = gives_one setup past m times used out queue given t.on gave grown
 
-  pub breaks_one : (old new : Option Piece) → RepliesInPart setup past (m ∷ past) old new → Breaks setup past times rest (around no_source out old before) (around no_source given new later)
+  pub breaks_one : (old new : SinkView) → RepliesInPart setup past (m ∷ past) old new → Breaks setup past times rest (around no_source out old before) (around no_source given new later)
   breaks_one old new r = record {
     reached = m ∷ past;
     used = used;
@@ -159,12 +170,14 @@ module _ (setup : Setup) (past : List Raw) (times rest : List ℕ) (handles : Li
     replies = r;
     drawn = draws.drawn;
     leaves = draws.leaves;
+    least = omega (arith, gave.frames);
+    most = omega (arith, gave.frames);
   }
 
-  pub breaks_unsent : (took : Option Piece) → Breaks setup past times rest (around no_source out took before) (around no_source given took later)
+  pub breaks_unsent : (took : SinkView) → Breaks setup past times rest (around no_source out took before) (around no_source given took later)
   breaks_unsent took = breaks_one took took (none_sent setup past m took)
 
-  pub goes_one : (old new : Option Piece) → Replies setup past (m ∷ past) old new → Goes setup past (m ∷ past) times used (around no_source out old before) (around no_source given new later)
+  pub goes_one : (old new : SinkView) → Replies setup past (m ∷ past) old new → Goes setup past (m ∷ past) times used (around no_source out old before) (around no_source given new later)
   goes_one old new r = record {
     behind = (m ∷ [], refl);
     gives = given_one;
@@ -197,13 +210,13 @@ module _ (setup : Setup) (past : List Raw) (times rest : List ℕ) (handles : Li
     }
 
     -- all was sent
-    module _ (flushed : ConnectionView) (none : unsent_of flushed.ctx ≡ nothing) (kept : flushed ≡ record end { ctx = with_unsent (unsent_of flushed.ctx) end.ctx }) (old new : Option Piece)
-        (told : (held : Piece) → old ≡ Some held → Flushes held (unsent_of end.ctx) (Ok tt) (unsent_of flushed.ctx) new) where
+    module _ (flushed : ConnectionView) (none : unsent_of flushed.ctx ≡ nothing) (kept : flushed ≡ record end { ctx = with_unsent (unsent_of flushed.ctx) end.ctx }) (old new : SinkView)
+        (went : Went (unsent_of end.ctx) (Ok tt) (unsent_of flushed.ctx) old new) where
       flushed_is : flushed ≡ record end { ctx = with_unsent nothing end.ctx }
       flushed_is = kept ∙ ap (λ (p : Piece). record end { ctx = with_unsent p end.ctx }) none
 
       replied : Replies setup past (m ∷ past) old new
-      replied = all_sent setup past m end.ctx old new to_go told
+      replied = all_sent setup past m end.ctx old new to_go (record { took = went.took; puts = went.puts })
 
       pub handles_one : last ≡ false → HandlesOne setup past times rest handles (phase.Connected (record { handle = flushed; queue = [] })) (around no_source out old before) (around no_source given new later)
       handles_one goes_on = record {
@@ -227,14 +240,14 @@ module _ (setup : Setup) (past : List Raw) (times rest : List ℕ) (handles : Li
       }
 
     -- or only a front of it
-    pub cut_off : (waiting : Piece) (f : FlushError) (e : Error) (old new : Option Piece) → e ≡ error_of_flush f → ((held : Piece) → old ≡ Some held → Flushes held (unsent_of end.ctx) (Err f) waiting new) →
+    pub cut_off : (waiting : Piece) (f : FlushError) (e : Error) (old new : SinkView) → e ≡ error_of_flush f → Went (unsent_of end.ctx) (Err f) waiting old new →
         RefusesStep setup past times rest e (around no_source out old before) (around no_source given new later)
     cut_off waiting flush_error.WriteFault e old new e_is told = rw e_is (breaks_one old new (front_sent setup past m end.ctx waiting flush_error.WriteFault old new to_go told))
     cut_off waiting flush_error.NoMemory e old new e_is told = rw e_is (breaks_one old new (front_sent setup past m end.ctx waiting flush_error.NoMemory old new to_go told))
 
 -- the ids ran out with it
 pub runs_out : (setup : Setup) (past : List Raw) (times rest : List ℕ) (handles : List Handle) (m : Raw) (after used : List ℕ) (c : ConverterView) → Taken past rest handles m after c → (queue : List EisRequest) → Gave setup past m times used queue →
-    (out given : List EisRequest) → given ≡ out ++ queue → (before later : Option (List ℕ)) → Draws used before later → (took : Option Piece) → refusal setup past m ≡ None → exhausts past m ≡ true → used ≡ [] → reply setup past m ≡ [] →
+    (out given : List EisRequest) → given ≡ out ++ queue → (before later : Option (List ℕ)) → Draws used before later → (took : SinkView) → refusal setup past m ≡ None → exhausts past m ≡ true → used ≡ [] → reply setup past m ≡ [] →
     EndsWith setup past times rest true (around no_source out took before) (around no_source given took later)
 runs_out setup past times rest handles m after used c t queue gave out given grown before later draws took fine out_of quiet silent = record {
   m = m;

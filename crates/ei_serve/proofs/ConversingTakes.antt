@@ -10,7 +10,8 @@ use Rattle.ei_spec.specs.declared.limits.TheConstants.{MOST_TOUCHES, MOST_TEXT_B
 use Rattle.ei_spec.specs.Interface.{ObjectView, name_of}
 use Rattle.ei_spec.specs.Message.{Raw, Whole, front}
 use Rattle.ei_spec.specs.Piece.{Piece}
-use Rattle.ei_backend.specs.Outgoing.{Flushes, nothing}
+use Rattle.ei_backend.specs.Outside.{SinkView}
+use Rattle.ei_backend.specs.Outgoing.{Went, nothing}
 use Rattle.ei_backend.specs.Backend.{unsent_of, with_unsent}
 use Rattle.ei_server.specs.declared.request.Request.{Request}
 use Rattle.ei_server.specs.Request.{target_of, announced_of}
@@ -124,7 +125,7 @@ module _ (setup : Setup) (past : List Raw) (times rest : List ℕ) (handles : Li
   no_shaking shake is = no_shake setup past a.m times a.stood a.e a.stands.held a.there shake (asks_so setup past times rest handles r c a ∙ ap (λ (x : Meaning). Some x) is)
 
   -- it is refused, and nothing is done
-  pub refuses : (n : ConverterView) (e d : Error) (p : Phase) (out : List EisRequest) (took : Option Piece) (before after : Option (List ℕ)) (result : Result Step Error) → result ≡ Err d → d ≡ e →
+  pub refuses : (n : ConverterView) (e d : Error) (p : Phase) (out : List EisRequest) (took : SinkView) (before after : Option (List ℕ)) (result : Result Step Error) → result ≡ Err d → d ≡ e →
       Handles c r before (Err e) after n → Steps setup past times rest handles result p (around no_source out took before) (around no_source out took after)
   refuses n e d p out took before after result is d_is h =
       let x : Option Reason = refused c.handle (target_of r).id (target_of r).version (meaning_of r) in
@@ -177,7 +178,7 @@ module _ (setup : Setup) (past : List Raw) (times rest : List ℕ) (handles : Li
     b = kind_behind (kind r)
 
     -- it couldn't be handed out
-    pub unqueued : (p : Phase) (d : Error) (out given : List EisRequest) (took : Option Piece) (result : Result Step Error) → result ≡ Err d → d ≡ error.NoMemory → given ≡ out → Steps setup past times rest handles result p (around no_source out took before) (around no_source given took after)
+    pub unqueued : (p : Phase) (d : Error) (out given : List EisRequest) (took : SinkView) (result : Result Step Error) → result ≡ Err d → d ≡ error.NoMemory → given ≡ out → Steps setup past times rest handles result p (around no_source out took before) (around no_source given took after)
     unqueued p d out given took result is d_is same = rw (is, d_is) (breaks_early setup past times rest b.used out given took before after same b.draws)
 
     module _ (out given : List EisRequest) (grown : given ≡ out ++ n.queue) (p : Policy) (p_is : p ≡ policy_behind n.queue) (q : ConverterView) (q_is : q ≡ record n { queue = [] }) (lent : ConnectionView) (lent_is : lent ≡ q.handle) where
@@ -191,7 +192,7 @@ module _ (setup : Setup) (past : List Raw) (times rest : List ℕ) (handles : Li
       so_lacks l = subst (λ (x : Policy). LacksIds x lent) (sym p_is) (subst (λ (x : ConnectionView). LacksIds (policy_behind n.queue) x) (sym lent_now) l)
 
       -- the policy couldn't be followed
-      pub unfollowed : (f : SendError) (d : Error) (x : Phase) (took : Option Piece) (result : Result Step Error) → result ≡ Err d → d ≡ error_of_send f → (IsErrOf {T = Unit {0}} (Err f) send_error.IdsExhausted ↔ LacksIds p lent) →
+      pub unfollowed : (f : SendError) (d : Error) (x : Phase) (took : SinkView) (result : Result Step Error) → result ≡ Err d → d ≡ error_of_send f → (IsErrOf {T = Unit {0}} (Err f) send_error.IdsExhausted ↔ LacksIds p lent) →
           (IsErrOf {T = Unit {0}} (Err f) send_error.MessageTooLong → ⊥) → Steps setup past times rest handles result x (around no_source out took before) (around no_source given took after)
       unfollowed send_error.MessageTooLong d x took result is d_is out_of short = absurd (short refl)
       unfollowed send_error.IdsExhausted d x took result is d_is out_of short =
@@ -215,13 +216,13 @@ module _ (setup : Setup) (past : List Raw) (times rest : List ℕ) (handles : Li
         plain_end false e = b.enough no_lack
 
         -- what answers it couldn't be sent
-        pub unflushed : (f : FlushError) (d : Error) (x : Phase) (waiting : Piece) (old new : Option Piece) (result : Result Step Error) → result ≡ Err d → d ≡ error_of_flush f → ((held : Piece) → old ≡ Some held → Flushes held (unsent_of end.ctx) (Err f) waiting new) →
+        pub unflushed : (f : FlushError) (d : Error) (x : Phase) (waiting : Piece) (old new : SinkView) (result : Result Step Error) → result ≡ Err d → d ≡ error_of_flush f → Went (unsent_of end.ctx) (Err f) waiting old new →
             Steps setup past times rest handles result x (around no_source out old before) (around no_source given new after)
         unflushed f d x waiting old new result is d_is told =
             rw is (cut_off setup past times rest handles a.m a.after b.used c taken (b.last || exhausts past a.m) b.judged n.queue b.gave out given grown before after b.draws end (record n { handle = end }) refl followed same_ring waiting f d old new d_is told)
 
-        module _ (flushed : ConnectionView) (none : unsent_of flushed.ctx ≡ nothing) (kept : flushed ≡ record end { ctx = with_unsent (unsent_of flushed.ctx) end.ctx }) (old new : Option Piece)
-            (told : (held : Piece) → old ≡ Some held → Flushes held (unsent_of end.ctx) (Ok tt) (unsent_of flushed.ctx) new) where
+        module _ (flushed : ConnectionView) (none : unsent_of flushed.ctx ≡ nothing) (kept : flushed ≡ record end { ctx = with_unsent (unsent_of flushed.ctx) end.ctx }) (old new : SinkView)
+            (told : Went (unsent_of end.ctx) (Ok tt) (unsent_of flushed.ctx) old new) where
           same_last : is_end p ≡ b.last
           same_last = ap is_end p_is ∙ b.ends
 

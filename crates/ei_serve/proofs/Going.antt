@@ -14,11 +14,13 @@ use Rattle.ei_session.specs.Requests.{Request as Asked, framed}
 use Rattle.ei_session.specs.Events.{replies}
 use Rattle.ei_session.specs.Refusals.{Refusal, judge}
 use Rattle.ei_session.proofs.KeptByRequests.{fixed_versions, stays_connected}
-use Rattle.ei_backend.specs.Outside.{SourceView, with_more}
+use Rattle.ei_backend.specs.Outside.{SourceView, SinkView, with_more}
+use Rattle.ei_backend.proofs.GoingOut.{none_put}
 use Rattle.ei_request.specs.declared.event.EisRequest.{EisRequest}
 use Rattle.ei_standing.specs.Standing.{handed_as}
 use Rattle.ei_serve.specs.Around.{Around, first_readings, AreDrawn, LeavesReadings}
-use Rattle.ei_serve.specs.Steps.{AreVersions, GivesOut, IsToldInPart, Replies, RepliesInPart, Goes, GoesInPart, Breaks}
+use Rattle.ei_serve.proofs.Puts.{behind_then, no_puts, puts_then}
+use Rattle.ei_serve.specs.Steps.{AreVersions, GivesOut, bytes_only, IsToldInPart, Replies, RepliesInPart, Goes, GoesInPart, Breaks}
 
 -- ---- what a sink holds
 
@@ -34,8 +36,8 @@ pub more_more : (a b : List ℕ) (held : Piece) → with_more b [] (with_more a 
 more_more a b held = piece_is _ _ _ _ (append_assoc held.bytes a b) (append-nil (held.handles ++ []))
 
 -- none of these messages was told
-pub cut : (messages : List Raw) (took : Option Piece) → IsToldInPart messages took took
-cut messages took held told = (0, told ∙ ap (λ (x : Piece). Some x) (none_more held))
+pub cut : (messages : List Raw) (sink : SinkView) → IsToldInPart messages sink sink
+cut messages sink = record { told = λ held told. (0, told ∙ ap (λ (x : Piece). Some x) (none_more held)); puts = none_put (bytes_only (all_bytes messages)) sink.puts }
 
 -- ---- requests
 
@@ -103,47 +105,56 @@ leaves_then u v old mid new l m told is =
 -- ---- replies
 
 -- the messages between are answered by nothing
-pub replies_none : (setup : Setup) (before reached : List Raw) (took : Option Piece) → replies setup reached ≡ replies setup before → Replies setup before reached took took
-replies_none setup before reached took e held told = ([], e ∙ sym (append-nil (replies setup before)), told ∙ ap (λ (x : Piece). Some x) (none_more held))
+pub replies_none : (setup : Setup) (before reached : List Raw) (sink : SinkView) → replies setup reached ≡ replies setup before → Replies setup before reached sink sink
+replies_none setup before reached sink e = record {
+  told = λ held told. ([], e ∙ sym (append-nil (replies setup before)), told ∙ ap (λ (x : Piece). Some x) (none_more held));
+  puts = no_puts setup before reached sink.puts;
+}
 
 joined_bytes : (a b : List Raw) → all_bytes (a ++ b) ≡ all_bytes a ++ all_bytes b
 joined_bytes a b = flat_map-append bytes_of a b
 
-pub replies_then : (setup : Setup) (a b c : List Raw) (x y z : Option Piece) → Replies setup a b x y → Replies setup b c y z → Replies setup a c x z
-replies_then setup a b c x y z g h held told =
-    let p = g held told in
-    let q = h (with_more (all_bytes p.0) [] held) p.2 in (
-      p.0 ++ q.0,
-      q.1 ∙ ap (λ (t : List Raw). t ++ q.0) p.1 ∙ append_assoc (replies setup a) p.0 q.0,
-      q.2 ∙ ap (λ (t : Piece). Some t) (more_more (all_bytes p.0) (all_bytes q.0) held) ∙ ap (λ (t : List ℕ). Some (with_more t [] held)) (sym (joined_bytes p.0 q.0)),
-    )
+pub replies_then : (setup : Setup) (a b c : List Raw) (x y z : SinkView) → ((done : List Raw) × (b ≡ done ++ a)) → ((done : List Raw) × (c ≡ done ++ b)) → Replies setup a b x y → Replies setup b c y z → Replies setup a c x z
+replies_then setup a b c x y z first second g h = record {
+  told = λ held told.
+      let p = g.told held told in
+      let q = h.told (with_more (all_bytes p.0) [] held) p.2 in (
+        p.0 ++ q.0,
+        q.1 ∙ ap (λ (t : List Raw). t ++ q.0) p.1 ∙ append_assoc (replies setup a) p.0 q.0,
+        q.2 ∙ ap (λ (t : Piece). Some t) (more_more (all_bytes p.0) (all_bytes q.0) held) ∙ ap (λ (t : List ℕ). Some (with_more t [] held)) (sym (joined_bytes p.0 q.0)),
+      );
+  puts = puts_then setup a b c x.puts y.puts z.puts first second g.puts h.puts;
+}
 
-pub replies_then_part : (setup : Setup) (a b c : List Raw) (x y z : Option Piece) → Replies setup a b x y → RepliesInPart setup b c y z → RepliesInPart setup a c x z
-replies_then_part setup a b c x y z g h held told =
-    let p = g held told in
-    let q = h (with_more (all_bytes p.0) [] held) p.2 in
-    let bytes : all_bytes p.0 ++ take q.1 (all_bytes q.0) ≡ take (length (all_bytes p.0) + q.1) (all_bytes (p.0 ++ q.0)) =
-    sym (take-append-add (all_bytes p.0) (all_bytes q.0) q.1) ∙ ap (λ (t : List ℕ). take (length (all_bytes p.0) + q.1) t) (sym (joined_bytes p.0 q.0)) in (
-      p.0 ++ q.0,
-      length (all_bytes p.0) + q.1,
-      q.2 ∙ ap (λ (t : List Raw). t ++ q.0) p.1 ∙ append_assoc (replies setup a) p.0 q.0,
-      q.3 ∙ ap (λ (t : Piece). Some t) (more_more (all_bytes p.0) (take q.1 (all_bytes q.0)) held) ∙ ap (λ (t : List ℕ). Some (with_more t [] held)) bytes,
-    )
+pub replies_then_part : (setup : Setup) (a b c : List Raw) (x y z : SinkView) → ((done : List Raw) × (b ≡ done ++ a)) → ((done : List Raw) × (c ≡ done ++ b)) → Replies setup a b x y → RepliesInPart setup b c y z → RepliesInPart setup a c x z
+replies_then_part setup a b c x y z first second g h = record {
+  told = λ held told.
+      let p = g.told held told in
+      let q = h.told (with_more (all_bytes p.0) [] held) p.2 in
+      let bytes : all_bytes p.0 ++ take q.1 (all_bytes q.0) ≡ take (length (all_bytes p.0) + q.1) (all_bytes (p.0 ++ q.0)) =
+      sym (take-append-add (all_bytes p.0) (all_bytes q.0) q.1) ∙ ap (λ (t : List ℕ). take (length (all_bytes p.0) + q.1) t) (sym (joined_bytes p.0 q.0)) in (
+        p.0 ++ q.0,
+        length (all_bytes p.0) + q.1,
+        q.2 ∙ ap (λ (t : List Raw). t ++ q.0) p.1 ∙ append_assoc (replies setup a) p.0 q.0,
+        q.3 ∙ ap (λ (t : Piece). Some t) (more_more (all_bytes p.0) (take q.1 (all_bytes q.0)) held) ∙ ap (λ (t : List ℕ). Some (with_more t [] held)) bytes,
+      );
+  puts = puts_then setup a b c x.puts y.puts z.puts first second g.puts h.puts;
+}
 
 -- none of them
-pub in_part_none : (setup : Setup) (before : List Raw) (took : Option Piece) → RepliesInPart setup before before took took
-in_part_none setup before took held told = ([], 0, sym (append-nil (replies setup before)), told ∙ ap (λ (x : Piece). Some x) (none_more held))
+pub in_part_none : (setup : Setup) (before : List Raw) (sink : SinkView) → RepliesInPart setup before before sink sink
+in_part_none setup before sink = record {
+  told = λ held told. ([], 0, sym (append-nil (replies setup before)), told ∙ ap (λ (x : Piece). Some x) (none_more held));
+  puts = no_puts setup before before sink.puts;
+}
 
 -- ---- all of it
-
-pub behind_then : (a b c : List Raw) → ((done : List Raw) × (b ≡ done ++ a)) → ((done : List Raw) × (c ≡ done ++ b)) → (done : List Raw) × (c ≡ done ++ a)
-behind_then a b c g h = (h.0 ++ g.0, h.1 ∙ ap (λ (u : List Raw). h.0 ++ u) g.1 ∙ sym (append_assoc h.0 g.0 a))
 
 pub goes_none : (setup : Setup) (before : List Raw) (times : List ℕ) (x : Around) → Goes setup before before times [] x x
 goes_none setup before times x = record {
   behind = ([], refl);
   gives = gives_none setup before before times x.out (λ readings. refl);
-  replies = replies_none setup before before x.took refl;
+  replies = replies_none setup before before x.sink refl;
   drawn = λ told is. refl;
   leaves = λ told is. is;
   frames = omega arith;
@@ -153,7 +164,7 @@ pub goes_then : (setup : Setup) (a b c : List Raw) (times u v : List ℕ) (x y z
 goes_then setup a b c times u v x y z g h = record {
   behind = behind_then a b c g.behind h.behind;
   gives = gives_then setup a b c times u v x.out y.out z.out h.behind g.gives h.gives;
-  replies = replies_then setup a b c x.took y.took z.took g.replies h.replies;
+  replies = replies_then setup a b c x.sink y.sink z.sink g.behind h.behind g.replies h.replies;
   drawn = drawn_then u v x.readings y.readings g.drawn g.leaves h.drawn;
   leaves = leaves_then u v x.readings y.readings z.readings g.leaves h.leaves;
   frames = omega (arith, g.frames, h.frames, length-append u v);
@@ -164,7 +175,7 @@ pub goes_beside : (setup : Setup) (a b : List Raw) (times used : List ℕ) (x y 
 goes_beside setup a b times used x y source_old source_new g = record { behind = g.behind; gives = g.gives; replies = g.replies; drawn = g.drawn; leaves = g.leaves; frames = g.frames }
 
 pub breaks_beside : (setup : Setup) (a b : List Raw) (times : List ℕ) (x y : Around) (source_old source_new : SourceView) → GoesInPart setup a b times x y → GoesInPart setup a b times (record x { source = source_old }) (record y { source = source_new })
-breaks_beside setup a b times x y source_old source_new g = record { reached = g.reached; used = g.used; behind = g.behind; ahead = g.ahead; gives = g.gives; replies = g.replies; drawn = g.drawn; leaves = g.leaves }
+breaks_beside setup a b times x y source_old source_new g = record { reached = g.reached; used = g.used; behind = g.behind; ahead = g.ahead; gives = g.gives; replies = g.replies; drawn = g.drawn; leaves = g.leaves; least = g.least; most = g.most }
 
 -- ---- broken off
 
@@ -202,9 +213,11 @@ breaks_here setup past times rest x = record {
   behind = ([], refl);
   ahead = extends (judge setup) past rest;
   gives = gives_none setup past past times x.out (λ readings. refl);
-  replies = in_part_none setup past x.took;
+  replies = in_part_none setup past x.sink;
   drawn = λ told is. refl;
   leaves = λ told is. is;
+  least = omega arith;
+  most = omega arith;
 }
 
 -- later on the way
@@ -215,7 +228,9 @@ breaks_then setup a b times u s t x y z same g h = record {
   behind = behind_then a b h.reached g.behind h.behind;
   ahead = (h.ahead.0, ap (λ (r : Reading Refusal). r.past) same ∙ h.ahead.1);
   gives = gives_then setup a b h.reached times u h.used x.out y.out z.out h.behind g.gives h.gives;
-  replies = replies_then_part setup a b h.reached x.took y.took z.took g.replies h.replies;
+  replies = replies_then_part setup a b h.reached x.sink y.sink z.sink g.behind h.behind g.replies h.replies;
   drawn = drawn_then u h.used x.readings y.readings g.drawn g.leaves h.drawn;
   leaves = leaves_then u h.used x.readings y.readings z.readings g.leaves h.leaves;
+  least = omega (arith, g.frames, h.least, length-append u h.used);
+  most = omega (arith, g.frames, h.most, length-append u h.used);
 }

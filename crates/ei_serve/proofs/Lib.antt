@@ -17,6 +17,7 @@ pub mod NoHandles
 pub mod Standing
 pub mod Taking
 pub mod EarlyRequests
+pub mod Puts
 pub mod Going
 pub mod Stepping
 pub mod Handling

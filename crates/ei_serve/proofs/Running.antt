@@ -14,7 +14,7 @@ use Rattle.ei_session.specs.Requests.{slot, framed}
 use Rattle.ei_session.specs.Events.{replies}
 use Rattle.ei_session.specs.Refusals.{Refusal as Cause}
 use Rattle.ei_session.specs.Served.{reading_of, accepted}
-use Rattle.ei_backend.specs.Outside.{SourceView, with_more}
+use Rattle.ei_backend.specs.Outside.{SourceView, SinkView, with_more}
 use Rattle.ei_backend.specs.Incoming.{Hands}
 use Rattle.ei_request.specs.declared.event.EisRequest.{EisRequest}
 use Rattle.ei_serve.specs.declared.state.SessionState.{SessionState}
@@ -24,6 +24,7 @@ use Rattle.ei_serve.specs.Steps.{GivesOut, Replies}
 use Rattle.ei_serve.specs.Taking.{with_next}
 use Rattle.ei_serve.specs.Turning.{GoesOn}
 use Rattle.ei_serve.specs.Serving.{Replied}
+use Rattle.ei_serve.proofs.Puts.{no_replies, puts_on}
 use Rattle.ei_serve.proofs.Going.{gives_none, gives_then, drawn_then, leaves_then, more_more}
 
 -- of the pieces told, the first n were taken, and they are these
@@ -40,8 +41,9 @@ pub record Running (setup : Setup) (n : ℕ) (s : SessionState) (old new : Aroun
   pub stands : Stands setup pieces times s
   pub took : (told : List Piece) → old.source.left ≡ Some told → Took told new.source.left n pieces
   pub given : new.source.given ≡ old.source.given ++ pieces
+  pub asked : new.source.asked ≤ old.source.asked + n
   pub gives : GivesOut setup [] (accepted setup (stream pieces)) [] times old.out new.out
-  pub replied : Replied setup (accepted setup (stream pieces)) old.took new.took
+  pub replied : Replied setup (accepted setup (stream pieces)) old.sink new.sink
   pub drawn : AreDrawn times old.readings
   pub leaves : LeavesReadings times old.readings new.readings
   pub frames : length times + frames_made (each (slot setup) []) ≡ frames_made (each (slot setup) (accepted setup (stream pieces)))
@@ -73,11 +75,14 @@ took_more told before after n pieces piece t hands =
 joined_bytes : (a b : List Raw) → all_bytes (a ++ b) ≡ all_bytes a ++ all_bytes b
 joined_bytes a b = flat_map-append bytes_of a b
 
-pub replied_then : (setup : Setup) (a b : List Raw) (x y z : Option Piece) → Replied setup a x y → Replies setup a b y z → Replied setup b x z
-replied_then setup a b x y z r s held told =
-    let q = s (with_more (all_bytes (replies setup a)) [] held) (r held told) in
-    q.2 ∙ ap (λ (t : Piece). Some t) (more_more (all_bytes (replies setup a)) (all_bytes q.0) held)
-    ∙ ap (λ (t : List ℕ). Some (with_more t [] held)) (sym (joined_bytes (replies setup a) q.0) ∙ ap all_bytes (sym q.1))
+pub replied_then : (setup : Setup) (a b : List Raw) (x y z : SinkView) → ((done : List Raw) × (b ≡ done ++ a)) → Replied setup a x y → Replies setup a b y z → Replied setup b x z
+replied_then setup a b x y z behind r s = record {
+  told = λ held told.
+      let q = s.told (with_more (all_bytes (replies setup a)) [] held) (r.told held told) in
+      q.2 ∙ ap (λ (t : Piece). Some t) (more_more (all_bytes (replies setup a)) (all_bytes q.0) held)
+      ∙ ap (λ (t : List ℕ). Some (with_more t [] held)) (sym (joined_bytes (replies setup a) q.0) ∙ ap all_bytes (sym q.1));
+  puts = puts_on setup a b x.puts y.puts z.puts behind r.puts s.puts;
+}
 
 -- ---- one turn more
 
@@ -89,8 +94,9 @@ goes_on setup n s t x y z r g = record {
   stands = g.stands;
   took = λ told e. took_more told y.source z.source n r.pieces g.piece (r.took told e) g.hands;
   given = g.hands.given ∙ ap (λ (l : List Piece). l ++ g.piece ∷ []) r.given ∙ append_assoc x.source.given r.pieces (g.piece ∷ []);
+  asked = omega (arith, r.asked, g.hands.asked.once);
   gives = gives_then setup [] (accepted setup (stream r.pieces)) (accepted setup (stream (with_next r.pieces g.piece))) [] r.times g.used x.out y.out z.out g.goes.behind r.gives g.goes.gives;
-  replied = replied_then setup (accepted setup (stream r.pieces)) (accepted setup (stream (with_next r.pieces g.piece))) x.took y.took z.took r.replied g.goes.replies;
+  replied = replied_then setup (accepted setup (stream r.pieces)) (accepted setup (stream (with_next r.pieces g.piece))) x.sink y.sink z.sink g.goes.behind r.replied g.goes.replies;
   drawn = drawn_then r.times g.used x.readings y.readings r.drawn r.leaves g.goes.drawn;
   leaves = leaves_then r.times g.used x.readings y.readings z.readings r.leaves g.goes.leaves;
   frames = omega (arith, r.frames, g.goes.frames, length-append r.times g.used);
@@ -104,9 +110,13 @@ nothing_read setup = refl
 pub none_accepted : (setup : Setup) → accepted setup (stream []) ≡ []
 none_accepted setup = ap (λ (r : Reading Cause). r.past) (nothing_read setup)
 
--- of a sink that told nothing before, anything is behind that
-pub untold_replied : (setup : Setup) (messages : List Raw) (new : Option Piece) → Replied setup messages None new
-untold_replied setup messages new held told = absurd cc
+-- a sink that told nothing of what it held
+abbrev pub untold : SinkView → SinkView
+untold sink = record sink { taken = None }
+
+-- anything is behind that
+pub untold_replied : (setup : Setup) (messages : List Raw) (sink : SinkView) → Replied setup messages (untold sink) sink
+untold_replied setup messages sink = record { told = λ held told. absurd cc; puts = no_replies setup messages sink.puts }
 
 -- a session that just started stands for no pieces
 pub stands_for_none : (setup : Setup) (s : SessionState) → terms_of s.start.terms ≡ setup → StandsAt setup [] [] [] [] s.phase → s.taken ≡ 0 → Stands setup [] [] s
@@ -121,7 +131,7 @@ stands_for_none setup s started phase taken = record {
   taken = taken;
 }
 
-pub starts : (setup : Setup) (s : SessionState) (source : SourceView) (out : List EisRequest) (old new : Option Piece) (readings : Option (List ℕ)) → Stands setup [] [] s → Replied setup [] old new → Running setup 0 s (around source out old readings) (around source out new readings)
+pub starts : (setup : Setup) (s : SessionState) (source : SourceView) (out : List EisRequest) (old new : SinkView) (readings : Option (List ℕ)) → Stands setup [] [] s → Replied setup [] old new → Running setup 0 s (around source out old readings) (around source out new readings)
 starts setup s source out old new readings stands r = record {
   pieces = [];
   times = [];
@@ -129,6 +139,7 @@ starts setup s source out old new readings stands r = record {
   stands = stands;
   took = λ told e. record { within = omega arith; left_is = e; are = refl };
   given = sym (append-nil source.given);
+  asked = omega arith;
   gives = gives_none setup [] (accepted setup (stream [])) [] out (λ given. ap (framed setup given) (none_accepted setup));
   replied = subst (λ (m : List Raw). Replied setup m old new) (sym (none_accepted setup)) r;
   drawn = λ told is. refl;

@@ -25,7 +25,7 @@ use Rattle.ei_session.specs.Served.{session, is_over, reading_of, accepted, IsVa
 use Rattle.ei_session.specs.Complete.{AreComplete}
 use Rattle.ei_session.proofs.AllParts.{replies_prefix}
 use Rattle.ei_session.proofs.Completing.{complete_ends}
-use Rattle.ei_backend.specs.Outside.{SourceView, with_more}
+use Rattle.ei_backend.specs.Outside.{SourceView, SinkView, with_more}
 use Rattle.ei_backend.specs.Incoming.{Hands, HasNone}
 use Rattle.ei_request.specs.declared.event.EisRequest.{EisRequest}
 use Rattle.ei_standing.specs.Standing.{request_in_code}
@@ -44,11 +44,14 @@ use Rattle.ei_serve.specs.Steps.{GivesOut, Replies, RepliesInPart, Goes}
 use Rattle.ei_serve.specs.Taking.{with_next}
 use Rattle.ei_serve.specs.Refusing.{refusal_of, IsRefused}
 use Rattle.ei_serve.specs.Turning.{Closes, ClosesRefused, Finds, Stays, BreaksOff, Turns, IsAtEnd}
-use Rattle.ei_serve.specs.Serving.{AnswersAs, IsDecided, IsCutShort, IsOfRequest, IsOfSession, IsSourceEnd, TookPieces, HandsOut, LeftReadings, Replied, RepliedInPart}
+use Rattle.ei_serve.specs.Serving.{AnswersAs, IsOfRequest, IsOfSession, IsSourceEnd, HandsOut, LeftReadings, Replied, RepliedInPart}
+use Rattle.ei_backend.specs.Pieces.{TookPieces}
+use Rattle.ei_types.specs.Decided.{IsDecided, IsCutShort}
 use Rattle.ei_serve.specs.Serving.{RepliedAtLeast, ReadValid, TookToTheEnd, TookToPiece, TookAllOf, CutShort}
 use Rattle.ei_serve.specs.Whole.{Serves}
 use Rattle.ei_serve.proofs.NeverRefused.{FineAnswer, session_fine}
-use Rattle.ei_serve.proofs.Going.{drop_none, none_more, more_more, gives_none, gives_then, drawn_then, leaves_then}
+use Rattle.ei_serve.proofs.Puts.{puts_greeting, puts_on}
+use Rattle.ei_serve.proofs.Going.{drop_none, more_more, gives_none, gives_then, drawn_then, leaves_then}
 use Rattle.ei_serve.proofs.Histories.{GoesOn as GoingOn, IsEarly, IsStopped, end_is_no_stop, goes_on_more, going, stopped, too_many_pieces}
 use Rattle.ei_serve.proofs.Histories.{too_many_handles_come, session_front}
 use Rattle.ei_serve.proofs.Histories.{over_early, front_same, accepted_front, handled_front, handled_next}
@@ -139,24 +142,26 @@ greeting_alone setup = refl
 greeting_bytes : (setup : Setup) → all_bytes (replies setup []) ≡ bytes_of greeting
 greeting_bytes setup = ap all_bytes (greeting_alone setup) ∙ append-nil (bytes_of greeting)
 
-pub greeted : (setup : Setup) (old new : Option Piece) → ((held : Piece) → old ≡ Some held → Greeted held new) → Replied setup [] old new
-greeted setup old new h held told = h held told ∙ ap (λ (x : List ℕ). Some (with_more x [] held)) (sym (greeting_bytes setup))
+pub greeted : (setup : Setup) (old new : SinkView) → Greeted old new → Replied setup [] old new
+greeted setup old new h = record {
+  told = λ held told. h.told held told ∙ ap (λ (x : List ℕ). Some (with_more x [] held)) (sym (greeting_bytes setup));
+  puts = puts_greeting setup [] old.puts new.puts h.puts;
+}
 
-pub greeted_in_part : (setup : Setup) (old new : Option Piece) → ((held : Piece) → old ≡ Some held → GreetedInPart held new) → RepliedInPart setup [] old new
-greeted_in_part setup old new h held told =
-    let g = h held told in
-    (g.0, g.2 ∙ ap (λ (x : List ℕ). Some (with_more (take g.0 x) [] held)) (sym (greeting_bytes setup)))
-
--- nothing yet
-pub not_replied : (setup : Setup) (took : Option Piece) → RepliedInPart setup [] took took
-not_replied setup took held told = (0, told ∙ ap (λ (x : Piece). Some x) (none_more held))
+pub greeted_in_part : (setup : Setup) (old new : SinkView) → GreetedInPart old new → RepliedInPart setup [] old new
+greeted_in_part setup old new h = record {
+  told = λ held told.
+      let g = h.told held told in
+      (g.0, g.2 ∙ ap (λ (x : List ℕ). Some (with_more (take g.0 x) [] held)) (sym (greeting_bytes setup)));
+  puts = puts_greeting setup [] old.puts new.puts h.puts;
+}
 
 -- ---- before the first piece
 
 none_taken : (told : List Piece) (left : Option (List Piece)) → left ≡ Some told → TookPieces told left 0
 none_taken told left e = record { within = omega arith; left_is = e }
 
-none_handled : (setup : Setup) (told : List Piece) (left : Option (List Piece)) (readings : Option (List ℕ)) (out : List EisRequest) (old new : Option Piece) → left ≡ Some told → RepliedInPart setup [] old new → CutShort setup told left readings out out old new
+none_handled : (setup : Setup) (told : List Piece) (left : Option (List Piece)) (readings : Option (List ℕ)) (out : List EisRequest) (old new : SinkView) → left ≡ Some told → RepliedInPart setup [] old new → CutShort setup told left readings readings out out old new
 none_handled setup told left readings out old new e r = record {
   k = 0;
   took = none_taken told left e;
@@ -165,6 +170,7 @@ none_handled setup told left readings out old new e r = record {
   owed = λ lt. absurd (omega (arith, lt));
   requests = hands_out setup [] [] readings out out (gives_none setup [] [] [] out (λ given. refl)) (λ given is. refl);
   replies = r;
+  readings_left = record { n = 0; least = omega (arith, no_frames setup); most = omega arith; left = λ told is. is };
   replied = λ lt. absurd (omega (arith, lt));
 }
 
@@ -214,31 +220,37 @@ joined_bytes : (a b : List Raw) → all_bytes (a ++ b) ≡ all_bytes a ++ all_by
 joined_bytes a b = flat_map-append bytes_of a b
 
 -- the replies to all messages reached begin with those before
-replied_then_part : (setup : Setup) (before reached : List Raw) (x y z : Option Piece) → Replied setup before x y → RepliesInPart setup before reached y z → RepliedInPart setup reached x z
-replied_then_part setup before reached x y z r h held told =
-    let q = h (with_more (all_bytes (replies setup before)) [] held) (r held told) in
-    let k = length (all_bytes (replies setup before)) + q.1 in
-    let bytes : all_bytes (replies setup before) ++ take q.1 (all_bytes q.0) ≡ take k (all_bytes (replies setup reached)) =
-    sym (take-append-add (all_bytes (replies setup before)) (all_bytes q.0) q.1) ∙ ap (take k) (sym (joined_bytes (replies setup before) q.0) ∙ ap all_bytes (sym q.2)) in
-    (k, q.3 ∙ ap (λ (t : Piece). Some t) (more_more (all_bytes (replies setup before)) (take q.1 (all_bytes q.0)) held) ∙ ap (λ (t : List ℕ). Some (with_more t [] held)) bytes)
+replied_then_part : (setup : Setup) (before reached : List Raw) (x y z : SinkView) → ((done : List Raw) × (reached ≡ done ++ before)) → Replied setup before x y → RepliesInPart setup before reached y z → RepliedInPart setup reached x z
+replied_then_part setup before reached x y z behind r h = record {
+  told = λ held told.
+      let q = h.told (with_more (all_bytes (replies setup before)) [] held) (r.told held told) in
+      let k = length (all_bytes (replies setup before)) + q.1 in
+      let bytes : all_bytes (replies setup before) ++ take q.1 (all_bytes q.0) ≡ take k (all_bytes (replies setup reached)) =
+      sym (take-append-add (all_bytes (replies setup before)) (all_bytes q.0) q.1) ∙ ap (take k) (sym (joined_bytes (replies setup before) q.0) ∙ ap all_bytes (sym q.2)) in
+      (k, q.3 ∙ ap (λ (t : Piece). Some t) (more_more (all_bytes (replies setup before)) (take q.1 (all_bytes q.0)) held) ∙ ap (λ (t : List ℕ). Some (with_more t [] held)) bytes);
+  puts = puts_on setup before reached x.puts y.puts z.puts behind r.puts h.puts;
+}
 
-at_least : (setup : Setup) (before reached : List Raw) (x y z : Option Piece) → Replied setup before x y → RepliesInPart setup before reached y z → RepliedAtLeast setup before x z
+at_least : (setup : Setup) (before reached : List Raw) (x y z : SinkView) → Replied setup before x y → RepliesInPart setup before reached y z → RepliedAtLeast setup before x z
 at_least setup before reached x y z r h held told =
-    let q = h (with_more (all_bytes (replies setup before)) [] held) (r held told) in
+    let q = h.told (with_more (all_bytes (replies setup before)) [] held) (r.told held told) in
     (take q.1 (all_bytes q.0), q.3 ∙ ap (λ (t : Piece). Some t) (more_more (all_bytes (replies setup before)) (take q.1 (all_bytes q.0)) held))
 
 -- all of them
-all_in_part : (setup : Setup) (messages : List Raw) (x y : Option Piece) → Replied setup messages x y → RepliedInPart setup messages x y
-all_in_part setup messages x y r held told =
-    let bytes = all_bytes (replies setup messages) in
-    (length bytes, r held told ∙ ap (λ (t : List ℕ). Some (with_more t [] held)) (sym (take_all (length bytes) bytes (omega arith))))
+all_in_part : (setup : Setup) (messages : List Raw) (x y : SinkView) → Replied setup messages x y → RepliedInPart setup messages x y
+all_in_part setup messages x y r = record {
+  told = λ held told.
+      let bytes = all_bytes (replies setup messages) in
+      (length bytes, r.told held told ∙ ap (λ (t : List ℕ). Some (with_more t [] held)) (sym (take_all (length bytes) bytes (omega arith))));
+  puts = r.puts;
+}
 
-at_least_front : (setup : Setup) (before messages : List Raw) (x y : Option Piece) (more : List Raw) → messages ≡ more ++ before → Replied setup messages x y → RepliedAtLeast setup before x y
+at_least_front : (setup : Setup) (before messages : List Raw) (x y : SinkView) (more : List Raw) → messages ≡ more ++ before → Replied setup messages x y → RepliedAtLeast setup before x y
 at_least_front setup before messages x y more e r held told =
     let p = replies_prefix setup more before in
     let bytes : all_bytes (replies setup messages) ≡ all_bytes (replies setup before) ++ all_bytes p.0 =
     ap (λ (m : List Raw). all_bytes (replies setup m)) e ∙ ap all_bytes p.1 ∙ joined_bytes (replies setup before) p.0 in
-    (all_bytes p.0, r held told ∙ ap (λ (t : List ℕ). Some (with_more t [] held)) bytes)
+    (all_bytes p.0, r.told held told ∙ ap (λ (t : List ℕ). Some (with_more t [] held)) bytes)
 
 -- ---- all that is said of a session over pieces that were told
 
@@ -273,7 +285,7 @@ took_to_end setup told left r n t = absurd n
 took_of : (told : List Piece) (left : Option (List Piece)) (n : ℕ) (pieces : List Piece) → Took told left n pieces → TookPieces told left n
 took_of told left n pieces t = record { within = t.within; left_is = t.left_is }
 
-cut_so : (setup : Setup) (told : List Piece) (left : Option (List Piece)) (x z : Around) (e : Error) (k : ℕ) → IsCutShort {T = HowEnded} (Err e) → k ≤ setup.pieces + 1 → TookPieces told left k → CutShort setup told left x.readings x.out z.out x.took z.took → Serves setup told left (Err e) x z
+cut_so : (setup : Setup) (told : List Piece) (left : Option (List Piece)) (x z : Around) (e : Error) (k : ℕ) → IsCutShort {T = HowEnded} (Err e) → k ≤ setup.pieces + 1 → TookPieces told left k → CutShort setup told left x.readings z.readings x.out z.out x.sink z.sink → Serves setup told left (Err e) x z
 cut_so setup told left x z error.WriteFault k is most took h = record { answer = tt; requests = λ d. absurd d; replies = λ d. absurd d; readings = λ d. absurd d; valid = tt; taken = λ d. absurd d; pieces = (k, most, took); handled = λ e. absurd cc; cut_short = λ _. h }
 cut_so setup told left x z error.NoMemory k is most took h = record { answer = tt; requests = λ d. absurd d; replies = λ d. absurd d; readings = λ d. absurd d; valid = tt; taken = λ d. absurd d; pieces = (k, most, took); handled = λ e. absurd cc; cut_short = λ _. h }
 cut_so setup told left x z e k is most took h = absurd is
@@ -287,7 +299,7 @@ pub no_start_read : (e : Error) → RefusesToStart e → e ≡ error.ReadFault �
 no_start_read e h same = subst RefusesToStart same h
 
 -- a session that didn't start
-pub not_started : (setup : Setup) (told : List Piece) (source : SourceView) (left : Option (List Piece)) (out : List EisRequest) (old new : Option Piece) (readings : Option (List ℕ)) (e : Error) (r : Result HowEnded Error) → r ≡ Err e → RefusesToStart e → left ≡ Some told → RepliedInPart setup [] old new →
+pub not_started : (setup : Setup) (told : List Piece) (source : SourceView) (left : Option (List Piece)) (out : List EisRequest) (old new : SinkView) (readings : Option (List ℕ)) (e : Error) (r : Result HowEnded Error) → r ≡ Err e → RefusesToStart e → left ≡ Some told → RepliedInPart setup [] old new →
     Serves setup told left r (around source out old readings) (around source out new readings)
 not_started setup told source left out old new readings e r same h is replied =
     subst (λ (q : Result HowEnded Error). Serves setup told left q (around source out old readings) (around source out new readings)) (sym same)
@@ -306,8 +318,8 @@ module _ (setup : Setup) (n : ℕ) (s : SessionState) (x y z : Around) (run : Ru
       hands_out setup messages (run.times ++ used) x.readings x.out z.out (gives_then setup [] past messages [] run.times used x.out y.out z.out behind run.gives g)
       (drawn_then run.times used x.readings y.readings run.drawn run.leaves d)
 
-  replies_to : (messages : List Raw) → Replies setup past messages y.took z.took → Replied setup messages x.took z.took
-  replies_to messages r = replied_then setup past messages x.took y.took z.took run.replied r
+  replies_to : (messages : List Raw) → ((done : List Raw) × (messages ≡ done ++ past)) → Replies setup past messages y.sink z.sink → Replied setup messages x.sink z.sink
+  replies_to messages behind r = replied_then setup past messages x.sink y.sink z.sink behind run.replied r
 
   leaves_to : (messages : List Raw) (used : List ℕ) → Goes setup past messages run.times used y z → LeftReadings setup messages x.readings z.readings
   leaves_to messages used g =
@@ -318,7 +330,7 @@ module _ (setup : Setup) (n : ℕ) (s : SessionState) (x y z : Around) (run : Ru
   decided r k used d most answers took all g valid = record {
     answer = answers;
     requests = λ _. gives_to (session setup told).handled used g.behind g.gives g.drawn;
-    replies = λ _. replies_to (session setup told).handled g.replies;
+    replies = λ _. replies_to (session setup told).handled g.behind g.replies;
     readings = λ _. leaves_to (session setup told).handled used g;
     valid = valid;
     taken = λ _. all;
@@ -430,8 +442,12 @@ module _ (setup : Setup) (n : ℕ) (s : SessionState) (x y z : Around) (run : Ru
   hands_here : Stays y z → HandsOut setup past x.readings x.out z.out
   hands_here h = subst (λ (o : List EisRequest). HandsOut setup past x.readings x.out o) (sym h.out) (hands_out setup past run.times x.readings x.out y.out run.gives run.drawn)
 
-  replied_here : Stays y z → Replied setup past x.took z.took
-  replied_here h = subst (λ (t : Option Piece). Replied setup past x.took t) (sym h.took) run.replied
+  replied_here : Stays y z → Replied setup past x.sink z.sink
+  replied_here h = subst (λ (t : SinkView). Replied setup past x.sink t) (sym h.sink) run.replied
+
+  -- so are the readings
+  left_here : Stays y z → LeftReadings setup past x.readings z.readings
+  left_here h = subst (λ (t : Option (List ℕ)). LeftReadings setup past x.readings t) (sym h.readings) (left_readings setup past run.times x.readings y.readings run.frames run.leaves)
 
   accepted_is : accepted setup (stream (take n told)) ≡ past
   accepted_is = ap (λ (p : List Piece). accepted setup (stream p)) took_now.are
@@ -450,12 +466,13 @@ module _ (setup : Setup) (n : ℕ) (s : SessionState) (x y z : Around) (run : Ru
       took = stays_took h;
       goes_on = goes_on_told;
       requests = subst (λ (m : List Raw). HandsOut setup m x.readings x.out z.out) (sym accepted_is) (hands_here h);
-      replies = subst (λ (m : List Raw). Replied setup m x.took z.took) (sym accepted_is) (replied_here h);
+      replies = subst (λ (m : List Raw). Replied setup m x.sink z.sink) (sym accepted_is) (replied_here h);
+      readings_left = subst (λ (m : List Raw). LeftReadings setup m x.readings z.readings) (sym accepted_is) (left_here h);
     };
     cut_short = λ e. absurd e;
   }
 
-  cut_by : (e : Error) (k : ℕ) → IsCutShort {T = HowEnded} (Err e) → k ≤ setup.pieces + 1 → TookPieces told z.source.left k → CutShort setup told z.source.left x.readings x.out z.out x.took z.took → Serves setup told z.source.left (Err e) x z
+  cut_by : (e : Error) (k : ℕ) → IsCutShort {T = HowEnded} (Err e) → k ≤ setup.pieces + 1 → TookPieces told z.source.left k → CutShort setup told z.source.left x.readings z.readings x.out z.out x.sink z.sink → Serves setup told z.source.left (Err e) x z
   cut_by e k is most took h = cut_so setup told z.source.left x z e k is most took h
 
   pub breaks_off : (e : Error) → IsCutShort {T = HowEnded} (Err e) → BreaksOff setup run.pieces run.times y z → Serves setup told z.source.left (Err e) x z
@@ -473,8 +490,14 @@ module _ (setup : Setup) (n : ℕ) (s : SessionState) (x y z : Around) (run : Ru
         ahead = (next.0 ++ h.goes.ahead.0, next.1 ∙ ap (λ (m : List Raw). next.0 ++ m) (last ∙ h.goes.ahead.1) ∙ sym (append_assoc next.0 h.goes.ahead.0 h.goes.reached));
         owed = λ _. (h.goes.behind.0, h.goes.behind.1 ∙ ap (λ (m : List Raw). h.goes.behind.0 ++ m) (sym before));
         requests = gives_to h.goes.reached h.goes.used h.goes.behind h.goes.gives h.goes.drawn;
-        replies = replied_then_part setup past h.goes.reached x.took y.took z.took run.replied h.goes.replies;
-        replied = λ _. subst (λ (m : List Raw). RepliedAtLeast setup m x.took z.took) (sym before) (at_least setup past h.goes.reached x.took y.took z.took run.replied h.goes.replies);
+        replies = replied_then_part setup past h.goes.reached x.sink y.sink z.sink h.goes.behind run.replied h.goes.replies;
+        readings_left = record {
+          n = length (run.times ++ h.goes.used);
+          least = omega (arith, h.goes.least, run.frames, no_frames setup, length-append run.times h.goes.used);
+          most = omega (arith, h.goes.most, run.frames, no_frames setup, length-append run.times h.goes.used);
+          left = leaves_then run.times h.goes.used x.readings y.readings z.readings run.leaves h.goes.leaves;
+        };
+        replied = λ _. subst (λ (m : List Raw). RepliedAtLeast setup m x.sink z.sink) (sym before) (at_least setup past h.goes.reached x.sink y.sink z.sink run.replied h.goes.replies);
       })
 
   stays_short : (e : Error) → IsCutShort {T = HowEnded} (Err e) → Stays y z → Serves setup told z.source.left (Err e) x z
@@ -490,8 +513,14 @@ module _ (setup : Setup) (n : ℕ) (s : SessionState) (x y z : Around) (run : Ru
         ahead = (front.0, front.1 ∙ ap (λ (m : List Raw). front.0 ++ m) accepted_is);
         owed = λ _. (owed.0, behind);
         requests = hands_here h;
-        replies = all_in_part setup past x.took z.took (replied_here h);
-        replied = λ _. at_least_front setup (accepted setup (stream (take (n - 1) told))) past x.took z.took owed.0 behind (replied_here h);
+        replies = all_in_part setup past x.sink z.sink (replied_here h);
+        readings_left = record {
+          n = frames_made (each (slot setup) past);
+          least = omega arith;
+          most = omega arith;
+          left = left_here h;
+        };
+        replied = λ _. at_least_front setup (accepted setup (stream (take (n - 1) told))) past x.sink z.sink owed.0 behind (replied_here h);
       })
 
   -- ---- by the error

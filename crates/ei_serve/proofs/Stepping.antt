@@ -1,9 +1,9 @@
 -- One message, in either phase.
-use Rattle.std.proofs.Common.{◌≡◌, ℕ, Bool, true, false, List, [], ◌∷◌, ◌++◌, Option, None, Result, Err, refl, ap, ◌∙◌, arith}
+use Rattle.std.proofs.Common.{◌≡◌, ℕ, Bool, true, false, List, [], ◌∷◌, ◌++◌, Option, None, Result, Err, refl, ap, sym, ◌∙◌, arith}
 use Rattle.std.proofs.lemmas.List.{append-nil}
 use Rattle.ei_spec.specs.declared.handle.Handle.{Handle}
-use Rattle.ei_spec.specs.Piece.{Piece}
-use Rattle.ei_spec.specs.Message.{Raw, Whole, front}
+use Rattle.ei_spec.specs.Message.{Raw, Whole, front, all_bytes}
+use Rattle.ei_backend.specs.Outside.{SinkView}
 use Rattle.ei_spec.specs.Stream.{Reading, Accepted}
 use Rattle.ei_spec.proofs.GoesOn.{read_accepted}
 use Rattle.ei_session.specs.Setup.{Setup}
@@ -23,6 +23,7 @@ use Rattle.ei_serve.specs.declared.phase.Phase.{Phase}
 use Rattle.ei_serve.specs.declared.phase.Step.{Step}
 use Rattle.ei_serve.specs.Around.{Around, around, no_source}
 use Rattle.ei_serve.specs.Steps.{Refuses, RefusesStep, IsTold, IsToldInPart, Goes, Breaks, TellsFinish, TellsFinishInPart, IsCutOff, ConnectsPhase, Steps}
+use Rattle.ei_serve.proofs.Puts.{puts_one}
 use Rattle.ei_serve.proofs.Going.{goes_none, gives_none as gave_none, replies_none, breaks_here, extends}
 
 pub refused_step : (setup : Setup) (past : List Raw) (times rest : List ℕ) (e : Error) (x : Around) → Refuses setup past rest e → RefusesStep setup past times rest e x x
@@ -42,13 +43,13 @@ framed_quiet setup readings past m i =
 pub replied : (setup : Setup) (past : List Raw) (m : Raw) (events : List Raw) → reply setup past m ≡ events → replies setup (m ∷ past) ≡ replies setup past ++ events
 replied setup past m events e = replies_more setup past m ∙ ap (λ (x : List Raw). replies setup past ++ x) e
 
-module _ (setup : Setup) (past : List Raw) (m : Raw) (events : List Raw) (times : List ℕ) (out : List EisRequest) (readings : Option (List ℕ)) (old new : Option Piece) (i : item past m ≡ None) (r : reply setup past m ≡ events) where
+module _ (setup : Setup) (past : List Raw) (m : Raw) (events : List Raw) (times : List ℕ) (out : List EisRequest) (readings : Option (List ℕ)) (old new : SinkView) (i : item past m ≡ None) (r : reply setup past m ≡ events) where
   -- a message that gives nothing, and whose answer was told
   pub goes_told : IsTold events old new → Goes setup past (m ∷ past) times [] (around no_source out old readings) (around no_source out new readings)
   goes_told told = record {
     behind = (m ∷ [], refl);
     gives = gave_none setup past (m ∷ past) times out (λ given. framed_quiet setup given past m i);
-    replies = λ held h. (events, replied setup past m events r, told held h);
+    replies = record { told = λ held h. (events, replied setup past m events r, told.told held h); puts = puts_one setup past m (all_bytes events) old.puts new.puts (ap all_bytes (sym r)) told.puts };
     drawn = λ told is. refl;
     leaves = λ told is. is;
     frames = omega (arith, frames_none setup past m i);
@@ -64,9 +65,11 @@ module _ (setup : Setup) (past : List Raw) (m : Raw) (events : List Raw) (times 
         behind = (m ∷ [], refl);
         ahead = (on.0, ap (λ (u : Reading Refusal). u.past) (read_accepted (judge setup) past rest m after w j) ∙ on.1);
         gives = gave_none setup past (m ∷ past) times out (λ given. framed_quiet setup given past m i);
-        replies = λ held h. let t = told held h in (events, t.0, replied setup past m events r, t.1);
+        replies = record { told = λ held h. let t = told.told held h in (events, t.0, replied setup past m events r, t.1); puts = puts_one setup past m (all_bytes events) old.puts new.puts (ap all_bytes (sym r)) told.puts };
         drawn = λ told is. refl;
         leaves = λ told is. is;
+        least = omega (arith, frames_none setup past m i);
+        most = omega (arith, frames_none setup past m i);
       }
 
   -- the sink was cut off while it was told
@@ -87,7 +90,7 @@ pub goes_quiet : (setup : Setup) (past : List Raw) (m : Raw) (times : List ℕ) 
 goes_quiet setup past m times x e f = record {
   behind = (m ∷ [], refl);
   gives = gave_none setup past (m ∷ past) times x.out (λ given. framed_quiet setup given past m (early_item past m e));
-  replies = replies_none setup past (m ∷ past) x.took (replied setup past m [] (early_reply past m e setup (finish_is past m false e f)) ∙ append-nil (replies setup past));
+  replies = replies_none setup past (m ∷ past) x.sink (replied setup past m [] (early_reply past m e setup (finish_is past m false e f)) ∙ append-nil (replies setup past));
   drawn = λ told is. refl;
   leaves = λ told is. is;
   frames = omega (arith, frames_none setup past m (early_item past m e));
@@ -97,7 +100,7 @@ finish_reply : (setup : Setup) (past : List Raw) (m : Raw) → connected past �
 finish_reply setup past m e f = reply_finish setup past m (finish_is past m true e f)
 
 -- the finish is answered by its events
-pub goes_finish : (setup : Setup) (past : List Raw) (m : Raw) (times : List ℕ) (out : List EisRequest) (readings : Option (List ℕ)) (old new : Option Piece) → connected past ≡ false → is_finish m ≡ true → TellsFinish setup past old new → Goes setup past (m ∷ past) times [] (around no_source out old readings) (around no_source out new readings)
+pub goes_finish : (setup : Setup) (past : List Raw) (m : Raw) (times : List ℕ) (out : List EisRequest) (readings : Option (List ℕ)) (old new : SinkView) → connected past ≡ false → is_finish m ≡ true → TellsFinish setup past old new → Goes setup past (m ∷ past) times [] (around no_source out old readings) (around no_source out new readings)
 goes_finish setup past m times out readings old new e f told = goes_told setup past m (finish_events setup past) times out readings old new (early_item past m e) (finish_reply setup past m e f) told
 
 -- ---- the answers of a step
@@ -105,9 +108,9 @@ goes_finish setup past m times out readings old new e f told = goes_told setup p
 pub steps_refused : (setup : Setup) (past : List Raw) (times rest : List ℕ) (handles : List Handle) (r : Result Step Error) (p : Phase) (e : Error) (x : Around) → r ≡ Err e → Refuses setup past rest e → Steps setup past times rest handles r p x x
 steps_refused setup past times rest handles r p e x same h = rw same (refused_step setup past times rest e x h)
 
-pub steps_cut_off : (setup : Setup) (past : List Raw) (times rest : List ℕ) (handles : List Handle) (r : Result Step Error) (p : Phase) (m : Raw) (after : List ℕ) (e : Error) (out : List EisRequest) (readings : Option (List ℕ)) (old new : Option Piece) → r ≡ Err e → connected past ≡ false → front rest ≡ Whole m after → judge setup past m ≡ Accepted → is_finish m ≡ true → IsCutOff e × TellsFinishInPart setup past old new → Steps setup past times rest handles r p (around no_source out old readings) (around no_source out new readings)
+pub steps_cut_off : (setup : Setup) (past : List Raw) (times rest : List ℕ) (handles : List Handle) (r : Result Step Error) (p : Phase) (m : Raw) (after : List ℕ) (e : Error) (out : List EisRequest) (readings : Option (List ℕ)) (old new : SinkView) → r ≡ Err e → connected past ≡ false → front rest ≡ Whole m after → judge setup past m ≡ Accepted → is_finish m ≡ true → IsCutOff e × TellsFinishInPart setup past old new → Steps setup past times rest handles r p (around no_source out old readings) (around no_source out new readings)
 steps_cut_off setup past times rest handles r p m after e out readings old new same u w j f c =
     rw same (cut_off setup past m (finish_events setup past) times out readings old new (early_item past m u) (finish_reply setup past m u f) rest after e w j c.0 c.1)
 
-pub connect_cut_off : (setup : Setup) (before : List Raw) (finish : Raw) (after : List ℕ) (handles : List Handle) (r : Result Unit Error) (p : Phase) (e : Error) (old new : Option Piece) → r ≡ Err e → IsCutOff e × TellsFinishInPart setup before old new → ConnectsPhase setup before finish after handles r p old new
+pub connect_cut_off : (setup : Setup) (before : List Raw) (finish : Raw) (after : List ℕ) (handles : List Handle) (r : Result Unit Error) (p : Phase) (e : Error) (old new : SinkView) → r ≡ Err e → IsCutOff e × TellsFinishInPart setup before old new → ConnectsPhase setup before finish after handles r p old new
 connect_cut_off setup before finish after handles r p e old new same h = rw same h

@@ -92,9 +92,10 @@ gave_took setup past m times used c n frames none t =
 pub record Draws (used : List ℕ) (before after : Option (List ℕ)) : Type 0 where
   pub drawn : AreDrawn used before
   pub leaves : LeavesReadings used before after
+  pub few : length used ≤ 1
 
 pub draws_none : (before after : Option (List ℕ)) → after ≡ before → Draws [] before after
-draws_none before after e = record { drawn = λ told is. refl; leaves = λ told is. e ∙ is }
+draws_none before after e = record { drawn = λ told is. refl; leaves = λ told is. e ∙ is; few = omega arith }
 
 one_first : (told : List ℕ) → slice_index told 0 ∷ [] ≡ first_readings 1 told
 one_first [] = refl
@@ -104,6 +105,7 @@ draws_one : (time : ℕ) (before after : Option (List ℕ)) → ((told : List �
 draws_one time before after r = record {
   drawn = λ told is. ap (λ (n : ℕ). n ∷ []) (r told is).is ∙ one_first told;
   leaves = λ told is. (r told is).left;
+  few = omega arith;
 }
 
 draws_by : (xs : List InputEvent) (w : Bool) (time : ℕ) (before after : Option (List ℕ)) → nat_lt 0 (length xs) ≡ w → Times true w time before after → Draws (used_by xs time) before after

@@ -27,7 +27,7 @@ use Rattle.ei_serve.specs.declared.session.Turn.TheVariants as turn
 use Rattle.ei_serve.specs.Standing.{Stands, StandsAt, terms_of}
 use Rattle.ei_serve.specs.Around.{Around, around, no_source}
 use Rattle.ei_serve.specs.Steps.{Goes, GoesInPart, Breaks}
-use Rattle.ei_backend.specs.Outside.{SourceView}
+use Rattle.ei_backend.specs.Outside.{SourceView, SinkView}
 use Rattle.ei_backend.specs.Incoming.{Hands, HasNone}
 use Rattle.ei_serve.specs.Taking.{with_next, ReadsPhase, Holds, TakesPiece, piece_came}
 use Rattle.ei_serve.specs.Refusing.{refusal_of}
@@ -155,7 +155,7 @@ module _ (setup : Setup) (pieces : List Piece) (times : List ℕ) (s : SessionSt
 
 -- ---- the answers that come before the piece is looked at
 
-module _ (setup : Setup) (pieces : List Piece) (times : List ℕ) (source_old source_new : SourceView) (out : List EisRequest) (took : Option Piece) (readings : Option (List ℕ)) where
+module _ (setup : Setup) (pieces : List Piece) (times : List ℕ) (source_old source_new : SourceView) (out : List EisRequest) (took : SinkView) (readings : Option (List ℕ)) where
   abbrev Turned : Result Turn Error → SessionState → Type 0
   Turned r u = Turns setup pieces times r u (around source_old out took readings) (around source_new out took readings)
 
@@ -170,8 +170,8 @@ module _ (setup : Setup) (pieces : List Piece) (times : List ℕ) (source_old so
   refused s t u error.HandleLimit stands h =
       let is = too_many_handles_come setup pieces h.0 stands.goes_on h.2 h.3 in
       record { piece = h.0; used = []; hands = h.1; answer_is = ap (λ (o : Outcome). o.answer) is; goes = rw is nothing }
-  refused s t u error.ReadFault stands h = record { keeps = h; out = refl; took = refl; readings = refl }
-  refused s t u error.NoMemory stands h = inl (record { keeps = h; out = refl; took = refl; readings = refl })
+  refused s t u error.ReadFault stands h = record { keeps = h; out = refl; sink = refl; readings = refl }
+  refused s t u error.NoMemory stands h = inl (record { keeps = h; out = refl; sink = refl; readings = refl })
   refused s t u e stands h = absurd h
 
   pub refused_as : (s t u : SessionState) (e : Error) (r : Result Turn Error) → r ≡ Err e → Stands setup pieces times s → TakesPiece setup pieces times s (Err e) t source_old source_new → Turned r u

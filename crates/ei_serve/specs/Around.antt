@@ -1,27 +1,27 @@
 -- What stands around a session: its source, the requests that it handed out, its sink and its clock.
 use Rattle.std.specs.Prelude.{◌≡◌, ℕ, zero, suc, List, [], ◌∷◌, length, drop, Option, Some, None}
-use Rattle.ei_spec.specs.Piece.{Piece}
-use Rattle.ei_backend.specs.Outside.{SourceView}
+use Rattle.ei_backend.specs.Outside.{SourceView, SinkView}
+use Rattle.ei_backend.specs.declared.outside.LastAnswer.TheVariants as answers
 use Rattle.ei_request.specs.declared.event.EisRequest.{EisRequest}
 
--- What the source says of its pieces; what the sink took, and the readings that the clock has left, each where it is told; and the
--- requests that were handed out.
+-- What the source and the sink say of themselves; the readings that the clock has left, where it tells them; and the requests that
+-- were handed out.
 pub record Around : Type 0 where
   pub source : SourceView
   pub out : List EisRequest
-  pub took : Option Piece
+  pub sink : SinkView
   pub readings : Option (List ℕ)
 
-abbrev pub around : SourceView → List EisRequest → Option Piece → Option (List ℕ) → Around
-around source out took readings = record { source = source; out = out; took = took; readings = readings }
+abbrev pub around : SourceView → List EisRequest → SinkView → Option (List ℕ) → Around
+around source out sink readings = record { source = source; out = out; sink = sink; readings = readings }
 
 -- the source, where a call has none
 abbrev pub no_source : SourceView
-no_source = record { left = None; given = [] }
+no_source = record { left = None; given = []; faults = 0; asked = 0; last = answers.Nothing }
 
 -- what stands around a call that has no source
-abbrev pub beside : List EisRequest → Option Piece → Option (List ℕ) → Around
-beside out took readings = around no_source out took readings
+abbrev pub beside : List EisRequest → SinkView → Option (List ℕ) → Around
+beside out sink readings = around no_source out sink readings
 
 -- the first n readings, with 0 past their end
 abbrev pub first_readings : ℕ → List ℕ → List ℕ

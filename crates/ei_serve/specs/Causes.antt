@@ -2,18 +2,22 @@
 use Rattle.std.specs.Prelude.{◌≡◌, ℕ, ◌≤◌, [], length, take, Option, Some, Result, Ok, Err}
 use Rattle.ei_spec.specs.Piece.{Piece}
 use Rattle.ei_spec.specs.Message.{bytes_of}
-use Rattle.ei_backend.specs.Outside.{with_more}
+use Rattle.ei_backend.specs.Outside.{SinkView, with_more}
+use Rattle.ei_backend.specs.Outgoing.{IsPutOf}
+use Rattle.ei_serve.specs.Steps.{bytes_only}
 use Rattle.ei_session.specs.Replies.{greeting}
 use Rattle.ei_types.specs.declared.error.Error.{Error}
 use Rattle.ei_types.specs.declared.error.Error.TheVariants as error
 
--- a sink that told what it held has the greeting behind that
-abbrev pub Greeted : Piece → Option Piece → Type 0
-Greeted held taken = taken ≡ Some (with_more (bytes_of greeting) [] held)
+-- A sink that told what it held has the greeting behind that. At each call it was put what was left of the greeting.
+pub record Greeted (old new : SinkView) : Type 0 where
+  pub told : (held : Piece) → old.taken ≡ Some held → new.taken ≡ Some (with_more (bytes_of greeting) [] held)
+  pub puts : IsPutOf (bytes_only (bytes_of greeting)) old.puts new.puts
 
 -- or only the front of the greeting
-abbrev pub GreetedInPart : Piece → Option Piece → Type 0
-GreetedInPart held taken = (n : ℕ) × (n ≤ length (bytes_of greeting)) × (taken ≡ Some (with_more (take n (bytes_of greeting)) [] held))
+pub record GreetedInPart (old new : SinkView) : Type 0 where
+  pub told : (held : Piece) → old.taken ≡ Some held → (n : ℕ) × (n ≤ length (bytes_of greeting)) × (new.taken ≡ Some (with_more (take n (bytes_of greeting)) [] held))
+  pub puts : IsPutOf (bytes_only (bytes_of greeting)) old.puts new.puts
 
 -- an error that says nothing of the outside
 abbrev pub IsInner : Error → Type 0

@@ -1,12 +1,18 @@
 -- What a whole session answers, gives and replies.
-use Rattle.std.specs.Prelude.{◌≡◌, ◌≤◌, ◌<◌, ◌⊎◌, ℕ, ◌-◌, true, false, List, [], ◌++◌, take, drop, length, map, Option, Some, None, IsSome, Result, Ok, Err}
-use Rattle.ei_spec.specs.Message.{Raw, all_bytes}
+use Rattle.std.specs.Prelude.{◌≡◌, ◌≤◌, ◌<◌, ◌⊎◌, ℕ, ◌+◌, ◌-◌, true, false, List, [], ◌++◌, take, drop, length, map, Option, Some, None, IsSome, Result, Ok, Err, IfErr}
+use Rattle.ei_spec.specs.Message.{Raw, bytes_of, all_bytes}
 use Rattle.ei_spec.specs.Piece.{Piece, stream}
 use Rattle.ei_session.specs.Setup.{Setup}
 use Rattle.ei_session.specs.Requests.{slot, framed}
 use Rattle.ei_session.specs.Events.{replies}
 use Rattle.ei_session.specs.Served.{Answer, Disconnect, End, UnexpectedEof, IdsExhausted, PieceLimit, HandleLimit, is_over, accepted, session, IsValid}
-use Rattle.ei_backend.specs.Outside.{SourceView, source_view, with_more}
+use Rattle.ei_backend.specs.Outside.{SourceView, SinkView, Rose, with_more}
+use Rattle.ei_backend.specs.Pieces.{TookPieces}
+use Rattle.ei_session.specs.Complete.{AreComplete}
+use Rattle.ei_backend.specs.Outgoing.{IsLeftOf}
+use Rattle.std.specs.List.{All}
+use Rattle.ei_session.specs.Replies.{greeting}
+use Rattle.ei_serve.specs.Steps.{bytes_only, IsLeftOfAnswer}
 use Rattle.ei_spec.specs.History.{each}
 use Rattle.ei_spec.specs.Groups.{frames_made}
 use Rattle.ei_standing.specs.Standing.{request_in_code}
@@ -52,60 +58,11 @@ IsOfSession error.NoMemory = Unit {0}
 IsOfSession (error.Parse e) = IsOfRequest e
 IsOfSession e = IsSome (refusal_of e)
 
--- a result that the pieces decide: no fault, and no want of memory
-abbrev pub IsDecided : {T : Type 0} → Result T Error → Type 0
-IsDecided (Err error.ReadFault) = ⊥
-IsDecided (Err error.WriteFault) = ⊥
-IsDecided (Err error.NoMemory) = ⊥
-IsDecided r = Unit {0}
-
--- the sink failed, or memory ran out
-abbrev pub IsCutShort : {T : Type 0} → Result T Error → Type 0
-IsCutShort (Err error.WriteFault) = Unit {0}
-IsCutShort (Err error.NoMemory) = Unit {0}
-IsCutShort r = ⊥
-
 -- whether a session came to the source's end
 abbrev pub IsSourceEnd : Result HowEnded Error → Type 0
 IsSourceEnd (Ok ended.End) = Unit {0}
 IsSourceEnd (Err error.UnexpectedEof) = Unit {0}
 IsSourceEnd r = ⊥
-
--- ---- the pieces of a source
-
--- the source told these pieces, and has those left
-pub record AreTold (before after : SourceView) (told : List Piece) (left : Option (List Piece)) : Type 0 where
-  pub told_is : before.left ≡ Some told
-  pub left_is : left ≡ after.left
-
--- The source gave the first of these pieces, whatever it tells, and the others are left: any, but none where it came to its end.
-pub record BeginAsGiven (before after : SourceView) (ended : Type 0) (told : List Piece) (left : Option (List Piece)) : Type 0 where
-  pub came : List Piece
-  pub more : List Piece
-  pub gave : after.given ≡ before.given ++ came
-  pub told_is : told ≡ came ++ more
-  pub left_is : left ≡ Some more
-  pub ends : ended → more ≡ []
-
--- the pieces of a session over the source, and those left
-abbrev pub ArePieces : SourceView → SourceView → Type 0 → List Piece → Option (List Piece) → Type 0
-ArePieces before after ended told left = AreTold before after told left ⊎ BeginAsGiven before after ended told left
-
--- what is so of them, told or given
-abbrev pub ForPieces : {S : Type 0} → (S → Option (List Piece)) → (S → List Piece) → Type 0 → S → S → (List Piece → Option (List Piece) → Type 0) → Type 0
-ForPieces left given ended old new P =
-    (told : List Piece) (rest : Option (List Piece)) → ArePieces (source_view left given old) (source_view left given new) ended told rest → P told rest
-
--- the source gave some pieces more; of those that it told they are the first, and the others are left
-pub record GavePieces (before after : SourceView) : Type 0 where
-  pub came : List Piece
-  pub gave : after.given ≡ before.given ++ came
-  pub told : (told : List Piece) → before.left ≡ Some told → (rest : List Piece) × (after.left ≡ Some rest) × (told ≡ came ++ rest)
-
--- of the pieces told, so many were taken
-pub record TookPieces (told : List Piece) (left : Option (List Piece)) (k : ℕ) : Type 0 where
-  pub within : k ≤ length told
-  pub left_is : left ≡ Some (drop k told)
 
 -- the readings of a clock that told them; of one that told none, any
 abbrev pub AreReadings : Option (List ℕ) → List ℕ → Type 0
@@ -122,17 +79,39 @@ pub record HandsOut (setup : Setup) (messages : List Raw) (told : Option (List �
 abbrev pub LeftReadings : Setup → List Raw → Option (List ℕ) → Option (List ℕ) → Type 0
 LeftReadings setup messages before after = (told : List ℕ) → before ≡ Some told → after ≡ Some (drop (frames_made (each (slot setup) messages)) told)
 
--- a sink that told what it held has the replies to the messages behind that
-abbrev pub Replied : Setup → List Raw → Option Piece → Option Piece → Type 0
-Replied setup messages old new = (held : Piece) → old ≡ Some held → new ≡ Some (with_more (all_bytes (replies setup messages)) [] held)
+-- or one more was taken, for a frame that wasn't handed out
+pub record LeftReadingsInPart (setup : Setup) (messages : List Raw) (before after : Option (List ℕ)) : Type 0 where
+  pub n : ℕ
+  pub least : frames_made (each (slot setup) messages) ≤ n
+  pub most : n ≤ frames_made (each (slot setup) messages) + 1
+  pub left : (told : List ℕ) → before ≡ Some told → after ≡ Some (drop n told)
+
+-- What is put is left of the greeting, or of what answers one of the messages.
+abbrev pub IsLeftOfReply : Setup → List Raw → Piece → Type 0
+IsLeftOfReply setup messages put = IsLeftOf (bytes_only (bytes_of greeting)) put ⊎ IsLeftOfAnswer setup [] messages put
+
+-- where a sink told what was put to it, it was put what was left of the greeting, or of one answer, at each call
+pub record PutsReply (setup : Setup) (messages : List Raw) (puts : List Piece) (new : Option (List Piece)) : Type 0 where
+  pub more : List Piece
+  pub grown : new ≡ Some (puts ++ more)
+  pub each : All (IsLeftOfReply setup messages) more
+
+abbrev pub PutsReplies : Setup → List Raw → Option (List Piece) → Option (List Piece) → Type 0
+PutsReplies setup messages old new = (puts : List Piece) → old ≡ Some puts → PutsReply setup messages puts new
+
+-- a sink that told what it held has the replies to the messages behind that, and each was put for itself
+pub record Replied (setup : Setup) (messages : List Raw) (old new : SinkView) : Type 0 where
+  pub told : (held : Piece) → old.taken ≡ Some held → new.taken ≡ Some (with_more (all_bytes (replies setup messages)) [] held)
+  pub puts : PutsReplies setup messages old.puts new.puts
 
 -- or a front of them
-abbrev pub RepliedInPart : Setup → List Raw → Option Piece → Option Piece → Type 0
-RepliedInPart setup messages old new = (held : Piece) → old ≡ Some held → (n : ℕ) × (new ≡ Some (with_more (take n (all_bytes (replies setup messages))) [] held))
+pub record RepliedInPart (setup : Setup) (messages : List Raw) (old new : SinkView) : Type 0 where
+  pub told : (held : Piece) → old.taken ≡ Some held → (n : ℕ) × (new.taken ≡ Some (with_more (take n (all_bytes (replies setup messages))) [] held))
+  pub puts : PutsReplies setup messages old.puts new.puts
 
 -- or more than them
-abbrev pub RepliedAtLeast : Setup → List Raw → Option Piece → Option Piece → Type 0
-RepliedAtLeast setup messages old new = (held : Piece) → old ≡ Some held → (more : List ℕ) × (new ≡ Some (with_more (all_bytes (replies setup messages) ++ more) [] held))
+abbrev pub RepliedAtLeast : Setup → List Raw → SinkView → SinkView → Type 0
+RepliedAtLeast setup messages old new = (held : Piece) → old.taken ≡ Some held → (more : List ℕ) × (new.taken ≡ Some (with_more (all_bytes (replies setup messages) ++ more) [] held))
 
 -- so many of the pieces told were taken, and they are a valid stream
 pub record ReadValid (setup : Setup) (told : List Piece) (left : Option (List Piece)) (messages : List Raw) : Type 0 where
@@ -142,12 +121,13 @@ pub record ReadValid (setup : Setup) (told : List Piece) (left : Option (List Pi
   pub messages_are : accepted setup (stream (take k told)) ≡ messages
 
 -- at a fault of the source the session was not over, and the messages of the pieces taken were handled
-pub record Handled (setup : Setup) (told : List Piece) (left : Option (List Piece)) (readings : Option (List ℕ)) (out_old out_new : List EisRequest) (took_old took_new : Option Piece) : Type 0 where
+pub record Handled (setup : Setup) (told : List Piece) (left : Option (List Piece)) (readings readings_new : Option (List ℕ)) (out_old out_new : List EisRequest) (sink_old sink_new : SinkView) : Type 0 where
   pub k : ℕ
   pub took : TookPieces told left k
   pub goes_on : (j : ℕ) → 1 ≤ j → j ≤ k → is_over setup told j ≡ false
   pub requests : HandsOut setup (accepted setup (stream (take k told))) readings out_old out_new
-  pub replies : Replied setup (accepted setup (stream (take k told))) took_old took_new
+  pub replies : Replied setup (accepted setup (stream (take k told))) sink_old sink_new
+  pub readings_left : LeftReadings setup (accepted setup (stream (take k told))) readings readings_new
 
 -- all pieces that were told were taken, and the session is over with none of them
 pub record TookToTheEnd (setup : Setup) (told : List Piece) (left : Option (List Piece)) : Type 0 where
@@ -170,12 +150,18 @@ TookAllOf setup told left r = TookToPiece setup told left
 
 -- Cut short, with so many pieces taken, the first messages of the session were handled, among them all of the pieces before the
 -- last; and a front of the replies to them went out, among them all those to the messages of the pieces before the last.
-pub record CutShort (setup : Setup) (told : List Piece) (left : Option (List Piece)) (readings : Option (List ℕ)) (out_old out_new : List EisRequest) (took_old took_new : Option Piece) : Type 0 where
+pub record CutShort (setup : Setup) (told : List Piece) (left : Option (List Piece)) (readings readings_new : Option (List ℕ)) (out_old out_new : List EisRequest) (sink_old sink_new : SinkView) : Type 0 where
   pub k : ℕ
   pub took : TookPieces told left k
   pub reached : List Raw
   pub ahead : (more : List Raw) × ((session setup told).handled ≡ more ++ reached)
   pub owed : 0 < k → (done : List Raw) × (reached ≡ done ++ accepted setup (stream (take (k - 1) told)))
   pub requests : HandsOut setup reached readings out_old out_new
-  pub replies : RepliedInPart setup reached took_old took_new
-  pub replied : 0 < k → RepliedAtLeast setup (accepted setup (stream (take (k - 1) told))) took_old took_new
+  pub replies : RepliedInPart setup reached sink_old sink_new
+  pub readings_left : LeftReadingsInPart setup reached readings readings_new
+  pub replied : 0 < k → RepliedAtLeast setup (accepted setup (stream (take (k - 1) told))) sink_old sink_new
+
+-- Over pieces that make a good end sure, with no fault of the source and none of the sink, an error is want of memory.
+abbrev pub EndsWell : Setup → List Piece → SourceView → SourceView → SinkView → SinkView → Result HowEnded Error → Type 0
+EndsWell setup told source_old source_new sink_old sink_new result =
+    AreComplete setup told → (Rose source_old.faults source_new.faults → ⊥) → (Rose sink_old.faults sink_new.faults → ⊥) → IfErr result (λ e. e ≡ error.NoMemory)

@@ -1,6 +1,7 @@
 -- What becomes of the message at the front.
 use Rattle.std.specs.Prelude.{◌≡◌, ℕ, ◌+◌, Bool, true, false, ◌<◌, ◌≤◌, ◌^◌, List, [], ◌∷◌, ◌++◌, take, map, length, codes, is_some, Option, Some}
 use Rattle.std.specs.Prelude.{None, Result, Ok, Err}
+use Rattle.std.specs.List.{All}
 use Rattle.ei_spec.specs.declared.handle.Handle.{Handle}
 use Rattle.ei_spec.specs.Interface.{ObjectView}
 use Rattle.ei_spec.specs.Message.{Raw, Short, Unlawful, Whole, front, all_bytes}
@@ -19,8 +20,9 @@ use Rattle.ei_session.specs.Meaning.{Finishes}
 use Rattle.ei_session.specs.ByMeaning.{shake_refusal}
 use Rattle.ei_session.specs.Requests.{framed, slot, Request as Asked}
 use Rattle.ei_session.specs.Replies.{finish_events, settled_events, connection_event}
-use Rattle.ei_session.specs.Events.{replies}
-use Rattle.ei_backend.specs.Outside.{with_more}
+use Rattle.ei_session.specs.Events.{reply, replies}
+use Rattle.ei_backend.specs.Outside.{SinkView, with_more}
+use Rattle.ei_backend.specs.Outgoing.{IsLeftOf, IsPutOf}
 use Rattle.ei_backend.specs.Endpoint.{Endpoint, endpoint_of}
 use Rattle.ei_backend.specs.Backend.{BackendView}
 use Rattle.ei_handshake.specs.Handshaker.{HandshakerView}
@@ -54,42 +56,69 @@ pub record GivesOut (setup : Setup) (before reached : List Raw) (times used : Li
   pub grown : (versions : KnownInterface → ℕ) → AreVersions reached versions → new ≡ old ++ map (handed_as versions) more
   pub framed_is : (later : List ℕ) → framed setup ((times ++ used) ++ later) reached ≡ framed setup ((times ++ used) ++ later) before ++ more
 
--- a sink that told what it held has these messages behind that
-abbrev pub IsTold : List Raw → Option Piece → Option Piece → Type 0
-IsTold messages old new = (held : Piece) → old ≡ Some held → new ≡ Some (with_more (all_bytes messages) [] held)
+-- these bytes, and no handle
+abbrev pub bytes_only : List ℕ → Piece
+bytes_only bytes = record { bytes = bytes; handles = [] }
+
+-- A sink that told what it held has these messages behind that. At each call it was put what was left of them.
+pub record IsTold (messages : List Raw) (old new : SinkView) : Type 0 where
+  pub told : (held : Piece) → old.taken ≡ Some held → new.taken ≡ Some (with_more (all_bytes messages) [] held)
+  pub puts : IsPutOf (bytes_only (all_bytes messages)) old.puts new.puts
 
 -- or only a front of their bytes
-abbrev pub IsToldInPart : List Raw → Option Piece → Option Piece → Type 0
-IsToldInPart messages old new = (held : Piece) → old ≡ Some held → (n : ℕ) × (new ≡ Some (with_more (take n (all_bytes messages)) [] held))
+pub record IsToldInPart (messages : List Raw) (old new : SinkView) : Type 0 where
+  pub told : (held : Piece) → old.taken ≡ Some held → (n : ℕ) × (new.taken ≡ Some (with_more (take n (all_bytes messages)) [] held))
+  pub puts : IsPutOf (bytes_only (all_bytes messages)) old.puts new.puts
 
--- a sink that told what it held has the further replies behind that
-abbrev pub Replies : Setup → List Raw → List Raw → Option Piece → Option Piece → Type 0
-Replies setup before reached old new = (held : Piece) → old ≡ Some held → (more : List Raw) × (replies setup reached ≡ replies setup before ++ more) × (new ≡ Some (with_more (all_bytes more) [] held))
+-- What is put is left of what answers one message on the way from some to others: of its answer alone, and at least one byte.
+pub record IsLeftOfAnswer (setup : Setup) (before reached : List Raw) (put : Piece) : Type 0 where
+  pub past : List Raw
+  pub m : Raw
+  pub behind : (done : List Raw) × (past ≡ done ++ before)
+  pub ahead : (more : List Raw) × (reached ≡ more ++ m ∷ past)
+  pub left : IsLeftOf (bytes_only (all_bytes (reply setup past m))) put
+
+-- where a sink told what was put to it, it was put what was left of one answer at each call
+pub record PutsOne (setup : Setup) (before reached : List Raw) (puts : List Piece) (new : Option (List Piece)) : Type 0 where
+  pub more : List Piece
+  pub grown : new ≡ Some (puts ++ more)
+  pub each : All (IsLeftOfAnswer setup before reached) more
+
+abbrev pub PutsAnswers : Setup → List Raw → List Raw → Option (List Piece) → Option (List Piece) → Type 0
+PutsAnswers setup before reached old new = (puts : List Piece) → old ≡ Some puts → PutsOne setup before reached puts new
+
+-- a sink that told what it held has the further replies behind that, and each was put for itself
+pub record Replies (setup : Setup) (before reached : List Raw) (old new : SinkView) : Type 0 where
+  pub told : (held : Piece) → old.taken ≡ Some held → (more : List Raw) × (replies setup reached ≡ replies setup before ++ more) × (new.taken ≡ Some (with_more (all_bytes more) [] held))
+  pub puts : PutsAnswers setup before reached old.puts new.puts
 
 -- or only a front of their bytes
-abbrev pub RepliesInPart : Setup → List Raw → List Raw → Option Piece → Option Piece → Type 0
-RepliesInPart setup before reached old new = (held : Piece) → old ≡ Some held → (more : List Raw) × (n : ℕ) × (replies setup reached ≡ replies setup before ++ more) × (new ≡ Some (with_more (take n (all_bytes more)) [] held))
+pub record RepliesInPart (setup : Setup) (before reached : List Raw) (old new : SinkView) : Type 0 where
+  pub told : (held : Piece) → old.taken ≡ Some held → (more : List Raw) × (n : ℕ) × (replies setup reached ≡ replies setup before ++ more) × (new.taken ≡ Some (with_more (take n (all_bytes more)) [] held))
+  pub puts : PutsAnswers setup before reached old.puts new.puts
 
 -- what was given and answered on the way from some messages to others, and the readings used
 pub record Goes (setup : Setup) (before reached : List Raw) (times used : List ℕ) (old new : Around) : Type 0 where
   pub behind : (done : List Raw) × (reached ≡ done ++ before)
   pub gives : GivesOut setup before reached times used old.out new.out
-  pub replies : Replies setup before reached old.took new.took
+  pub replies : Replies setup before reached old.sink new.sink
   pub drawn : AreDrawn used old.readings
   pub leaves : LeavesReadings used old.readings new.readings
   pub frames : length used + frames_made (each (slot setup) before) ≡ frames_made (each (slot setup) reached)
 
 -- The same, broken off: the messages reached lie between those before and the last ones, and the sink may
--- have taken only a front of the further replies.
+-- have taken only a front of the further replies. A reading more may be used than their frames took.
 pub record GoesInPart (setup : Setup) (before last : List Raw) (times : List ℕ) (old new : Around) : Type 0 where
   pub reached : List Raw
   pub used : List ℕ
   pub behind : (done : List Raw) × (reached ≡ done ++ before)
   pub ahead : (more : List Raw) × (last ≡ more ++ reached)
   pub gives : GivesOut setup before reached times used old.out new.out
-  pub replies : RepliesInPart setup before reached old.took new.took
+  pub replies : RepliesInPart setup before reached old.sink new.sink
   pub drawn : AreDrawn used old.readings
   pub leaves : LeavesReadings used old.readings new.readings
+  pub least : frames_made (each (slot setup) reached) ≤ length used + frames_made (each (slot setup) before)
+  pub most : length used + frames_made (each (slot setup) before) ≤ frames_made (each (slot setup) reached) + 1
 
 -- broken off on the way to the last message of these bytes that can be handled
 abbrev pub Breaks : Setup → List Raw → List ℕ → List ℕ → Around → Around → Type 0
@@ -146,10 +175,10 @@ Shakes setup past rest handles (Ok (shaken.Finish proxy)) b h = AsksToFinish set
 Shakes setup past rest handles (Err e) b h = Refuses setup past rest e
 
 -- the sink took all the events that answer the finish, or a front of them
-abbrev pub TellsFinish : Setup → List Raw → Option Piece → Option Piece → Type 0
+abbrev pub TellsFinish : Setup → List Raw → SinkView → SinkView → Type 0
 TellsFinish setup before old new = IsTold (finish_events setup before) old new
 
-abbrev pub TellsFinishInPart : Setup → List Raw → Option Piece → Option Piece → Type 0
+abbrev pub TellsFinishInPart : Setup → List Raw → SinkView → SinkView → Type 0
 TellsFinishInPart setup before old new = IsToldInPart (finish_events setup before) old new
 
 -- how a sink can't be told
@@ -159,7 +188,7 @@ IsCutOff error.NoMemory = Unit {0}
 IsCutOff e = ⊥
 
 -- the connection stands and the sink was told, or it was cut off
-abbrev pub Connects : Setup → List Raw → Raw → List ℕ → List Handle → Result ConverterView Error → Option Piece → Option Piece → Type 0
+abbrev pub Connects : Setup → List Raw → Raw → List ℕ → List Handle → Result ConverterView Error → SinkView → SinkView → Type 0
 Connects setup before finish after handles (Ok c) old new = IsConnected setup (finish ∷ before) [] after handles c × TellsFinish setup before old new
 Connects setup before finish after handles (Err e) old new = IsCutOff e × TellsFinishInPart setup before old new
 
@@ -169,7 +198,7 @@ HandsOverIn setup before after handles resp (phase.Handshake b h) = HandsOver se
 HandsOverIn setup before after handles resp (phase.Connected c) = ⊥
 HandsOverIn setup before after handles resp phase.Over = ⊥
 
-abbrev pub ConnectsPhase : Setup → List Raw → Raw → List ℕ → List Handle → Result Unit Error → Phase → Option Piece → Option Piece → Type 0
+abbrev pub ConnectsPhase : Setup → List Raw → Raw → List ℕ → List Handle → Result Unit Error → Phase → SinkView → SinkView → Type 0
 ConnectsPhase setup before finish after handles (Ok x) p old new = StandsAt setup (finish ∷ before) [] after handles p × TellsFinish setup before old new
 ConnectsPhase setup before finish after handles (Err e) p old new = IsCutOff e × TellsFinishInPart setup before old new
 
@@ -221,6 +250,6 @@ Steps setup past times rest handles (Ok step.Disconnect) p old new = EndsWith se
 Steps setup past times rest handles (Err e) p old new = RefusesStep setup past times rest e old new
 
 -- the same during the handshake: nothing is handed out and no reading is taken, whatever was handed out and is left to read
-abbrev pub StepsInHandshake : Setup → List Raw → List ℕ → List ℕ → List Handle → Result Step Error → Phase → Option Piece → Option Piece → Type 0
+abbrev pub StepsInHandshake : Setup → List Raw → List ℕ → List ℕ → List Handle → Result Step Error → Phase → SinkView → SinkView → Type 0
 StepsInHandshake setup past times rest handles r p old new = (out : List EisRequest) (readings : Option (List ℕ)) →
     Steps setup past times rest handles r p (around no_source out old readings) (around no_source out new readings)

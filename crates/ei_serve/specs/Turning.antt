@@ -92,7 +92,7 @@ pub record GoesOn (setup : Setup) (pieces : List Piece) (times : List ℕ) (t : 
 pub record Stays (old new : Around) : Type 0 where
   pub keeps : Keeps old.source new.source
   pub out : new.out ≡ old.out
-  pub took : new.took ≡ old.took
+  pub sink : new.sink ≡ old.sink
   pub readings : new.readings ≡ old.readings
 
 -- one more piece came, and handling its messages broke off

@@ -38,8 +38,8 @@ pub(crate) fn connect<K: Sink>(
     ensures connects { (before : List Raw) (finish : Raw) (after : List ℕ) (handles : List Handle) →
         connected before ≡ false → is_finish finish ≡ true →
         HandsOver (terms_of start.terms) before after handles resp context →
-        Connects (terms_of start.terms) before finish after handles result (K.taken sink.old) (K.taken sink.new) }
-    ensures sink { LentSink K.faults K.later (IsErrOf result error.WriteFault) sink.old sink.new }
+        Connects (terms_of start.terms) before finish after handles result (K.view sink.old) (K.view sink.new) }
+    ensures sink { LentSink K.view K.later (IsErrOf result error.WriteFault) sink.old sink.new }
     ensures no_read_fault { IsErrOf result error.ReadFault → ⊥ }
 {
     let mut converter = EisRequestConverter::new(
@@ -65,8 +65,9 @@ pub(crate) fn converse<K: Sink, C: Clock>(
     ensures converses { (setup : Started) (past : List Raw) (times rest : List ℕ) (handles : List Handle) →
         IsConnected setup past times rest handles converter.old →
         Steps setup past times rest handles (told result why.new) (phases.Connected converter.new)
-        (beside out.old.items (K.taken sink.old) (C.readings clock.old)) (beside out.new.items (K.taken sink.new) (C.readings clock.new)) }
-    ensures sink { LentSink K.faults K.later (IsErrOf (told result why.new) error.WriteFault) sink.old sink.new }
+        (beside out.old.items (K.view sink.old) (C.view clock.old).left)
+        (beside out.new.items (K.view sink.new) (C.view clock.new).left) }
+    ensures sink { LentSink K.view K.later (IsErrOf (told result why.new) error.WriteFault) sink.old sink.new }
     ensures no_read_fault { IsErrOf (told result why.new) error.ReadFault → ⊥ }
     ensures clock { LentClock C.later clock.old clock.new }
 {
@@ -103,8 +104,9 @@ fn take_request<K: Sink, C: Clock>(
     ensures takes { (setup : Started) (past : List Raw) (times rest : List ℕ) (handles : List Handle) →
         IsAsked setup past times rest handles request converter.old →
         Steps setup past times rest handles (told result why.new) (phases.Connected converter.new)
-        (beside out.old.items (K.taken sink.old) (C.readings clock.old)) (beside out.new.items (K.taken sink.new) (C.readings clock.new)) }
-    ensures sink { LentSink K.faults K.later (IsErrOf (told result why.new) error.WriteFault) sink.old sink.new }
+        (beside out.old.items (K.view sink.old) (C.view clock.old).left)
+        (beside out.new.items (K.view sink.new) (C.view clock.new).left) }
+    ensures sink { LentSink K.view K.later (IsErrOf (told result why.new) error.WriteFault) sink.old sink.new }
     ensures no_read_fault { IsErrOf (told result why.new) error.ReadFault → ⊥ }
     ensures clock { LentClock C.later clock.old clock.new }
 {
@@ -157,8 +159,8 @@ fn follow<K: Sink>(
         (before : List EisRequest) (read read_now : Option (List ℕ)) →
         IsHandedOut setup past times rest handles before out.now read read_now converter.old →
         Steps setup past times rest handles (told result why.new) (phases.Connected converter.new)
-        (beside before (K.taken sink.old) read) (beside out.now (K.taken sink.new) read_now) }
-    ensures sink { LentSink K.faults K.later (IsErrOf (told result why.new) error.WriteFault) sink.old sink.new }
+        (beside before (K.view sink.old) read) (beside out.now (K.view sink.new) read_now) }
+    ensures sink { LentSink K.view K.later (IsErrOf (told result why.new) error.WriteFault) sink.old sink.new }
     ensures no_read_fault { IsErrOf (told result why.new) error.ReadFault → ⊥ }
 {
     let policy = policy_behind(out);

@@ -9,7 +9,7 @@ ghost use Rattle.ei_types.specs.Errors.{error_of_flush, error_of_send};
 ghost use Rattle.ei_types.specs.declared.error.Error.TheVariants as error;
 ghost use Rattle.ei_types.specs.declared.error.HandshakeError.TheVariants as handshake_error;
 ghost use Rattle.ei_wire.specs.declared.error.ReadError.TheVariants as read_error;
-ghost use Rattle.ei_backend.specs.Outside.{Piece, source_view};
+ghost use Rattle.ei_backend.specs.Outside.{Piece};
 ghost use Rattle.ei_backend.specs.Lent.{LentSource, LentSink, LentClock};
 ghost use Rattle.ei_session.specs.Setup.{Setup as Started};
 ghost use Rattle.ei_session.specs.Handshake.{connected, is_finish};
@@ -120,9 +120,9 @@ impl Phase {
         ensures stands { (setup : Started) → setup.capabilities ≤ all_bits → setup.serial ≡ initial_serial →
             IfOk result (λ phase. StandsAt setup [] [] [] [] phase) }
         ensures only { IfErr result RefusesToStart }
-        ensures greeted { OnOk result ((held : Piece) → K.taken sink.old ≡ Some held → Greeted held (K.taken sink.new)) }
-        ensures greeted_in_part { OnErr result ((held : Piece) → K.taken sink.old ≡ Some held → GreetedInPart held (K.taken sink.new)) }
-        ensures sink { LentSink K.faults K.later (IsErrOf result error.WriteFault) sink.old sink.new }
+        ensures greeted { OnOk result (Greeted (K.view sink.old) (K.view sink.new)) }
+        ensures greeted_in_part { OnErr result (GreetedInPart (K.view sink.old) (K.view sink.new)) }
+        ensures sink { LentSink K.view K.later (IsErrOf result error.WriteFault) sink.old sink.new }
     {
         let mut context = Context::new(alloc)?;
         let handshaker = EisHandshaker::new(alloc, &mut context, initial_serial)?;
@@ -139,7 +139,8 @@ impl Phase {
 
     /// Whether the connection stands.
     pub(crate) fn is_connected(&self) -> bool
-        ensures { (setup : Started) (past : List Raw) (times rest : List ℕ) (handles : List Handle) → StandsAt setup past times rest handles self.now
+        ensures { (setup : Started) (past : List Raw) (times rest : List ℕ) (handles : List Handle) →
+            StandsAt setup past times rest handles self.now
             → result ≡ connected past }
     {
         matches!(self, Phase::Connected(_))
@@ -191,8 +192,8 @@ impl Phase {
     pub(crate) fn read<S: Source>(&mut self, source: &mut S) -> Result<usize, ReadError>
         ensures reads { (setup : Started) (past : List Raw) (times rest : List ℕ) (handles : List Handle) →
             length rest < 1048576 → StandsAt setup past times rest handles self.old →
-            ReadsPhase setup past times rest handles result self.new (source_view S.left S.given source.old) (source_view S.left S.given source.new) }
-        ensures source { LentSource S.faults S.last S.later (IsErrOf result read_error.ReadFault)
+            ReadsPhase setup past times rest handles result self.new (S.view source.old) (S.view source.new) }
+        ensures source { LentSource S.view S.later (IsErrOf result read_error.ReadFault)
             (IsOpenIn self.old × IsErrOf result read_error.UnexpectedEof) source.old source.new }
     {
         match self {
@@ -215,8 +216,9 @@ impl Phase {
         ensures steps { (past : List Raw) (times rest : List ℕ) (handles : List Handle) →
             StandsAt (terms_of start.terms) past times rest handles self.old →
             Steps (terms_of start.terms) past times rest handles (told result why.new) self.new
-            (beside out.old.items (K.taken sink.old) (C.readings clock.old)) (beside out.new.items (K.taken sink.new) (C.readings clock.new)) }
-        ensures sink { LentSink K.faults K.later (IsErrOf (told result why.new) error.WriteFault) sink.old sink.new }
+            (beside out.old.items (K.view sink.old) (C.view clock.old).left)
+            (beside out.new.items (K.view sink.new) (C.view clock.new).left) }
+        ensures sink { LentSink K.view K.later (IsErrOf (told result why.new) error.WriteFault) sink.old sink.new }
         ensures no_read_fault { IsErrOf (told result why.new) error.ReadFault → ⊥ }
         ensures clock { LentClock C.later clock.old clock.new }
     {
@@ -236,9 +238,11 @@ impl Phase {
         why: &mut Error,
     ) -> Result<Step, Rejected>
         requires { IsShaking self.old }
-        ensures steps { (past : List Raw) (times rest : List ℕ) (handles : List Handle) → StandsAt (terms_of start.terms) past times rest handles self.old →
-            StepsInHandshake (terms_of start.terms) past times rest handles (told result why.new) self.new (K.taken sink.old) (K.taken sink.new) }
-        ensures sink { LentSink K.faults K.later (IsErrOf (told result why.new) error.WriteFault) sink.old sink.new }
+        ensures steps { (past : List Raw) (times rest : List ℕ) (handles : List Handle) →
+            StandsAt (terms_of start.terms) past times rest handles self.old →
+            StepsInHandshake (terms_of start.terms) past times rest handles (told result why.new) self.new
+            (K.view sink.old) (K.view sink.new) }
+        ensures sink { LentSink K.view K.later (IsErrOf (told result why.new) error.WriteFault) sink.old sink.new }
         ensures no_read_fault { IsErrOf (told result why.new) error.ReadFault → ⊥ }
     {
         let Phase::Handshake(context, handshaker) = self else {
@@ -265,8 +269,9 @@ impl Phase {
         requires { IsShaking self.old }
         ensures steps { (past : List Raw) (times rest : List ℕ) (handles : List Handle) →
             AsksToFinishIn (terms_of start.terms) past times rest handles handshake.now self.old →
-            StepsInHandshake (terms_of start.terms) past times rest handles (told result why.new) self.new (K.taken sink.old) (K.taken sink.new) }
-        ensures sink { LentSink K.faults K.later (IsErrOf (told result why.new) error.WriteFault) sink.old sink.new }
+            StepsInHandshake (terms_of start.terms) past times rest handles (told result why.new) self.new
+            (K.view sink.old) (K.view sink.new) }
+        ensures sink { LentSink K.view K.later (IsErrOf (told result why.new) error.WriteFault) sink.old sink.new }
         ensures no_read_fault { IsErrOf (told result why.new) error.ReadFault → ⊥ }
     {
         let Phase::Handshake(context, handshaker) = self else {
@@ -291,8 +296,9 @@ impl Phase {
         ensures connects { (before : List Raw) (finish : Raw) (after : List ℕ) (handles : List Handle) →
             connected before ≡ false → is_finish finish ≡ true →
             HandsOverIn (terms_of start.terms) before after handles resp self.old →
-            ConnectsPhase (terms_of start.terms) before finish after handles result self.new (K.taken sink.old) (K.taken sink.new) }
-        ensures sink { LentSink K.faults K.later (IsErrOf result error.WriteFault) sink.old sink.new }
+            ConnectsPhase (terms_of start.terms) before finish after handles result self.new (K.view sink.old)
+            (K.view sink.new) }
+        ensures sink { LentSink K.view K.later (IsErrOf result error.WriteFault) sink.old sink.new }
         ensures no_read_fault { IsErrOf result error.ReadFault → ⊥ }
     {
         let Phase::Handshake(context, _) = mem::replace(self, Phase::Over) else {
@@ -313,8 +319,9 @@ impl Phase {
         ensures handles { (past : List Raw) (times rest : List ℕ) (handles : List Handle) →
             StandsAt (terms_of start.terms) past times rest handles self.old →
             HandlesAll (terms_of start.terms) past times rest handles result self.new
-            (beside out.old.items (K.taken sink.old) (C.readings clock.old)) (beside out.new.items (K.taken sink.new) (C.readings clock.new)) }
-        ensures sink { LentSink K.faults K.later (IsErrOf result error.WriteFault) sink.old sink.new }
+            (beside out.old.items (K.view sink.old) (C.view clock.old).left)
+            (beside out.new.items (K.view sink.new) (C.view clock.new).left) }
+        ensures sink { LentSink K.view K.later (IsErrOf result error.WriteFault) sink.old sink.new }
         ensures no_read_fault { IsErrOf result error.ReadFault → ⊥ }
         ensures clock { LentClock C.later clock.old clock.new }
     {

@@ -107,8 +107,10 @@ fn add_device(
     seat: &Seat,
     wanted: DeviceCapabilities,
 ) -> Result<(), SendError>
-    ensures ok { OnOk result (AddsIfHeld (find (is_seat seat.now.id) handle.old.seats) handle.old seat.now wanted handle.new) }
-    ensures exhausted { IsErrOf result send_error.IdsExhausted ↔ RunOutIfHeld (find (is_seat seat.now.id) handle.old.seats) handle.old wanted }
+    ensures ok { OnOk result (AddsIfHeld (find
+        (is_seat seat.now.id) handle.old.seats) handle.old seat.now wanted handle.new) }
+    ensures exhausted { IsErrOf result send_error.IdsExhausted ↔
+        RunOutIfHeld (find (is_seat seat.now.id) handle.old.seats) handle.old wanted }
     ensures short { IsErrOf result send_error.MessageTooLong → ⊥ }
     ensures ring { handle.new.ctx.capacity ≡ handle.old.ctx.capacity }
 {

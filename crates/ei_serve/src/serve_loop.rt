@@ -1,16 +1,15 @@
 //! A whole session.
 
-ghost use Rattle.std.specs.Prelude.{◌≡◌, ◌≤◌, ◌+◌, ℕ, List, [], Option, Some, IsErrOf, IfErr, OnOk};
+ghost use Rattle.std.specs.Prelude.{◌≤◌, [], IsErrOf, IfErr};
 ghost use Rattle.ei_types.specs.Capability.{bits_of, all_bits};
 ghost use Rattle.ei_types.specs.declared.error.Error.TheVariants as error;
 ghost use Rattle.ei_session.specs.Served.{session};
-ghost use Rattle.ei_session.specs.Complete.{AreComplete};
-ghost use Rattle.ei_backend.specs.Outside.{Piece, Rose, source_view};
+ghost use Rattle.ei_backend.specs.Outside.{SinkView};
 ghost use Rattle.ei_backend.specs.Lent.{LentSource, LentSink, LentClock};
 ghost use Rattle.ei_serve.specs.Around.{around};
 ghost use Rattle.ei_serve.specs.Standing.{Stands, setup_of};
-ghost use Rattle.ei_serve.specs.Serving.{AnswersAs, IsDecided, IsCutShort, IsOfSession, IsSourceEnd, TookPieces, TookAllOf, HandsOut};
-ghost use Rattle.ei_serve.specs.Serving.{ForPieces, GavePieces, LeftReadings, Replied, ReadValid, Handled, CutShort};
+ghost use Rattle.ei_serve.specs.Serving.{AnswersAs, EndsWell, IsOfSession, IsSourceEnd, Replied};
+ghost use Rattle.ei_backend.specs.Pieces.{ForPieces, GavePieces};
 ghost use Rattle.ei_serve.specs.Whole.{Serves};
 
 use crate::session::{Ended, Session, Setup, Turn};
@@ -41,36 +40,23 @@ pub fn serve<S: Source, K: Sink, C: Clock>(
 ) -> Result<Ended, Error>
     requires lawful { bits_of setup.capabilities ≤ all_bits }
     // over the pieces that the source tells, or that it gives: the session that the definitions say
-    ensures answer { ForPieces S.left S.given (IsSourceEnd result) source.old source.new (λ told left.
+    ensures serves { ForPieces (IsSourceEnd result) (S.view source.old) (S.view source.new) (λ told left.
+        Serves (setup_of setup) told left result
+        (around (S.view source.old) out.old.items (K.view sink.old) (C.view clock.old).left)
+        (around (S.view source.new) out.new.items (K.view sink.new) (C.view clock.new).left)) }
+    ensures answer { ForPieces (IsSourceEnd result) (S.view source.old) (S.view source.new) (λ told left.
         AnswersAs (session (setup_of setup) told).answer result) }
-    ensures requests { ForPieces S.left S.given (IsSourceEnd result) source.old source.new (λ told left. IsDecided result →
-        HandsOut (setup_of setup) (session (setup_of setup) told).handled (C.readings clock.old) out.old.items out.new.items) }
-    ensures replies { ForPieces S.left S.given (IsSourceEnd result) source.old source.new (λ told left. IsDecided result →
-        Replied (setup_of setup) (session (setup_of setup) told).handled (K.taken sink.old) (K.taken sink.new)) }
-    ensures readings { ForPieces S.left S.given (IsSourceEnd result) source.old source.new (λ told left. IsDecided result →
-        LeftReadings (setup_of setup) (session (setup_of setup) told).handled (C.readings clock.old) (C.readings clock.new)) }
-    ensures valid { ForPieces S.left S.given (IsSourceEnd result) source.old source.new (λ told left.
-        OnOk result (ReadValid (setup_of setup) told left (session (setup_of setup) told).handled)) }
-    ensures taken { ForPieces S.left S.given (IsSourceEnd result) source.old source.new (λ told left. IsDecided result →
-        TookAllOf (setup_of setup) told left result) }
-    ensures pieces { ForPieces S.left S.given (IsSourceEnd result) source.old source.new (λ told left.
-        (k : ℕ) × (k ≤ setup.pieces + 1) × TookPieces told left k) }
-    // where the source failed, or the session was cut short
-    ensures handled { ForPieces S.left S.given (IsSourceEnd result) source.old source.new (λ told left. IsErrOf result error.ReadFault →
-        Handled (setup_of setup) told left (C.readings clock.old) out.old.items out.new.items (K.taken sink.old) (K.taken sink.new)) }
-    ensures cut_short { ForPieces S.left S.given (IsSourceEnd result) source.old source.new (λ told left. IsCutShort result →
-        CutShort (setup_of setup) told left (C.readings clock.old) out.old.items out.new.items (K.taken sink.old) (K.taken sink.new)) }
     // over pieces that make a good end sure, with no fault of the source and none of the sink
-    ensures complete { ForPieces S.left S.given (IsSourceEnd result) source.old source.new (λ told left. AreComplete (setup_of setup) told →
-        (Rose (S.faults source.old) (S.faults source.new) → ⊥) → (Rose (K.faults sink.old) (K.faults sink.new) → ⊥) →
-        IfErr result (λ e. e ≡ error.NoMemory)) }
-    // the pieces that the source gave, and what it has left of those that it told
-    ensures gave { GavePieces (source_view S.left S.given source.old) (source_view S.left S.given source.new) }
+    ensures complete { ForPieces (IsSourceEnd result) (S.view source.old) (S.view source.new) (λ told left.
+        EndsWell (setup_of setup) told
+        (S.view source.old) (S.view source.new) (K.view sink.old) (K.view sink.new) result) }
     // over any source
+    ensures gave { GavePieces (S.view source.old) (S.view source.new) }
     ensures only { IfErr result IsOfSession }
     // what source, sink and clock say
-    ensures source { LentSource S.faults S.last S.later (IsErrOf result error.ReadFault) (IsSourceEnd result) source.old source.new }
-    ensures sink { LentSink K.faults K.later (IsErrOf result error.WriteFault) sink.old sink.new }
+    ensures source { LentSource S.view S.later (IsErrOf result error.ReadFault) (IsSourceEnd result)
+        source.old source.new }
+    ensures sink { LentSink K.view K.later (IsErrOf result error.WriteFault) sink.old sink.new }
     ensures clock { LentClock C.later clock.old clock.new }
 {
     let mut session = Session::start(alloc, setup, sink)?;
@@ -87,17 +73,19 @@ fn take_turns<S: Source, K: Sink, C: Clock>(
     out: &mut Vec<EisRequest>,
 ) -> Result<Ended, Error>
     requires started { Stands (setup_of setup) [] [] session.old }
-    // where the sink has the greeting behind what it held before: the session that the definitions say
-    ensures serves { (before : Option Piece) → Replied (setup_of setup) [] before (K.taken sink.old) →
-        ForPieces S.left S.given (IsSourceEnd result) source.old source.new (λ told left. Serves (setup_of setup) told left result
-        (around (source_view S.left S.given source.old) out.old.items before (C.readings clock.old))
-        (around (source_view S.left S.given source.new) out.new.items (K.taken sink.new) (C.readings clock.new))) }
-    ensures gave { GavePieces (source_view S.left S.given source.old) (source_view S.left S.given source.new) }
+    // where the sink was greeted since it said this: the session that the definitions say
+    ensures serves { (before : SinkView) → Replied (setup_of setup) [] before (K.view sink.old) →
+        ForPieces (IsSourceEnd result) (S.view source.old) (S.view source.new) (λ told left.
+        Serves (setup_of setup) told left result
+        (around (S.view source.old) out.old.items before (C.view clock.old).left)
+        (around (S.view source.new) out.new.items (K.view sink.new) (C.view clock.new).left)) }
+    ensures gave { GavePieces (S.view source.old) (S.view source.new) }
     // over any source
     ensures only { IfErr result IsOfSession }
     // what source, sink and clock say
-    ensures source { LentSource S.faults S.last S.later (IsErrOf result error.ReadFault) (IsSourceEnd result) source.old source.new }
-    ensures sink { LentSink K.faults K.later (IsErrOf result error.WriteFault) sink.old sink.new }
+    ensures source { LentSource S.view S.later (IsErrOf result error.ReadFault) (IsSourceEnd result)
+        source.old source.new }
+    ensures sink { LentSink K.view K.later (IsErrOf result error.WriteFault) sink.old sink.new }
     ensures clock { LentClock C.later clock.old clock.new }
 {
     for _turn in 0..u64::from(setup.pieces) + 1 {

@@ -7,7 +7,7 @@ ghost use Rattle.ei_session.specs.Setup.{Setup as Started};
 ghost use Rattle.ei_session.specs.Served.{accepted};
 ghost use Rattle.ei_types.specs.Capability.{bits_of, all_bits};
 ghost use Rattle.ei_types.specs.declared.error.Error.TheVariants as error;
-ghost use Rattle.ei_backend.specs.Outside.{Piece, source_view};
+ghost use Rattle.ei_backend.specs.Outside.{Piece};
 ghost use Rattle.ei_backend.specs.Lent.{LentSource, LentSink, LentClock};
 ghost use Rattle.ei_serve.specs.Around.{around};
 ghost use Rattle.ei_serve.specs.Causes.{Greeted, GreetedInPart, RefusesToStart};
@@ -89,10 +89,10 @@ impl Session {
         ensures little { IfOk result HoldsLittle }
         ensures only { IfErr result RefusesToStart }
         // the greeting goes out first
-        ensures greeted { OnOk result ((held : Piece) → K.taken sink.old ≡ Some held → Greeted held (K.taken sink.new)) }
-        ensures greeted_in_part { OnErr result ((held : Piece) → K.taken sink.old ≡ Some held → GreetedInPart held (K.taken sink.new)) }
+        ensures greeted { OnOk result (Greeted (K.view sink.old) (K.view sink.new)) }
+        ensures greeted_in_part { OnErr result (GreetedInPart (K.view sink.old) (K.view sink.new)) }
         // what the sink says
-        ensures sink { LentSink K.faults K.later (IsErrOf result error.WriteFault) sink.old sink.new }
+        ensures sink { LentSink K.view K.later (IsErrOf result error.WriteFault) sink.old sink.new }
     {
         Session::start_on(alloc, Terms::of(setup), sink)
     }
@@ -114,10 +114,10 @@ impl Session {
         ensures little { IfOk result HoldsLittle }
         ensures only { IfErr result RefusesToStart }
         // the greeting goes out first
-        ensures greeted { OnOk result ((held : Piece) → K.taken sink.old ≡ Some held → Greeted held (K.taken sink.new)) }
-        ensures greeted_in_part { OnErr result ((held : Piece) → K.taken sink.old ≡ Some held → GreetedInPart held (K.taken sink.new)) }
+        ensures greeted { OnOk result (Greeted (K.view sink.old) (K.view sink.new)) }
+        ensures greeted_in_part { OnErr result (GreetedInPart (K.view sink.old) (K.view sink.new)) }
         // what the sink says
-        ensures sink { LentSink K.faults K.later (IsErrOf result error.WriteFault) sink.old sink.new }
+        ensures sink { LentSink K.view K.later (IsErrOf result error.WriteFault) sink.old sink.new }
     {
         Session::start_on(alloc, Terms::unlimited(initial_serial, capabilities), sink)
     }
@@ -129,9 +129,9 @@ impl Session {
         ensures going { IfOk result (λ session. ¬ IsOver session) }
         ensures little { IfOk result HoldsLittle }
         ensures only { IfErr result RefusesToStart }
-        ensures greeted { OnOk result ((held : Piece) → K.taken sink.old ≡ Some held → Greeted held (K.taken sink.new)) }
-        ensures greeted_in_part { OnErr result ((held : Piece) → K.taken sink.old ≡ Some held → GreetedInPart held (K.taken sink.new)) }
-        ensures sink { LentSink K.faults K.later (IsErrOf result error.WriteFault) sink.old sink.new }
+        ensures greeted { OnOk result (Greeted (K.view sink.old) (K.view sink.new)) }
+        ensures greeted_in_part { OnErr result (GreetedInPart (K.view sink.old) (K.view sink.new)) }
+        ensures sink { LentSink K.view K.later (IsErrOf result error.WriteFault) sink.old sink.new }
     {
         let phase = Phase::start(alloc, terms.initial_serial, sink)?;
         Ok(Session {
@@ -213,14 +213,15 @@ impl Session {
         ensures stood { StandsForSome self.old }
         ensures turns { (setup : Started) (pieces : List Piece) (times : List ℕ) → Stands setup pieces times self.old →
             Turns setup pieces times result self.new
-            (around (source_view S.left S.given source.old) out.old.items (K.taken sink.old) (C.readings clock.old))
-            (around (source_view S.left S.given source.new) out.new.items (K.taken sink.new) (C.readings clock.new)) }
+            (around (S.view source.old) out.old.items (K.view sink.old) (C.view clock.old).left)
+            (around (S.view source.new) out.new.items (K.view sink.new) (C.view clock.new).left) }
         // it is over exactly behind another answer than `GoOn`
         ensures over { goes_on result ≡ false ↔ IsOver self.new }
         ensures little { HoldsLittle self.new }
         // what source, sink and clock say
-        ensures source { LentSource S.faults S.last S.later (IsErrOf result error.ReadFault) (IsAtEnd result) source.old source.new }
-        ensures sink { LentSink K.faults K.later (IsErrOf result error.WriteFault) sink.old sink.new }
+        ensures source { LentSource S.view S.later (IsErrOf result error.ReadFault) (IsAtEnd result)
+            source.old source.new }
+        ensures sink { LentSink K.view K.later (IsErrOf result error.WriteFault) sink.old sink.new }
         ensures clock { LentClock C.later clock.old clock.new }
     {
         let came = self.state.take_piece(source);

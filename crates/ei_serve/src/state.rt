@@ -3,7 +3,7 @@
 ghost use Rattle.std.specs.Prelude.{◌≡◌, ◌↔◌, List, Option, ℕ, ◌<◌, ◌^◌, nat_le, Ok, false, IsErrOf};
 ghost use Rattle.ei_session.specs.Setup.{Setup as Started};
 ghost use Rattle.ei_types.specs.declared.error.Error.TheVariants as error;
-ghost use Rattle.ei_backend.specs.Outside.{Piece, SourceView, source_view};
+ghost use Rattle.ei_backend.specs.Outside.{Piece, SourceView};
 ghost use Rattle.ei_backend.specs.Lent.{LentSource, LentSink, LentClock};
 ghost use Rattle.ei_serve.specs.Around.{around};
 ghost use Rattle.ei_serve.specs.Standing.{Stands, StandsForSome, setup_of, terms_of, unlimited};
@@ -70,8 +70,8 @@ impl SessionState {
     /// Takes a piece; false at the source's end.
     pub(crate) fn take_piece<S: Source>(&mut self, source: &mut S) -> Result<bool, Error>
         ensures takes { (setup : Started) (pieces : List Piece) (times : List ℕ) → Stands setup pieces times self.old →
-            TakesPiece setup pieces times self.old result self.new (source_view S.left S.given source.old) (source_view S.left S.given source.new) }
-        ensures source { LentSource S.faults S.last S.later (IsErrOf result error.ReadFault)
+            TakesPiece setup pieces times self.old result self.new (S.view source.old) (S.view source.new) }
+        ensures source { LentSource S.view S.later (IsErrOf result error.ReadFault)
             (StandsForSome self.old × (result ≡ Ok false)) source.old source.new }
         ensures no_write_fault { IsErrOf result error.WriteFault → ⊥ }
     {
@@ -94,16 +94,21 @@ impl SessionState {
     ) -> Result<Turn, Error>
         requires no_write_fault { IsErrOf came error.WriteFault → ⊥ }
         // over a session that stood for some pieces before it took this
-        ensures turns { (setup : Started) (pieces : List Piece) (times : List ℕ) (before : SessionState) (source_old source_new : SourceView) →
-            Stands setup pieces times before → TakesPiece setup pieces times before came self.old source_old source_new →
-            Turns setup pieces times result self.new (around source_old out.old.items (K.taken sink.old) (C.readings clock.old))
-            (around source_new out.new.items (K.taken sink.new) (C.readings clock.new)) }
-        ensures ends { (setup : Started) (pieces : List Piece) (times : List ℕ) (before : SessionState) (source_old source_new : SourceView) →
-            Stands setup pieces times before → TakesPiece setup pieces times before came self.old source_old source_new →
+        ensures turns { (setup : Started) (pieces : List Piece) (times : List ℕ) (before : SessionState)
+            (source_old source_new : SourceView) →
+            Stands setup pieces times before →
+            TakesPiece setup pieces times before came self.old source_old source_new →
+            Turns setup pieces times result self.new
+            (around source_old out.old.items (K.view sink.old) (C.view clock.old).left)
+            (around source_new out.new.items (K.view sink.new) (C.view clock.new).left) }
+        ensures ends { (setup : Started) (pieces : List Piece) (times : List ℕ) (before : SessionState)
+            (source_old source_new : SourceView) →
+            Stands setup pieces times before →
+            TakesPiece setup pieces times before came self.old source_old source_new →
             IsAtEnd result → came ≡ Ok false }
         // what source, sink and clock say
         ensures read_fault { IsErrOf result error.ReadFault ↔ IsErrOf came error.ReadFault }
-        ensures sink { LentSink K.faults K.later (IsErrOf result error.WriteFault) sink.old sink.new }
+        ensures sink { LentSink K.view K.later (IsErrOf result error.WriteFault) sink.old sink.new }
         ensures clock { LentClock C.later clock.old clock.new }
     {
         if !came? {

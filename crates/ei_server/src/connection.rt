@@ -58,7 +58,8 @@ impl Connection {
     ///
     /// `NoMemory`: nothing is sent.
     pub fn invalid_object(&self, ctx: &mut Context, last_serial: u32, invalid_id: u64) -> Sent
-        ensures sends { Sends (event (codes "invalid_object")) self.now (Word last_serial ∷ Long invalid_id ∷ []) ctx.old ctx.new result }
+        ensures sends { Sends (event (codes "invalid_object")) self.now
+            (Word last_serial ∷ Long invalid_id ∷ []) ctx.old ctx.new result }
     {
         let args = [Arg::Uint32(last_serial), Arg::Uint64(invalid_id)];
         self.object.request(ctx, 2, &args)
@@ -127,6 +128,10 @@ impl Message for Request {
 
     fn opcode(&self) -> u32 {
         rows!(opcode_of(self))
+    }
+
+    fn arguments(&self, alloc: Global) -> Result<Vec<Arg<'_>>, NoMemory> {
+        rows!(list_row(self, alloc))
     }
 
     fn args(&self, alloc: Global) -> Result<Vec<Arg<'_>>, NoMemory> {

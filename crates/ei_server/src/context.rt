@@ -1,15 +1,10 @@
 //! The server's endpoint.
 
 ghost use Rattle.std.specs.Prelude.{◌≡◌, ◌<◌, ◌≤◌, ◌+◌, ℕ, List, [], Some, None, Ok, IsOk, IfOk, OnOk, OnErr, IsErrOf, true, false, length};
-ghost use Rattle.ei_wire.specs.declared.error.ReadError.TheVariants as read_error;
-ghost use Rattle.ei_wire.specs.declared.error.FlushError.TheVariants as flush_error;
-ghost use Rattle.ei_backend.specs.declared.outside.LastAnswer.TheVariants as answers;
-ghost use Rattle.ei_backend.specs.Outside.{Piece, source_view};
-ghost use Rattle.ei_backend.specs.Lent.{LentSource, LentSinkWants};
 ghost use Rattle.ei_backend.specs.Table.{found, new_table, first_server_id};
-ghost use Rattle.ei_backend.specs.Outgoing.{StopsAfter, Flushes};
-ghost use Rattle.ei_backend.specs.Backend.{new_backend, ReadsOn, Answers, Brings, Shortens, next, unsent_of, with_unsent};
-ghost use Rattle.ei_spec.specs.declared.limits.TheConstants.{MOST_MESSAGE_BYTES, MOST_PIECE_BYTES};
+ghost use Rattle.ei_backend.specs.Outgoing.{Flushes};
+ghost use Rattle.ei_backend.specs.Backend.{new_backend, Reads, Answers, Brings, Shortens, next, unsent_of, with_unsent};
+ghost use Rattle.ei_spec.specs.declared.limits.TheConstants.{MOST_MESSAGE_BYTES};
 ghost use Rattle.ei_server.specs.Request.{target_of, opcode_of, values_of, announced_of};
 
 use crate::handshake::Handshake;
@@ -75,20 +70,7 @@ impl Context {
     /// source failed; `HandleLimit` exactly where more than 4096 handles would be unread: the piece is
     /// dropped and the endpoint closed.
     pub fn read<S: Source>(&mut self, source: &mut S) -> Result<usize, ReadError>
-        // on a closed endpoint
-        ensures closed { self.old.closed ≡ true → IsErrOf result read_error.UnexpectedEof }
-        ensures closed_kept { self.old.closed ≡ true → self.new ≡ self.old }
-        ensures closed_source { self.old.closed ≡ true → source.new ≡ source.old }
-        // on an open one
-        ensures reads { self.old.closed ≡ false →
-            ReadsOn (source_view S.left S.given source.old) (source_view S.left S.given source.new) result self.old self.new }
-        // what the source says
-        ensures memory { IsErrOf result read_error.NoMemory → source.new ≡ source.old }
-        ensures room { length self.old.unread + MOST_PIECE_BYTES ≤ self.old.capacity → IsErrOf result read_error.NoMemory → ⊥ }
-        ensures last_piece { OnOk result (S.last source.new ≡ answers.Piece) }
-        ensures last_limit { IsErrOf result read_error.HandleLimit → S.last source.new ≡ answers.Piece }
-        ensures source { LentSource S.faults S.last S.later (IsErrOf result read_error.ReadFault)
-            ((self.old.closed ≡ false) × IsErrOf result read_error.UnexpectedEof) source.old source.new }
+        ensures reads { Reads S.view S.later result self.old self.new source.old source.new }
     {
         self.backend.read(source)
     }
@@ -99,17 +81,8 @@ impl Context {
     /// `WriteFault` where the sink failed, `NoMemory` where it wants memory. Where nothing waits the sink
     /// isn't asked.
     pub fn flush<K: Sink>(&mut self, sink: &mut K) -> Result<(), FlushError>
-        ensures stops { StopsAfter (unsent_of self.old) result (unsent_of self.new) }
-        ensures took { (held : Piece) → K.taken sink.old ≡ Some held
-            → Flushes held (unsent_of self.old) result (unsent_of self.new) (K.taken sink.new) }
+        ensures flushes { Flushes K.view K.later result (unsent_of self.old) (unsent_of self.new) sink.old sink.new }
         ensures kept { self.new ≡ with_unsent (unsent_of self.new) self.old }
-        // where nothing waits
-        ensures nothing { self.old.unsent ≡ [] → IsOk result }
-        ensures nothing_kept { self.old.unsent ≡ [] → self.new ≡ self.old }
-        ensures nothing_put { self.old.unsent ≡ [] → sink.new ≡ sink.old }
-        // what the sink says
-        ensures sink { LentSinkWants K.faults K.wants K.later (IsErrOf result flush_error.WriteFault) (IsErrOf result flush_error.NoMemory)
-            sink.old sink.new }
     {
         self.backend.flush(sink)
     }
@@ -149,7 +122,8 @@ impl Context {
     /// out. Where memory runs out, nothing changes.
     #[inline(always)]
     pub fn pending_request(&mut self) -> Result<Option<PendingRequestResult<Request>>, NoMemory>
-        ensures ok { IfOk result (λ answer. Answers target_of opcode_of values_of answer self.new (next false self.old)) }
+        ensures ok { IfOk result (λ answer. Answers target_of opcode_of values_of answer self.new
+            (next false self.old)) }
         ensures announced { IfOk result (λ answer. Brings announced_of answer self.old.table self.new.table) }
         ensures shorter { IfOk result (λ answer. Shortens self.old.unread self.new.unread answer) }
         ensures few_left { result ≡ Ok None → length self.new.unread < MOST_MESSAGE_BYTES }

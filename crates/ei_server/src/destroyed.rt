@@ -60,7 +60,8 @@ impl<K: Destroyed> Proxy<K> {
     ///
     /// `NoMemory`: nothing is sent, and the object stays.
     pub fn destroyed(&self, ctx: &mut Context, serial: u32) -> Sent
-        ensures sends { Sends (row_named (codes "destroyed") (table true K.KNOWN)) self.now (Word serial ∷ []) ctx.old ctx.new result }
+        ensures sends { Sends (row_named (codes "destroyed") (table true K.KNOWN)) self.now
+            (Word serial ∷ []) ctx.old ctx.new result }
     {
         destroyed_by_id(ctx, self.object.id(), serial)
     }
@@ -71,7 +72,8 @@ impl<K: Destroyed> Proxy<K> {
 ///
 /// `NoMemory`: nothing is sent, and the object stays.
 pub fn destroyed_by_id(ctx: &mut Context, id: u64, serial: u32) -> Sent
-    ensures sends { (o : ObjectView) → o.id ≡ id → Sends (Some (0, destroyed)) o (Word serial ∷ []) ctx.old ctx.new result }
+    ensures sends { (o : ObjectView) → o.id ≡ id →
+        Sends (Some (0, destroyed)) o (Word serial ∷ []) ctx.old ctx.new result }
 {
     ctx.backend_mut().request(id, 0, &[Arg::Uint32(serial)])?;
     ctx.backend_mut().remove_id(id);

@@ -30,7 +30,8 @@ impl Device {
     ///
     /// `NoMemory`: nothing is sent.
     pub fn device_type(&self, ctx: &mut Context, device_type: DeviceType) -> Sent
-        ensures sends { Sends (event (codes "device_type")) self.now (Word (device_type_number device_type) ∷ []) ctx.old ctx.new result }
+        ensures sends { Sends (event (codes "device_type")) self.now
+            (Word (device_type_number device_type) ∷ []) ctx.old ctx.new result }
     {
         self.object.request(ctx, 2, &[device_type.as_arg()])
     }
@@ -39,7 +40,8 @@ impl Device {
     ///
     /// `NoMemory`: nothing is sent.
     pub fn dimensions(&self, ctx: &mut Context, width: u32, height: u32) -> Sent
-        ensures sends { Sends (event (codes "dimensions")) self.now (Word width ∷ Word height ∷ []) ctx.old ctx.new result }
+        ensures sends { Sends (event (codes "dimensions")) self.now
+            (Word width ∷ Word height ∷ []) ctx.old ctx.new result }
     {
         let args = [Arg::Uint32(width), Arg::Uint32(height)];
         self.object.request(ctx, 3, &args)
@@ -138,7 +140,8 @@ impl Device {
     ///
     /// `NoMemory`: nothing is sent.
     pub fn start_emulating(&self, ctx: &mut Context, serial: u32, sequence: u32) -> Sent
-        ensures sends { Sends (event (codes "start_emulating")) self.now (Word serial ∷ Word sequence ∷ []) ctx.old ctx.new result }
+        ensures sends { Sends (event (codes "start_emulating")) self.now
+            (Word serial ∷ Word sequence ∷ []) ctx.old ctx.new result }
     {
         let args = [Arg::Uint32(serial), Arg::Uint32(sequence)];
         self.object.request(ctx, 9, &args)
@@ -158,7 +161,8 @@ impl Device {
     ///
     /// `NoMemory`: nothing is sent.
     pub fn frame(&self, ctx: &mut Context, serial: u32, timestamp: u64) -> Sent
-        ensures sends { Sends (event (codes "frame")) self.now (Word serial ∷ Long timestamp ∷ []) ctx.old ctx.new result }
+        ensures sends { Sends (event (codes "frame")) self.now
+            (Word serial ∷ Long timestamp ∷ []) ctx.old ctx.new result }
     {
         let args = [Arg::Uint32(serial), Arg::Uint64(timestamp)];
         self.object.request(ctx, 11, &args)
@@ -170,7 +174,8 @@ impl Device {
     /// sent.
     #[tactic(auto, using(ei_spec::proofs::Utf8::is_text))]
     pub fn region_mapping_id(&self, ctx: &mut Context, mapping_id: &str) -> Sent
-        ensures sends { SendsText (event (codes "region_mapping_id")) self.now (Letters mapping_id.now ∷ []) ctx.old ctx.new result }
+        ensures sends { SendsText (event (codes "region_mapping_id")) self.now
+            (Letters mapping_id.now ∷ []) ctx.old ctx.new result }
     {
         self.object
             .request(ctx, 12, &[Arg::String(Some(mapping_id))])
@@ -223,6 +228,10 @@ impl Message for Request {
 
     fn opcode(&self) -> u32 {
         rows!(opcode_of(self))
+    }
+
+    fn arguments(&self, alloc: Global) -> Result<Vec<Arg<'_>>, NoMemory> {
+        rows!(list_row(self, alloc))
     }
 
     fn args(&self, alloc: Global) -> Result<Vec<Arg<'_>>, NoMemory> {

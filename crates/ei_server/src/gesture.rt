@@ -14,7 +14,8 @@ impl Gesture {
     ///
     /// `NoMemory`: nothing is sent.
     pub fn swipe(&self, ctx: &mut Context, fingers: u32, x: RawFloat, y: RawFloat) -> Sent
-        ensures sends { Sends (event (codes "swipe")) self.now (Word fingers ∷ Word x.0 ∷ Word y.0 ∷ []) ctx.old ctx.new result }
+        ensures sends { Sends (event (codes "swipe")) self.now
+            (Word fingers ∷ Word x.0 ∷ Word y.0 ∷ []) ctx.old ctx.new result }
     {
         let args = [Arg::Uint32(fingers), Arg::Float(x.0), Arg::Float(y.0)];
         self.object.request(ctx, 1, &args)
@@ -76,6 +77,10 @@ impl Message for Request {
 
     fn opcode(&self) -> u32 {
         rows!(opcode_of(self))
+    }
+
+    fn arguments(&self, alloc: Global) -> Result<Vec<Arg<'_>>, NoMemory> {
+        rows!(list_row(self, alloc))
     }
 
     fn args(&self, alloc: Global) -> Result<Vec<Arg<'_>>, NoMemory> {

@@ -33,7 +33,8 @@ impl Keyboard {
     ///
     /// `NoMemory`: nothing is sent.
     pub fn key(&self, ctx: &mut Context, key: u32, state: KeyState) -> Sent
-        ensures sends { Sends (event (codes "key")) self.now (Word key ∷ Word (key_state_number state) ∷ []) ctx.old ctx.new result }
+        ensures sends { Sends (event (codes "key")) self.now
+            (Word key ∷ Word (key_state_number state) ∷ []) ctx.old ctx.new result }
     {
         let args = [Arg::Uint32(key), state.as_arg()];
         self.object.request(ctx, 2, &args)
@@ -103,6 +104,10 @@ impl Message for Request {
 
     fn opcode(&self) -> u32 {
         rows!(opcode_of(self))
+    }
+
+    fn arguments(&self, alloc: Global) -> Result<Vec<Arg<'_>>, NoMemory> {
+        rows!(list_row(self, alloc))
     }
 
     fn args(&self, alloc: Global) -> Result<Vec<Arg<'_>>, NoMemory> {

@@ -1,9 +1,10 @@
 //! What the requests of each interface promise.
 
-ghost use Rattle.std.specs.Prelude.{◌≡◌, ℕ, List, Option, None, IfSome, IfOk, OnErr, false};
+ghost use Rattle.std.specs.Prelude.{◌≡◌, ℕ, List, Option, None, IfSome, IfOk, OnErr, map, false};
 ghost use Rattle.ei_spec.specs.Value.{Value};
 ghost use Rattle.ei_spec.specs.Interface.{ObjectView, Known};
 ghost use Rattle.ei_spec.specs.declared.interface.KnownInterface.{KnownInterface};
+ghost use Rattle.ei_wire.specs.Gives.{value_of_arg};
 ghost use Rattle.ei_backend.specs.Proxies.{Announced, ReadsRow, ReadsWhole, Shows};
 
 use ei_backend::Table;
@@ -40,6 +41,10 @@ pub(crate) trait Message: Sized {
 
     fn opcode(&self) -> u32
         ensures { result ≡ code self.now };
+
+    /// All arguments in the row's order, with what `args` leaves out of a new object: its version and, where the message names it, its name.
+    fn arguments(&self, alloc: Global) -> Result<Vec<Arg<'_>>, NoMemory>
+        ensures { IfOk result (λ args. map value_of_arg args.items ≡ values self.now) };
 
     /// The arguments in order.
     fn args(&self, alloc: Global) -> Result<Vec<Arg<'_>>, NoMemory>

@@ -3,7 +3,7 @@
 pub(crate) use crate::context::Context;
 pub(crate) use crate::message::{Message, Parsed};
 pub(crate) use crate::proxy::{Proxy, Sent};
-pub(crate) use crate::rows::{opcode_of, read_lawful, read_row, show_row};
+pub(crate) use crate::rows::{list_row, opcode_of, read_lawful, read_row, show_row};
 pub(crate) use ei_backend::{HasBackend, Interface, Table, kinds};
 pub(crate) use ei_wire::{
     Arg, ByteStream, EiText, Handle, NoMemory, OwnedArg, ParseError, RawFloat, SendError,

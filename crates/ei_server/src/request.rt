@@ -168,6 +168,10 @@ impl MessageEnum for Request {
         ))
     }
 
+    fn arguments(&self, alloc: Global) -> Result<Vec<Arg<'_>>, NoMemory> {
+        interfaces!(each_request(self, (_, request) => request.arguments(alloc)))
+    }
+
     fn args(&self, alloc: Global) -> Result<Vec<Arg<'_>>, NoMemory> {
         interfaces!(each_request(self, (_, request) => request.args(alloc)))
     }

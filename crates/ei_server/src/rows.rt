@@ -150,7 +150,45 @@ macro_rules! show_field {
     };
 }
 
+/// All arguments of a request, by a `match` with an arm a row: `rows!(list_row(self, alloc))`.
+macro_rules! list_row {
+    (
+        ($self:ident, $alloc:ident)
+        $message:ident $name:literal; $($number:literal => $row:ident $({ $($field:ident: $($kind:ident)+),+ })?,)+
+    ) => {
+        match $self {
+            $($message::$row $({ $($field),+ })? => {
+                $crate::rows::list_fields!($alloc, [] $($(, $field: $($kind)+)+)?)
+            })+
+        }
+    };
+}
+
+/// The fields of one row as arguments, behind those that stand in the list. A new object is its id and its version.
+macro_rules! list_fields {
+    ($alloc:ident, []) => {
+        Ok(Vec::new($alloc))
+    };
+    ($alloc:ident, [$($arg:expr,)+]) => {
+        Vec::from_array($alloc, [$($arg),+]).map_err(NoMemory::from)
+    };
+    ($alloc:ident, [$($arg:expr,)*], $new:ident: new $proxy:ident $($rest:tt)*) => {
+        $crate::rows::list_fields!(
+            $alloc,
+            [$($arg,)* $new.as_arg(), Arg::Uint32($new.version()),] $($rest)*
+        )
+    };
+    ($alloc:ident, [$($arg:expr,)*], $field:ident: $kind:ident $($rest:tt)*) => {
+        $crate::rows::list_fields!(
+            $alloc,
+            [$($arg,)* $crate::rows::show_field!($field: $kind),] $($rest)*
+        )
+    };
+}
+
 pub(crate) use lawful_fields;
+pub(crate) use list_fields;
+pub(crate) use list_row;
 pub(crate) use opcode_of;
 pub(crate) use read_fields;
 pub(crate) use read_lawful;

@@ -24,7 +24,8 @@ impl Scroll {
     ///
     /// `NoMemory`: nothing is sent.
     pub fn scroll_discrete(&self, ctx: &mut Context, x: i32, y: i32) -> Sent
-        ensures sends { Sends (event (codes "scroll_discrete")) self.now (Signed x ∷ Signed y ∷ []) ctx.old ctx.new result }
+        ensures sends { Sends (event (codes "scroll_discrete")) self.now
+            (Signed x ∷ Signed y ∷ []) ctx.old ctx.new result }
     {
         let args = [Arg::Int32(x), Arg::Int32(y)];
         self.object.request(ctx, 2, &args)
@@ -35,7 +36,8 @@ impl Scroll {
     ///
     /// `NoMemory`: nothing is sent.
     pub fn scroll_stop(&self, ctx: &mut Context, x: u32, y: u32, is_cancel: u32) -> Sent
-        ensures sends { Sends (event (codes "scroll_stop")) self.now (Word x ∷ Word y ∷ Word is_cancel ∷ []) ctx.old ctx.new result }
+        ensures sends { Sends (event (codes "scroll_stop")) self.now
+            (Word x ∷ Word y ∷ Word is_cancel ∷ []) ctx.old ctx.new result }
     {
         let args = [Arg::Uint32(x), Arg::Uint32(y), Arg::Uint32(is_cancel)];
         self.object.request(ctx, 3, &args)
@@ -85,6 +87,10 @@ impl Message for Request {
 
     fn opcode(&self) -> u32 {
         rows!(opcode_of(self))
+    }
+
+    fn arguments(&self, alloc: Global) -> Result<Vec<Arg<'_>>, NoMemory> {
+        rows!(list_row(self, alloc))
     }
 
     fn args(&self, alloc: Global) -> Result<Vec<Arg<'_>>, NoMemory> {

@@ -28,7 +28,8 @@ impl Seat {
     /// sent.
     #[tactic(auto, using(ei_spec::proofs::Utf8::is_text))]
     pub fn capability(&self, ctx: &mut Context, mask: u64, interface: &str) -> Sent
-        ensures sends { SendsText (event (codes "capability")) self.now (Long mask ∷ Letters interface.now ∷ []) ctx.old ctx.new result }
+        ensures sends { SendsText (event (codes "capability")) self.now
+            (Long mask ∷ Letters interface.now ∷ []) ctx.old ctx.new result }
     {
         let args = [Arg::Uint64(mask), Arg::String(Some(interface))];
         self.object.request(ctx, 2, &args)
@@ -95,6 +96,10 @@ impl Message for Request {
 
     fn opcode(&self) -> u32 {
         rows!(opcode_of(self))
+    }
+
+    fn arguments(&self, alloc: Global) -> Result<Vec<Arg<'_>>, NoMemory> {
+        rows!(list_row(self, alloc))
     }
 
     fn args(&self, alloc: Global) -> Result<Vec<Arg<'_>>, NoMemory> {

@@ -15,7 +15,8 @@ impl Text {
     ///
     /// `NoMemory`: nothing is sent.
     pub fn keysym(&self, ctx: &mut Context, keysym: u32, state: KeyState) -> Sent
-        ensures sends { Sends (event (codes "keysym")) self.now (Word keysym ∷ Word (key_state_number state) ∷ []) ctx.old ctx.new result }
+        ensures sends { Sends (event (codes "keysym")) self.now
+            (Word keysym ∷ Word (key_state_number state) ∷ []) ctx.old ctx.new result }
     {
         let args = [Arg::Uint32(keysym), state.as_arg()];
         self.object.request(ctx, 1, &args)
@@ -73,6 +74,10 @@ impl Message for Request {
 
     fn opcode(&self) -> u32 {
         rows!(opcode_of(self))
+    }
+
+    fn arguments(&self, alloc: Global) -> Result<Vec<Arg<'_>>, NoMemory> {
+        rows!(list_row(self, alloc))
     }
 
     fn args(&self, alloc: Global) -> Result<Vec<Arg<'_>>, NoMemory> {

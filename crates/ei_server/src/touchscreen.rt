@@ -15,7 +15,8 @@ impl Touchscreen {
     ///
     /// `NoMemory`: nothing is sent.
     pub fn down(&self, ctx: &mut Context, touchid: u32, x: RawFloat, y: RawFloat) -> Sent
-        ensures sends { Sends (event (codes "down")) self.now (Word touchid ∷ Word x.0 ∷ Word y.0 ∷ []) ctx.old ctx.new result }
+        ensures sends { Sends (event (codes "down")) self.now
+            (Word touchid ∷ Word x.0 ∷ Word y.0 ∷ []) ctx.old ctx.new result }
     {
         let args = [Arg::Uint32(touchid), Arg::Float(x.0), Arg::Float(y.0)];
         self.object.request(ctx, 1, &args)
@@ -25,7 +26,8 @@ impl Touchscreen {
     ///
     /// `NoMemory`: nothing is sent.
     pub fn motion(&self, ctx: &mut Context, touchid: u32, x: RawFloat, y: RawFloat) -> Sent
-        ensures sends { Sends (event (codes "motion")) self.now (Word touchid ∷ Word x.0 ∷ Word y.0 ∷ []) ctx.old ctx.new result }
+        ensures sends { Sends (event (codes "motion")) self.now
+            (Word touchid ∷ Word x.0 ∷ Word y.0 ∷ []) ctx.old ctx.new result }
     {
         let args = [Arg::Uint32(touchid), Arg::Float(x.0), Arg::Float(y.0)];
         self.object.request(ctx, 2, &args)
@@ -108,6 +110,10 @@ impl Message for Request {
 
     fn opcode(&self) -> u32 {
         rows!(opcode_of(self))
+    }
+
+    fn arguments(&self, alloc: Global) -> Result<Vec<Arg<'_>>, NoMemory> {
+        rows!(list_row(self, alloc))
     }
 
     fn args(&self, alloc: Global) -> Result<Vec<Arg<'_>>, NoMemory> {

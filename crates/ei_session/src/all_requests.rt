@@ -40,11 +40,15 @@ ghost use Rattle.ei_spec.specs.declared.limits.TheConstants.{CAPABILITIES, MOST_
 
 /// A stream has one reading, and it doesn't matter how the stream was cut.
 pub fn all_streams()
-    ensures is { (setup : Setup) (bytes : List ℕ) → IsBytes bytes → IsReading (judge setup) bytes (reading_of setup bytes) }
-    ensures only { (setup : Setup) (bytes : List ℕ) (r : Reading Refusal) → IsReading (judge setup) bytes r → reading_of setup bytes ≡ r }
-    ensures longest { (setup : Setup) (bytes : List ℕ) (past : List Raw) (rest : List ℕ) → bytes ≡ stream_of past ++ rest → AreOpen (judge setup) past →
+    ensures is { (setup : Setup) (bytes : List ℕ) → IsBytes bytes →
+        IsReading (judge setup) bytes (reading_of setup bytes) }
+    ensures only { (setup : Setup) (bytes : List ℕ) (r : Reading Refusal) → IsReading (judge setup) bytes r →
+        reading_of setup bytes ≡ r }
+    ensures longest { (setup : Setup) (bytes : List ℕ) (past : List Raw) (rest : List ℕ) →
+        bytes ≡ stream_of past ++ rest → AreOpen (judge setup) past →
         (more : List Raw) × (accepted setup bytes ≡ more ++ past) }
-    ensures goes_on { (setup : Setup) (bytes more : List ℕ) → reading_of setup (bytes ++ more) ≡ go_on (judge setup) (reading_of setup bytes) more }
+    ensures goes_on { (setup : Setup) (bytes more : List ℕ) →
+        reading_of setup (bytes ++ more) ≡ go_on (judge setup) (reading_of setup bytes) more }
 {}
 
 /// How a loop over pieces comes to the outcome of a session.
@@ -52,7 +56,8 @@ pub fn all_sessions()
     ensures over { (setup : Setup) (pieces : List Piece) (m : ℕ) → 1 ≤ m → m ≤ length pieces →
         ((j : ℕ) → 1 ≤ j → j < m → is_over setup pieces j ≡ false) → is_over setup pieces m ≡ true →
         session setup pieces ≡ over_at setup pieces m }
-    ensures end { (setup : Setup) (pieces : List Piece) → ((j : ℕ) → 1 ≤ j → j ≤ length pieces → is_over setup pieces j ≡ false) →
+    ensures end { (setup : Setup) (pieces : List Piece) →
+        ((j : ℕ) → 1 ≤ j → j ≤ length pieces → is_over setup pieces j ≡ false) →
         session setup pieces ≡ at_end (read_first setup pieces (length pieces)).past }
 {}
 
@@ -67,16 +72,22 @@ pub fn all_prefixes()
 /// One more message, for each definition.
 pub fn all_one_more()
     ensures framed { (setup : Setup) (readings : List ℕ) (before : List Raw) (m : Raw) →
-        framed setup readings (m ∷ before) ≡ framed setup readings before ++ gives readings (each (slot setup) before) (slot setup before m) }
-    ensures readings { (setup : Setup) (readings later : List ℕ) (before : List Raw) → frames_made (each (slot setup) before) ≤ length readings →
+        framed setup readings (m ∷ before) ≡ framed setup readings before ++
+        gives readings (each (slot setup) before) (slot setup before m) }
+    ensures readings { (setup : Setup) (readings later : List ℕ) (before : List Raw) →
+        frames_made (each (slot setup) before) ≤ length readings →
         framed setup (readings ++ later) before ≡ framed setup readings before }
-    ensures replies { (setup : Setup) (before : List Raw) (m : Raw) → replies setup (m ∷ before) ≡ replies setup before ++ reply setup before m }
-    ensures serial { (setup : Setup) (before : List Raw) (m : Raw) → serial setup (m ∷ before) ≡ (serial setup before + steps before m) % 2 ^ 32 }
+    ensures replies { (setup : Setup) (before : List Raw) (m : Raw) →
+        replies setup (m ∷ before) ≡ replies setup before ++ reply setup before m }
+    ensures serial { (setup : Setup) (before : List Raw) (m : Raw) →
+        serial setup (m ∷ before) ≡ (serial setup before + steps before m) % 2 ^ 32 }
     ensures next_id { (before : List Raw) (m : Raw) → next_id (m ∷ before) ≡ next_id before + ids_given before m }
-    ensures object { (before : List Raw) (m : Raw) (id : ℕ) → object (m ∷ before) id ≡ unwrap_or (says id before m) (object before id) }
+    ensures object { (before : List Raw) (m : Raw) (id : ℕ) →
+        object (m ∷ before) id ≡ unwrap_or (says id before m) (object before id) }
     ensures is_down { (before : List Raw) (m : Raw) (device touch : ℕ)
         → is_down (m ∷ before) device touch ≡ unwrap_or (touches device touch before m) (is_down before device touch) }
-    ensures connected { (before : List Raw) (m : Raw) → is_the_finish before m ≡ false → connected (m ∷ before) ≡ connected before }
+    ensures connected { (before : List Raw) (m : Raw) → is_the_finish before m ≡ false →
+        connected (m ∷ before) ≡ connected before }
     ensures finish { (before : List Raw) (m : Raw) → is_the_finish before m ≡ true → connected (m ∷ before) ≡ true }
     ensures settled { (before : List Raw) (m : Raw) (interface : KnownInterface) → connected before ≡ true
         → settled (m ∷ before) interface ≡ settled before interface }
@@ -86,21 +97,32 @@ pub fn all_one_more()
 
 /// The objects after a message of each kind.
 pub fn objects_after()
-    ensures finish { (before : List Raw) (m : Raw) (id : ℕ) → is_the_finish before m ≡ true → object (m ∷ before) id ≡ handed_over before id }
+    ensures finish { (before : List Raw) (m : Raw) (id : ℕ) → is_the_finish before m ≡ true →
+        object (m ∷ before) id ≡ handed_over before id }
     ensures device { (before : List Raw) (m : Raw) (mask id : ℕ) → made before m ≡ Some mask →
-        object (m ∷ before) id ≡ option_or (new_device before (next_id before) (interfaces_of mask) id) (object before id) }
-    ensures seat_release { (before : List Raw) (m : Raw) (id : ℕ) → connected before ≡ true → m.id ≡ seat_id → asks known.Seat (codes "release") m ≡ true →
+        object (m ∷ before) id ≡ option_or (new_device before (next_id before) (interfaces_of mask) id)
+        (object before id) }
+    ensures seat_release { (before : List Raw) (m : Raw) (id : ℕ) → connected before ≡ true → m.id ≡ seat_id →
+        asks known.Seat (codes "release") m ≡ true →
         object (m ∷ before) id ≡ (if m.id == id then None else object before id) }
-    ensures interface_release { (before : List Raw) (m : Raw) (e : Entry) (d id : ℕ) → object before m.id ≡ Some e → e.device ≡ Some d
+    ensures interface_release { (before : List Raw) (m : Raw) (e : Entry) (d id : ℕ) → object before m.id ≡ Some e →
+        e.device ≡ Some d
         → is_device e.interface ≡ false →
-        asks e.interface (codes "release") m ≡ true → object (m ∷ before) id ≡ (if m.id == id then None else object before id) }
-    ensures device_gone { (before : List Raw) (m : Raw) (e : Entry) (id : ℕ) → object before m.id ≡ Some e → e.device ≡ Some m.id → e.interface ≡ known.Device →
-        asks e.interface (codes "release") m ≡ true → is_of m.id (object before id) ≡ true → object (m ∷ before) id ≡ None }
-    ensures device_left { (before : List Raw) (m : Raw) (e : Entry) (id : ℕ) → object before m.id ≡ Some e → e.device ≡ Some m.id → e.interface ≡ known.Device →
-        asks e.interface (codes "release") m ≡ true → is_of m.id (object before id) ≡ false → object (m ∷ before) id ≡ object before id }
-    ensures plain { (before : List Raw) (m : Raw) (e : Entry) (d id : ℕ) → object before m.id ≡ Some e → e.device ≡ Some d →
+        asks e.interface (codes "release") m ≡ true →
+        object (m ∷ before) id ≡ (if m.id == id then None else object before id) }
+    ensures device_gone { (before : List Raw) (m : Raw) (e : Entry) (id : ℕ) → object before m.id ≡ Some e →
+        e.device ≡ Some m.id → e.interface ≡ known.Device →
+        asks e.interface (codes "release") m ≡ true → is_of m.id (object before id) ≡ true →
+        object (m ∷ before) id ≡ None }
+    ensures device_left { (before : List Raw) (m : Raw) (e : Entry) (id : ℕ) → object before m.id ≡ Some e →
+        e.device ≡ Some m.id → e.interface ≡ known.Device →
+        asks e.interface (codes "release") m ≡ true → is_of m.id (object before id) ≡ false →
+        object (m ∷ before) id ≡ object before id }
+    ensures plain { (before : List Raw) (m : Raw) (e : Entry) (d id : ℕ) → object before m.id ≡ Some e →
+        e.device ≡ Some d →
         asks e.interface (codes "release") m ≡ false → object (m ∷ before) id ≡ object before id }
-    ensures unknown { (before : List Raw) (m : Raw) (id : ℕ) → is_the_finish before m ≡ false → object before m.id ≡ None
+    ensures unknown { (before : List Raw) (m : Raw) (id : ℕ) → is_the_finish before m ≡ false →
+        object before m.id ≡ None
         → object (m ∷ before) id ≡ object before id }
 {}
 
@@ -109,24 +131,32 @@ pub fn objects_there()
     ensures first { (before : List Raw) (id : ℕ) → connected before ≡ false → object before id ≡ at_first id }
     ensures handshake { (before : List Raw) → object before 0 ≡ (if connected before then None else at_first 0) }
     ensures connection { (before : List Raw) → object before connection_id ≡
-        (if connected before then Some (record { interface = known.Connection; version = 1; device = None }) else None) }
+        (if connected before then Some
+        (record { interface = known.Connection; version = 1; device = None }) else None) }
     ensures seat { (before : List Raw) → is_some (object before seat_id) ≡ seat_is_open before }
     ensures owner { (before : List Raw) (id : ℕ) (e : Entry) (d : ℕ) → object before id ≡ Some e → e.device ≡ Some d →
         (w : Entry) × (object before d ≡ Some w) × (w.interface ≡ known.Device) × (w.device ≡ Some d) }
-    ensures device { (before : List Raw) (id : ℕ) (e : Entry) → object before id ≡ Some e → e.interface ≡ known.Device → e.device ≡ Some id }
-    ensures above { (before : List Raw) (id : ℕ) (e : Entry) (d : ℕ) → object before id ≡ Some e → e.device ≡ Some d → seat_id < id }
+    ensures device { (before : List Raw) (id : ℕ) (e : Entry) → object before id ≡ Some e →
+        e.interface ≡ known.Device → e.device ≡ Some id }
+    ensures above { (before : List Raw) (id : ℕ) (e : Entry) (d : ℕ) → object before id ≡ Some e → e.device ≡ Some d →
+        seat_id < id }
     ensures below { (before : List Raw) (id : ℕ) (e : Entry) → object before id ≡ Some e → id < next_id before }
-    ensures gone { (more before : List Raw) (m : Raw) (id : ℕ) → connected (m ∷ before) ≡ true → list_any (nat_eq id) (gone before m) ≡ true
+    ensures gone { (more before : List Raw) (m : Raw) (id : ℕ) → connected (m ∷ before) ≡ true →
+        list_any (nat_eq id) (gone before m) ≡ true
         → object (more ++ (m ∷ before)) id ≡ None }
 {}
 
 /// How many serials a message of each kind uses.
 pub fn steps_after()
-    ensures device { (before : List Raw) (m : Raw) (mask : ℕ) → made before m ≡ Some mask → exhausts before m ≡ false → steps before m ≡ 1 }
-    ensures exhausting { (before : List Raw) (m : Raw) (mask : ℕ) → made before m ≡ Some mask → exhausts before m ≡ true → steps before m ≡ 0 }
-    ensures release { (before : List Raw) (m : Raw) (e : Entry) → object before m.id ≡ Some e → is_device e.interface ≡ false →
+    ensures device { (before : List Raw) (m : Raw) (mask : ℕ) → made before m ≡ Some mask → exhausts before m ≡ false →
+        steps before m ≡ 1 }
+    ensures exhausting { (before : List Raw) (m : Raw) (mask : ℕ) → made before m ≡ Some mask →
+        exhausts before m ≡ true → steps before m ≡ 0 }
+    ensures release { (before : List Raw) (m : Raw) (e : Entry) → object before m.id ≡ Some e →
+        is_device e.interface ≡ false →
         asks e.interface (codes "release") m ≡ true → steps before m ≡ 1 }
-    ensures device_release { (before : List Raw) (m : Raw) (e : Entry) → object before m.id ≡ Some e → e.interface ≡ known.Device →
+    ensures device_release { (before : List Raw) (m : Raw) (e : Entry) → object before m.id ≡ Some e →
+        e.interface ≡ known.Device →
         asks e.interface (codes "release") m ≡ true → steps before m ≡ 1 + length (interfaces_left before m.id) }
     ensures plain { (before : List Raw) (m : Raw) (e : Entry) → made before m ≡ None → object before m.id ≡ Some e →
         asks e.interface (codes "release") m ≡ false → steps before m ≡ 0 }
@@ -137,30 +167,44 @@ pub fn steps_after()
 pub fn items()
     ensures input { (before : List Raw) (m : Raw) (i : DeviceInput) → input before m ≡ Some i →
         item before m ≡ (if is_heard before i.device i.input then Some (Waits i.device i.input) else None) }
-    ensures frame { (before : List Raw) (m : Raw) (e : Entry) (d serial time : ℕ) → object before m.id ≡ Some e → e.interface ≡ known.Device
+    ensures frame { (before : List Raw) (m : Raw) (e : Entry) (d serial time : ℕ) → object before m.id ≡ Some e →
+        e.interface ≡ known.Device
         → e.device ≡ Some d →
-        asked known.Device (codes "frame") m ≡ Some (Word serial ∷ Long time ∷ []) → item before m ≡ Some (Frame d serial time) }
-    ensures closed { (before : List Raw) (m : Raw) (e : Entry) (d : ℕ) → object before m.id ≡ Some e → e.interface ≡ known.Device → e.device ≡ Some d →
+        asked known.Device (codes "frame") m ≡ Some (Word serial ∷ Long time ∷ []) →
+        item before m ≡ Some (Frame d serial time) }
+    ensures closed { (before : List Raw) (m : Raw) (e : Entry) (d : ℕ) → object before m.id ≡ Some e →
+        e.interface ≡ known.Device → e.device ≡ Some d →
         asked known.Device (codes "release") m ≡ Some [] → item before m ≡ Some (Other d (DeviceClosed d)) }
-    ensures start { (before : List Raw) (m : Raw) (e : Entry) (d serial sequence : ℕ) → object before m.id ≡ Some e → e.interface ≡ known.Device
+    ensures start { (before : List Raw) (m : Raw) (e : Entry) (d serial sequence : ℕ) → object before m.id ≡ Some e →
+        e.interface ≡ known.Device
         → e.device ≡ Some d →
         asked known.Device (codes "start_emulating") m ≡ Some (Word serial ∷ Word sequence ∷ [])
         → item before m ≡ Some (Other d (DeviceStartEmulating d serial sequence)) }
-    ensures stop { (before : List Raw) (m : Raw) (e : Entry) (d serial : ℕ) → object before m.id ≡ Some e → e.interface ≡ known.Device → e.device ≡ Some d →
-        asked known.Device (codes "stop_emulating") m ≡ Some (Word serial ∷ []) → item before m ≡ Some (Other d (DeviceStopEmulating d serial)) }
-    ensures ready { (before : List Raw) (m : Raw) (e : Entry) (d : ℕ) → object before m.id ≡ Some e → e.interface ≡ known.Device → e.device ≡ Some d →
+    ensures stop { (before : List Raw) (m : Raw) (e : Entry) (d serial : ℕ) → object before m.id ≡ Some e →
+        e.interface ≡ known.Device → e.device ≡ Some d →
+        asked known.Device (codes "stop_emulating") m ≡ Some (Word serial ∷ []) →
+        item before m ≡ Some (Other d (DeviceStopEmulating d serial)) }
+    ensures ready { (before : List Raw) (m : Raw) (e : Entry) (d : ℕ) → object before m.id ≡ Some e →
+        e.interface ≡ known.Device → e.device ≡ Some d →
         asked known.Device (codes "ready") m ≡ Some [] → item before m ≡ Some (Other d (Ready d)) }
-    ensures bind { (before : List Raw) (m : Raw) (e : Entry) (mask : ℕ) → object before m.id ≡ Some e → e.interface ≡ known.Seat →
+    ensures bind { (before : List Raw) (m : Raw) (e : Entry) (mask : ℕ) → object before m.id ≡ Some e →
+        e.interface ≡ known.Seat →
         asked known.Seat (codes "bind") m ≡ Some (Long mask ∷ []) → item before m ≡ Some (Free (Bind m.id mask)) }
-    ensures request_device { (before : List Raw) (m : Raw) (e : Entry) (mask : ℕ) → object before m.id ≡ Some e → e.interface ≡ known.Seat →
-        asked known.Seat (codes "request_device") m ≡ Some (Long mask ∷ []) → item before m ≡ Some (Free (RequestDevice m.id mask)) }
-    ensures disconnect { (before : List Raw) (m : Raw) (e : Entry) → object before m.id ≡ Some e → e.interface ≡ known.Connection →
+    ensures request_device { (before : List Raw) (m : Raw) (e : Entry) (mask : ℕ) → object before m.id ≡ Some e →
+        e.interface ≡ known.Seat →
+        asked known.Seat (codes "request_device") m ≡ Some (Long mask ∷ []) →
+        item before m ≡ Some (Free (RequestDevice m.id mask)) }
+    ensures disconnect { (before : List Raw) (m : Raw) (e : Entry) → object before m.id ≡ Some e →
+        e.interface ≡ known.Connection →
         asked known.Connection (codes "disconnect") m ≡ Some [] → item before m ≡ Some (Free Disconnect) }
-    ensures sync { (before : List Raw) (m : Raw) (e : Entry) (callback v : ℕ) → object before m.id ≡ Some e → e.interface ≡ known.Connection →
+    ensures sync { (before : List Raw) (m : Raw) (e : Entry) (callback v : ℕ) → object before m.id ≡ Some e →
+        e.interface ≡ known.Connection →
         asked known.Connection (codes "sync") m ≡ Some (Long callback ∷ Word v ∷ []) → item before m ≡ None }
-    ensures seat_release { (before : List Raw) (m : Raw) (e : Entry) → object before m.id ≡ Some e → e.interface ≡ known.Seat →
+    ensures seat_release { (before : List Raw) (m : Raw) (e : Entry) → object before m.id ≡ Some e →
+        e.interface ≡ known.Seat →
         asked known.Seat (codes "release") m ≡ Some [] → item before m ≡ None }
-    ensures interface_release { (before : List Raw) (m : Raw) (e : Entry) (d : ℕ) → object before m.id ≡ Some e → e.device ≡ Some d
+    ensures interface_release { (before : List Raw) (m : Raw) (e : Entry) (d : ℕ) → object before m.id ≡ Some e →
+        e.device ≡ Some d
         → is_device e.interface ≡ false →
         asks e.interface (codes "release") m ≡ true → item before m ≡ None }
     ensures unknown { (before : List Raw) (m : Raw) → object before m.id ≡ None → item before m ≡ None }
@@ -168,23 +212,35 @@ pub fn items()
 
 /// What answers a message of each kind.
 pub fn answers()
-    ensures finish { (setup : Setup) (before : List Raw) (m : Raw) → is_the_finish before m ≡ true → reply setup before m ≡ finish_events setup before }
-    ensures unknown { (setup : Setup) (before : List Raw) (m : Raw) → connected before ≡ true → is_the_finish before m ≡ false → object before m.id ≡ None →
+    ensures finish { (setup : Setup) (before : List Raw) (m : Raw) → is_the_finish before m ≡ true →
+        reply setup before m ≡ finish_events setup before }
+    ensures unknown { (setup : Setup) (before : List Raw) (m : Raw) → connected before ≡ true →
+        is_the_finish before m ≡ false → object before m.id ≡ None →
         reply setup before m ≡ invalid_object_event (serial setup before) m.id ∷ [] }
-    ensures sync { (setup : Setup) (before : List Raw) (m : Raw) (callback v : ℕ) → connected before ≡ true → m.id ≡ connection_id →
-        asked known.Connection (codes "sync") m ≡ Some (Long callback ∷ Word v ∷ []) → reply setup before m ≡ callback_event callback ∷ [] }
-    ensures device { (setup : Setup) (before : List Raw) (m : Raw) (mask : ℕ) → made before m ≡ Some mask → exhausts before m ≡ false →
-        reply setup before m ≡ device_events (version before) (next_id before) (interfaces_of mask) (serial setup (m ∷ before)) }
-    ensures release { (setup : Setup) (before : List Raw) (m : Raw) (e : Entry) → object before m.id ≡ Some e → connection_id ≢ m.id
+    ensures sync { (setup : Setup) (before : List Raw) (m : Raw) (callback v : ℕ) → connected before ≡ true →
+        m.id ≡ connection_id →
+        asked known.Connection (codes "sync") m ≡ Some (Long callback ∷ Word v ∷ []) →
+        reply setup before m ≡ callback_event callback ∷ [] }
+    ensures device { (setup : Setup) (before : List Raw) (m : Raw) (mask : ℕ) → made before m ≡ Some mask →
+        exhausts before m ≡ false →
+        reply setup before m ≡ device_events (version before) (next_id before) (interfaces_of mask)
+        (serial setup (m ∷ before)) }
+    ensures release { (setup : Setup) (before : List Raw) (m : Raw) (e : Entry) → object before m.id ≡ Some e →
+        connection_id ≢ m.id
         → is_the_finish before m ≡ false →
-        asks e.interface (codes "release") m ≡ true → reply setup before m ≡ destroyed_events (serial setup before) (gone before m) }
-    ensures destroyed { (interface : KnownInterface) (m : Raw) (id serial : ℕ) → asks interface (codes "release") m ≡ true →
+        asks e.interface (codes "release") m ≡ true →
+        reply setup before m ≡ destroyed_events (serial setup before) (gone before m) }
+    ensures destroyed { (interface : KnownInterface) (m : Raw) (id serial : ℕ) →
+        asks interface (codes "release") m ≡ true →
         destroyed_event id serial ≡ event interface (codes "destroyed") id (Word serial ∷ []) }
-    ensures one_gone { (before : List Raw) (m : Raw) (e : Entry) → object before m.id ≡ Some e → is_device e.interface ≡ false →
+    ensures one_gone { (before : List Raw) (m : Raw) (e : Entry) → object before m.id ≡ Some e →
+        is_device e.interface ≡ false →
         asks e.interface (codes "release") m ≡ true → gone before m ≡ m.id ∷ [] }
-    ensures device_gone { (before : List Raw) (m : Raw) (e : Entry) → object before m.id ≡ Some e → e.interface ≡ known.Device →
+    ensures device_gone { (before : List Raw) (m : Raw) (e : Entry) → object before m.id ≡ Some e →
+        e.interface ≡ known.Device →
         asks e.interface (codes "release") m ≡ true → gone before m ≡ interfaces_left before m.id ++ (m.id ∷ []) }
-    ensures plain { (setup : Setup) (before : List Raw) (m : Raw) (e : Entry) → is_the_finish before m ≡ false → made before m ≡ None
+    ensures plain { (setup : Setup) (before : List Raw) (m : Raw) (e : Entry) → is_the_finish before m ≡ false →
+        made before m ≡ None
         → object before m.id ≡ Some e →
         asks e.interface (codes "release") m ≡ false → synced before m ≡ None → reply setup before m ≡ [] }
 {}
@@ -192,7 +248,8 @@ pub fn answers()
 /// How much there is at most: of touches, of unread bytes, of objects that go, of bytes that answer a message.
 pub fn bounds()
     ensures unrefused { (setup : Setup) (bytes : List ℕ) → IsBytes bytes → AreUnrefused setup (accepted setup bytes) }
-    ensures touches { (setup : Setup) (past : List Raw) (device : ℕ) → AreUnrefused setup past → length (touches_down past device) ≤ MOST_TOUCHES }
+    ensures touches { (setup : Setup) (past : List Raw) (device : ℕ) → AreUnrefused setup past →
+        length (touches_down past device) ≤ MOST_TOUCHES }
     ensures unread { (setup : Setup) (bytes : List ℕ) → IsBytes bytes → (reading_of setup bytes).stop ≡ Waiting
         → length (reading_of setup bytes).rest < MOST_MESSAGE_BYTES }
     ensures interfaces { (mask : ℕ) → length (interfaces_of mask) ≤ CAPABILITIES }
@@ -205,25 +262,33 @@ pub fn bounds()
 /// The interfaces that a device has left, after a message of each kind.
 pub fn interfaces_after()
     ensures new { (before : List Raw) (m : Raw) (mask : ℕ) → made before m ≡ Some mask →
-        interfaces_left (m ∷ before) (next_id before) ≡ range_with_len (next_id before + 1) (length (interfaces_of mask)) }
+        interfaces_left (m ∷ before) (next_id before) ≡
+        range_with_len (next_id before + 1) (length (interfaces_of mask)) }
     ensures another { (before : List Raw) (m : Raw) (mask d : ℕ) → made before m ≡ Some mask → next_id before ≢ d
         → interfaces_left (m ∷ before) d ≡ interfaces_left before d }
-    ensures interface_release { (before : List Raw) (m : Raw) (e : Entry) (d device : ℕ) → made before m ≡ None → object before m.id ≡ Some e
+    ensures interface_release { (before : List Raw) (m : Raw) (e : Entry) (d device : ℕ) → made before m ≡ None →
+        object before m.id ≡ Some e
         → e.device ≡ Some d → is_device e.interface ≡ false →
-        asks e.interface (codes "release") m ≡ true → interfaces_left (m ∷ before) device ≡ filter (λ id. not (m.id == id)) (interfaces_left before device) }
-    ensures device_release { (before : List Raw) (m : Raw) (e : Entry) (d : ℕ) → made before m ≡ None → object before m.id ≡ Some e → e.device ≡ Some m.id
+        asks e.interface (codes "release") m ≡ true →
+        interfaces_left (m ∷ before) device ≡ filter (λ id. not (m.id == id)) (interfaces_left before device) }
+    ensures device_release { (before : List Raw) (m : Raw) (e : Entry) (d : ℕ) → made before m ≡ None →
+        object before m.id ≡ Some e → e.device ≡ Some m.id
         → e.interface ≡ known.Device →
-        asks e.interface (codes "release") m ≡ true → d ≢ m.id → interfaces_left (m ∷ before) d ≡ interfaces_left before d }
-    ensures plain { (before : List Raw) (m : Raw) (d : ℕ) → made before m ≡ None → ((id : ℕ) → object (m ∷ before) id ≡ object before id)
+        asks e.interface (codes "release") m ≡ true → d ≢ m.id →
+        interfaces_left (m ∷ before) d ≡ interfaces_left before d }
+    ensures plain { (before : List Raw) (m : Raw) (d : ℕ) → made before m ≡ None →
+        ((id : ℕ) → object (m ∷ before) id ≡ object before id)
         → interfaces_left (m ∷ before) d ≡ interfaces_left before d }
 {}
 
 /// Each event goes to an object that is there, or to the callback that it calls; and what is there was announced.
 pub fn targets()
     ensures targets { (setup : Setup) (before : List Raw) (m : Raw) → AreTargets before m (reply setup before m) }
-    ensures announced { (setup : Setup) (past : List Raw) (id : ℕ) (e : Entry) → occurs exhausts past ≡ false → id ≢ 0 → object past id ≡ Some e →
+    ensures announced { (setup : Setup) (past : List Raw) (id : ℕ) (e : Entry) → occurs exhausts past ≡ false →
+        id ≢ 0 → object past id ≡ Some e →
         IsSaid (announcement setup id e) (replies setup past) }
-    ensures callback { (setup : Setup) (before : List Raw) (m : Raw) (c : ℕ) → refusal setup before m ≡ None → synced before m ≡ Some c →
+    ensures callback { (setup : Setup) (before : List Raw) (m : Raw) (c : ℕ) → refusal setup before m ≡ None →
+        synced before m ≡ Some c →
         (0 < c) × (c < connection_id) × (occurs (λ b x. is_at_most c (synced b x)) before ≡ false) }
     ensures lasts { (setup : Setup) (past : List Raw) → AreOpen (judge setup) past → occurs exhausts past ≡ false }
 {}
@@ -233,12 +298,18 @@ pub fn groups()
     ensures input { (setup : Setup) (before : List Raw) (m : Raw) (device d : ℕ) (i : InputEvent) → item before m ≡
         Some (Waits d i) →
         group device (each (slot setup) (m ∷ before))
-        ≡ (if d == device then group device (each (slot setup) before) ++ (i ∷ []) else group device (each (slot setup) before)) }
-    ensures frame { (setup : Setup) (before : List Raw) (m : Raw) (device d serial time : ℕ) → item before m ≡ Some (Frame d serial time) →
-        group device (each (slot setup) (m ∷ before)) ≡ (if d == device then [] else group device (each (slot setup) before)) }
-    ensures other { (setup : Setup) (before : List Raw) (m : Raw) (device d : ℕ) (y : Plain) → item before m ≡ Some (Other d y) →
-        group device (each (slot setup) (m ∷ before)) ≡ (if d == device then [] else group device (each (slot setup) before)) }
-    ensures free { (setup : Setup) (before : List Raw) (m : Raw) (device : ℕ) (y : Plain) → item before m ≡ Some (Free y) →
+        ≡ (if d == device then group device (each (slot setup) before) ++
+        (i ∷ []) else group device (each (slot setup) before)) }
+    ensures frame { (setup : Setup) (before : List Raw) (m : Raw) (device d serial time : ℕ) →
+        item before m ≡ Some (Frame d serial time) →
+        group device (each (slot setup) (m ∷ before)) ≡
+        (if d == device then [] else group device (each (slot setup) before)) }
+    ensures other { (setup : Setup) (before : List Raw) (m : Raw) (device d : ℕ) (y : Plain) →
+        item before m ≡ Some (Other d y) →
+        group device (each (slot setup) (m ∷ before)) ≡
+        (if d == device then [] else group device (each (slot setup) before)) }
+    ensures free { (setup : Setup) (before : List Raw) (m : Raw) (device : ℕ) (y : Plain) →
+        item before m ≡ Some (Free y) →
         group device (each (slot setup) (m ∷ before)) ≡ group device (each (slot setup) before) }
     ensures none { (setup : Setup) (before : List Raw) (m : Raw) (device : ℕ) → item before m ≡ None →
         group device (each (slot setup) (m ∷ before)) ≡ group device (each (slot setup) before) }
@@ -248,13 +319,16 @@ pub fn groups()
 pub fn touches_after()
     ensures down { (before : List Raw) (m : Raw) (d t : ℕ) (a b : RawFloat) → input before m ≡
         Some (record { device = d; input = input_event.TouchDown t a b }) →
-        (device touch : ℕ) → is_down (m ∷ before) device touch ≡ ((d == device && t == touch) || is_down before device touch) }
+        (device touch : ℕ) → is_down (m ∷ before) device touch ≡
+        ((d == device && t == touch) || is_down before device touch) }
     ensures up { (before : List Raw) (m : Raw) (d t : ℕ) → input before m ≡
         Some (record { device = d; input = input_event.TouchUp t }) →
-        (device touch : ℕ) → is_down (m ∷ before) device touch ≡ (not (d == device && t == touch) && is_down before device touch) }
+        (device touch : ℕ) → is_down (m ∷ before) device touch ≡
+        (not (d == device && t == touch) && is_down before device touch) }
     ensures cancel { (before : List Raw) (m : Raw) (d t : ℕ) → input before m ≡
         Some (record { device = d; input = input_event.TouchCancel t }) →
-        (device touch : ℕ) → is_down (m ∷ before) device touch ≡ (not (d == device && t == touch) && is_down before device touch) }
+        (device touch : ℕ) → is_down (m ∷ before) device touch ≡
+        (not (d == device && t == touch) && is_down before device touch) }
     ensures none { (before : List Raw) (m : Raw) → input before m ≡ None → (device touch : ℕ)
         → is_down (m ∷ before) device touch ≡ is_down before device touch }
 {}
@@ -269,8 +343,10 @@ pub fn devices_made()
         made before m ≡ (if mask == 0 then None else Some mask) }
     ensures shut { (before : List Raw) (m : Raw) → seat_is_open before ≡ false → made before m ≡ None }
     ensures other { (before : List Raw) (m : Raw) → m.id ≢ seat_id → made before m ≡ None }
-    ensures release { (before : List Raw) (m : Raw) (interface : KnownInterface) → asks interface (codes "release") m ≡ true → made before m ≡ None }
-    ensures ids { (before : List Raw) (m : Raw) (mask : ℕ) → made before m ≡ Some mask → ids_given before m ≡ 1 + length (interfaces_of mask) }
+    ensures release { (before : List Raw) (m : Raw) (interface : KnownInterface) →
+        asks interface (codes "release") m ≡ true → made before m ≡ None }
+    ensures ids { (before : List Raw) (m : Raw) (mask : ℕ) → made before m ≡ Some mask →
+        ids_given before m ≡ 1 + length (interfaces_of mask) }
 {}
 
 /// Which requests are inputs.
@@ -279,29 +355,37 @@ pub fn inputs()
         object before m.id ≡ Some e
         → e.interface ≡ interface → e.device ≡ Some d →
         input_to interface m ≡ Some i → input before m ≡ Some (record { device = d; input = i }) }
-    ensures motion_relative { (m : Raw) (x y : ℕ) → asked known.Pointer (codes "motion_relative") m ≡ Some (Word x ∷ Word y ∷ [])
+    ensures motion_relative { (m : Raw) (x y : ℕ) →
+        asked known.Pointer (codes "motion_relative") m ≡ Some (Word x ∷ Word y ∷ [])
         → input_to known.Pointer m ≡ Some (floats input_event.PointerMotion x y) }
-    ensures motion_absolute { (m : Raw) (x y : ℕ) → asked known.PointerAbsolute (codes "motion_absolute") m ≡ Some (Word x ∷ Word y ∷ [])
+    ensures motion_absolute { (m : Raw) (x y : ℕ) →
+        asked known.PointerAbsolute (codes "motion_absolute") m ≡ Some (Word x ∷ Word y ∷ [])
         → input_to known.PointerAbsolute m ≡ Some (floats input_event.PointerMotionAbsolute x y) }
     ensures scroll { (m : Raw) (x y : ℕ) → asked known.Scroll (codes "scroll") m ≡ Some (Word x ∷ Word y ∷ [])
         → input_to known.Scroll m ≡ Some (floats input_event.ScrollDelta x y) }
-    ensures scroll_discrete { (m : Raw) (x y : ℤ) → asked known.Scroll (codes "scroll_discrete") m ≡ Some (Signed x ∷ Signed y ∷ [])
+    ensures scroll_discrete { (m : Raw) (x y : ℤ) →
+        asked known.Scroll (codes "scroll_discrete") m ≡ Some (Signed x ∷ Signed y ∷ [])
         → input_to known.Scroll m ≡ Some (input_event.ScrollDiscrete x y) }
-    ensures scroll_stop { (m : Raw) (x y is_cancel : ℕ) → asked known.Scroll (codes "scroll_stop") m ≡ Some (Word x ∷ Word y ∷ Word is_cancel ∷ [])
+    ensures scroll_stop { (m : Raw) (x y is_cancel : ℕ) →
+        asked known.Scroll (codes "scroll_stop") m ≡ Some (Word x ∷ Word y ∷ Word is_cancel ∷ [])
         → input_to known.Scroll m ≡ Some (scroll_end x y is_cancel) }
-    ensures button { (m : Raw) (code state : ℕ) → asked known.Button (codes "button") m ≡ Some (Word code ∷ Word state ∷ [])
+    ensures button { (m : Raw) (code state : ℕ) →
+        asked known.Button (codes "button") m ≡ Some (Word code ∷ Word state ∷ [])
         → input_to known.Button m ≡ Some (input_event.Button code (button_of state)) }
     ensures key { (m : Raw) (key state : ℕ) → asked known.Keyboard (codes "key") m ≡ Some (Word key ∷ Word state ∷ [])
         → input_to known.Keyboard m ≡ Some (input_event.KeyboardKey key (key_of state)) }
-    ensures down { (m : Raw) (touch x y : ℕ) → asked known.Touchscreen (codes "down") m ≡ Some (Word touch ∷ Word x ∷ Word y ∷ [])
+    ensures down { (m : Raw) (touch x y : ℕ) →
+        asked known.Touchscreen (codes "down") m ≡ Some (Word touch ∷ Word x ∷ Word y ∷ [])
         → input_to known.Touchscreen m ≡ Some (touching input_event.TouchDown touch x y) }
-    ensures motion { (m : Raw) (touch x y : ℕ) → asked known.Touchscreen (codes "motion") m ≡ Some (Word touch ∷ Word x ∷ Word y ∷ [])
+    ensures motion { (m : Raw) (touch x y : ℕ) →
+        asked known.Touchscreen (codes "motion") m ≡ Some (Word touch ∷ Word x ∷ Word y ∷ [])
         → input_to known.Touchscreen m ≡ Some (touching input_event.TouchMotion touch x y) }
     ensures up { (m : Raw) (touch : ℕ) → asked known.Touchscreen (codes "up") m ≡ Some (Word touch ∷ []) →
         input_to known.Touchscreen m ≡ Some (input_event.TouchUp touch) }
     ensures cancel { (m : Raw) (touch : ℕ) → asked known.Touchscreen (codes "cancel") m ≡ Some (Word touch ∷ [])
         → input_to known.Touchscreen m ≡ Some (input_event.TouchCancel touch) }
-    ensures keysym { (m : Raw) (keysym state : ℕ) → asked known.Text (codes "keysym") m ≡ Some (Word keysym ∷ Word state ∷ [])
+    ensures keysym { (m : Raw) (keysym state : ℕ) →
+        asked known.Text (codes "keysym") m ≡ Some (Word keysym ∷ Word state ∷ [])
         → input_to known.Text m ≡ Some (input_event.TextKeysym keysym (key_of state)) }
     ensures utf8 { (m : Raw) (letters : List ℕ) → asked known.Text (codes "utf8") m ≡ Some (Letters letters ∷ [])
         → input_to known.Text m ≡ Some (input_event.TextUtf8 letters) }
@@ -315,9 +399,11 @@ pub fn inputs()
 /// Why a message is refused, by what its target is.
 pub fn refusals()
     ensures known { (setup : Setup) (before : List Raw) (m : Raw) (e : Entry) → object before m.id ≡ Some e →
-        refusal setup before m ≡ first (tests setup before m e (row_at m.opcode (table false e.interface)) (arguments (row_at m.opcode
+        refusal setup before m ≡ first (tests setup before m e (row_at m.opcode (table false e.interface))
+        (arguments (row_at m.opcode
         (table false e.interface)) m)) }
     ensures early { (setup : Setup) (before : List Raw) (m : Raw) → connected before ≡ false → object before m.id ≡ None
         → refusal setup before m ≡ Some (Handshake (handshake.InvalidObject m.id)) }
-    ensures unknown { (setup : Setup) (before : List Raw) (m : Raw) → connected before ≡ true → object before m.id ≡ None → refusal setup before m ≡ None }
+    ensures unknown { (setup : Setup) (before : List Raw) (m : Raw) → connected before ≡ true →
+        object before m.id ≡ None → refusal setup before m ≡ None }
 {}

@@ -50,30 +50,48 @@ pub fn maps()
 pub fn going_on()
     ensures begins { (g : Greeter) (serial : ℕ) →
         AreShaking g serial (record { sent = greeting ∷ []; taken = [] }) (record { sent = []; taken = [] }) }
-    ensures server_takes { (g : Greeter) (serial : ℕ) (server client : Side) → AreShaking g serial server client → (m : Sent) →
+    ensures server_takes { (g : Greeter) (serial : ℕ) (server client : Side) → AreShaking g serial server client →
+        (m : Sent) →
         Hears (m ∷ server.taken) client.sent → is_finished server.taken ≡ false →
-        AreShaking g serial (record { sent = onto (server_answer serial server.taken m) server.sent; taken = m ∷ server.taken }) client }
-    ensures client_takes { (g : Greeter) (serial : ℕ) (server client : Side) → AreShaking g serial server client → (m : Sent) →
+        AreShaking g serial (record {
+          sent = onto
+              (server_answer serial server.taken m) server.sent;
+          taken = m ∷ server.taken;
+        }) client }
+    ensures client_takes { (g : Greeter) (serial : ℕ) (server client : Side) → AreShaking g serial server client →
+        (m : Sent) →
         Hears (m ∷ client.taken) server.sent → is_handed client.taken ≡ false →
-        AreShaking g serial server (record { sent = onto (client_answer g (event_shake m)) client.sent; taken = m ∷ client.taken }) }
-    ensures server_later { (g : Greeter) (serial : ℕ) (server client : Side) → AreShaking g serial server client → (sent taken : List Sent) →
+        AreShaking g serial server (record {
+          sent = onto
+              (client_answer g (event_shake m)) client.sent;
+          taken = m ∷ client.taken;
+        }) }
+    ensures server_later { (g : Greeter) (serial : ℕ) (server client : Side) → AreShaking g serial server client →
+        (sent taken : List Sent) →
         is_finished server.taken ≡ true → Hears (taken ++ server.taken) client.sent →
         AreShaking g serial (record { sent = sent ++ server.sent; taken = taken ++ server.taken }) client }
-    ensures client_later { (g : Greeter) (serial : ℕ) (server client : Side) → AreShaking g serial server client → (sent taken : List Sent) →
+    ensures client_later { (g : Greeter) (serial : ℕ) (server client : Side) → AreShaking g serial server client →
+        (sent taken : List Sent) →
         is_handed client.taken ≡ true → Hears (taken ++ client.taken) server.sent →
         AreShaking g serial server (record { sent = sent ++ client.sent; taken = taken ++ client.taken }) }
 {}
 
 /// Neither end refuses what the other sends; once each took all that the other sent, both are done; and then both have the same versions.
 pub fn both_ends()
-    ensures server { (g : Greeter) (serial : ℕ) (server client : Side) → AreShaking g serial server client → (m : Sent) →
-        Hears (m ∷ server.taken) client.sent → is_finished server.taken ≡ false → refused server.taken (shake m) ≡ None }
-    ensures client { (g : Greeter) (serial : ℕ) (server client : Side) → AreShaking g serial server client → (m : Sent) →
+    ensures server { (g : Greeter) (serial : ℕ) (server client : Side) → AreShaking g serial server client →
+        (m : Sent) →
+        Hears (m ∷ server.taken) client.sent → is_finished server.taken ≡ false →
+        refused server.taken (shake m) ≡ None }
+    ensures client { (g : Greeter) (serial : ℕ) (server client : Side) → AreShaking g serial server client →
+        (m : Sent) →
         Hears (m ∷ client.taken) server.sent → is_handed client.taken ≡ false → is_some (event_shake m) ≡ true }
     ensures finished { (g : Greeter) (serial : ℕ) (server client : Side) → AreShaking g serial server client →
-        length server.taken ≡ length client.sent → length client.taken ≡ length server.sent → is_finished server.taken ≡ true }
+        length server.taken ≡ length client.sent → length client.taken ≡ length server.sent →
+        is_finished server.taken ≡ true }
     ensures handed { (g : Greeter) (serial : ℕ) (server client : Side) → AreShaking g serial server client →
-        length server.taken ≡ length client.sent → length client.taken ≡ length server.sent → is_handed client.taken ≡ true }
-    ensures versions { (g : Greeter) (serial : ℕ) (server client : Side) → AreShaking g serial server client → is_handed client.taken ≡ true →
+        length server.taken ≡ length client.sent → length client.taken ≡ length server.sent →
+        is_handed client.taken ≡ true }
+    ensures versions { (g : Greeter) (serial : ℕ) (server client : Side) → AreShaking g serial server client →
+        is_handed client.taken ≡ true →
         collected (up_to is_connection client.taken) ≡ versions_told (up_to is_finish server.taken) }
 {}

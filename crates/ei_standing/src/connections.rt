@@ -47,51 +47,67 @@ ghost use Rattle.ei_standing.specs.Standing.{seat_events, tells_no_object, with_
 
 /// A typed request asks what its message asks.
 pub fn meanings()
-    ensures asks { (m : Raw) (r : Request) → m.opcode ≡ opcode_of r → request_args (interface_asked r) m ≡ Some (values_of r) →
+    ensures asks { (m : Raw) (r : Request) → m.opcode ≡ opcode_of r →
+        request_args (interface_asked r) m ≡ Some (values_of r) →
         meaning (interface_asked r) m ≡ Some (meaning_of r) }
 {}
 
 /// The converter refuses what the session refuses, and for the same reason. The id of a callback is looked at where the
 /// request is read: the table takes what may be given, and nothing else.
 pub fn refusals()
-    ensures asked { (setup : Setup) (past : List Raw) (m : Raw) (readings : List ℕ) (c : ConverterView) (e : Entry) (x : Meaning) →
+    ensures asked { (setup : Setup) (past : List Raw) (m : Raw) (readings : List ℕ) (c : ConverterView) (e : Entry)
+        (x : Meaning) →
         IsHeld setup past readings c → object past m.id ≡ Some e → meaning e.interface m ≡ Some x →
         ((callback : ℕ) → callback_in (Some x) ≡ Some callback → may_give past callback ≡ true) →
         option_map refusal_told (refused c.handle m.id e.version x) ≡ refusal_for setup past e x }
-    ensures no_shake { (setup : Setup) (past : List Raw) (m : Raw) (readings : List ℕ) (c : ConverterView) (e : Entry) (shake : Shake) →
+    ensures no_shake { (setup : Setup) (past : List Raw) (m : Raw) (readings : List ℕ) (c : ConverterView) (e : Entry)
+        (shake : Shake) →
         IsHeld setup past readings c → object past m.id ≡ Some e → meaning e.interface m ≡ Some (Shakes shake) → ⊥ }
-    ensures given { (setup : Setup) (past : List Raw) (readings : List ℕ) (c : ConverterView) (o : ObjectView) (table : TableView) →
+    ensures given { (setup : Setup) (past : List Raw) (readings : List ℕ) (c : ConverterView) (o : ObjectView)
+        (table : TableView) →
         IsHeld setup past readings c → Announced (Some o) c.handle.ctx.table table → may_give past o.id ≡ true }
-    ensures not_given { (setup : Setup) (past : List Raw) (readings : List ℕ) (c : ConverterView) (id v : ℕ) (i : Interface) (f : Fault) →
-        IsHeld setup past readings c → accept c.handle.ctx.table id i v ≡ Err f → (f ≡ InvalidId id) × (may_give past id ≡ false) }
+    ensures not_given { (setup : Setup) (past : List Raw) (readings : List ℕ) (c : ConverterView) (id v : ℕ)
+        (i : Interface) (f : Fault) →
+        IsHeld setup past readings c → accept c.handle.ctx.table id i v ≡ Err f → (f ≡ InvalidId id) ×
+        (may_give past id ≡ false) }
 {}
 
 /// The converter behind the finish, with the seat that is added, stands for it; the seat's events go behind those that
 /// hand the connection over, and all of them are what answers the finish.
 pub fn first()
-    ensures handed { (before : List Raw) (resp : EisHandshakeResp) (ctx : BackendView) (unsent unread : List ℕ) (handles : List Handle) →
-        resp.connection ≡ connection_object → is_some resp.name ≡ came (codes "name") before → resp.negotiated_interfaces ≡ settled_map before →
-        endpoint_of ctx ≡ record (endpoint_of (new_backend (without (with_own (new_table false first_server_id) (Known known.Connection) 1) 0))) {
+    ensures handed { (before : List Raw) (resp : EisHandshakeResp) (ctx : BackendView) (unsent unread : List ℕ)
+        (handles : List Handle) →
+        resp.connection ≡ connection_object → is_some resp.name ≡ came (codes "name") before →
+        resp.negotiated_interfaces ≡ settled_map before →
+        endpoint_of ctx ≡ record (endpoint_of (new_backend
+        (without (with_own (new_table false first_server_id) (Known known.Connection) 1) 0))) {
           unread = unread;
           handles = handles;
           unsent = unsent;
         } → HandedOver before resp ctx }
-    ensures held { (setup : Setup) (before : List Raw) (finish : Raw) (ctx : BackendView) (resp : EisHandshakeResp) (new : ConnectionView) →
+    ensures held { (setup : Setup) (before : List Raw) (finish : Raw) (ctx : BackendView) (resp : EisHandshakeResp)
+        (new : ConnectionView) →
         is_the_finish before finish ≡ true → HandedOver before resp ctx →
         AddsSeat (new_connection ctx resp setup.serial) None (set_of setup.capabilities) new →
-        setup.capabilities ≤ all_bits → setup.serial < 2 ^ 32 → IsHeld setup (finish ∷ before) [] (record { handle = new; queue = [] }) }
-    ensures unsent { (setup : Setup) (before : List Raw) (finish : Raw) (ctx : BackendView) (resp : EisHandshakeResp) (new : ConnectionView) →
+        setup.capabilities ≤ all_bits → setup.serial < 2 ^ 32 →
+        IsHeld setup (finish ∷ before) [] (record { handle = new; queue = [] }) }
+    ensures unsent { (setup : Setup) (before : List Raw) (finish : Raw) (ctx : BackendView) (resp : EisHandshakeResp)
+        (new : ConnectionView) →
         is_the_finish before finish ≡ true → HandedOver before resp ctx →
         AddsSeat (new_connection ctx resp setup.serial) None (set_of setup.capabilities) new →
         new.ctx.unsent ≡ ctx.unsent ++ all_bytes (seat_events setup before) }
-    ensures all { (setup : Setup) (before : List Raw) → (settled_events 0 (settled before) ++ connection_event 0 setup.serial connection_id ∷ [])
+    ensures all { (setup : Setup) (before : List Raw) →
+        (settled_events 0 (settled before) ++ connection_event 0 setup.serial connection_id ∷ [])
         ++ seat_events setup before ≡ finish_events setup before }
-    ensures answer { (setup : Setup) (before : List Raw) (finish : Raw) (ctx : BackendView) (resp : EisHandshakeResp) (new : ConnectionView) →
+    ensures answer { (setup : Setup) (before : List Raw) (finish : Raw) (ctx : BackendView) (resp : EisHandshakeResp)
+        (new : ConnectionView) →
         is_the_finish before finish ≡ true → HandedOver before resp ctx →
         AddsSeat (new_connection ctx resp setup.serial) None (set_of setup.capabilities) new →
-        ctx.unsent ≡ all_bytes (settled_events 0 (settled before) ++ connection_event 0 setup.serial connection_id ∷ []) →
+        ctx.unsent ≡ all_bytes (settled_events 0 (settled before) ++
+        connection_event 0 setup.serial connection_id ∷ []) →
         new.ctx.unsent ≡ all_bytes (reply setup before finish) }
-    ensures unread { (setup : Setup) (before : List Raw) (finish : Raw) (ctx : BackendView) (resp : EisHandshakeResp) (new : ConnectionView) →
+    ensures unread { (setup : Setup) (before : List Raw) (finish : Raw) (ctx : BackendView) (resp : EisHandshakeResp)
+        (new : ConnectionView) →
         is_the_finish before finish ≡ true → HandedOver before resp ctx →
         AddsSeat (new_connection ctx resp setup.serial) None (set_of setup.capabilities) new →
         (new.ctx.unread ≡ ctx.unread) × (new.ctx.handles ≡ ctx.handles) }
@@ -102,14 +118,17 @@ pub fn connection_messages()
     ensures unknown { (setup : Setup) (past : List Raw) (m : Raw) (readings : List ℕ) (c : ConverterView) →
         IsHeld setup past readings c → object past m.id ≡ None →
         TookOne setup past m readings [] c (record c { handle = tells_no_object c.handle m.id }) }
-    ensures disconnect { (setup : Setup) (past : List Raw) (m : Raw) (readings : List ℕ) (c : ConverterView) (e : Entry) (time : ℕ) →
+    ensures disconnect { (setup : Setup) (past : List Raw) (m : Raw) (readings : List ℕ) (c : ConverterView)
+        (e : Entry) (time : ℕ) →
         IsHeld setup past readings c → object past m.id ≡ Some e → meaning e.interface m ≡ Some Disconnects →
         TookOne setup past m readings [] c (handled c m.id Disconnects time) }
-    ensures pong { (setup : Setup) (past : List Raw) (m : Raw) (readings : List ℕ) (c : ConverterView) (e : Entry) (number time : ℕ) →
+    ensures pong { (setup : Setup) (past : List Raw) (m : Raw) (readings : List ℕ) (c : ConverterView) (e : Entry)
+        (number time : ℕ) →
         IsHeld setup past readings c → object past m.id ≡ Some e → meaning e.interface m ≡ Some (Pongs number) →
         TookOne setup past m readings [] c (handled c m.id (Pongs number) time) }
     // reading the request puts its callback into the table
-    ensures sync { (setup : Setup) (past : List Raw) (m : Raw) (readings : List ℕ) (c : ConverterView) (e : Entry) (o : ObjectView) (v time : ℕ)
+    ensures sync { (setup : Setup) (past : List Raw) (m : Raw) (readings : List ℕ) (c : ConverterView) (e : Entry)
+        (o : ObjectView) (v time : ℕ)
         (table : TableView) →
         IsHeld setup past readings c → object past m.id ≡ Some e → meaning e.interface m ≡ Some (Syncs o.id v) →
         Announced (Some o) c.handle.ctx.table table →
@@ -118,32 +137,42 @@ pub fn connection_messages()
 
 /// One more message to the seat that makes no device: its release, and a mask of no bit.
 pub fn seat_messages()
-    ensures released { (setup : Setup) (past : List Raw) (m : Raw) (readings : List ℕ) (c : ConverterView) (e : Entry) (time : ℕ) →
+    ensures released { (setup : Setup) (past : List Raw) (m : Raw) (readings : List ℕ) (c : ConverterView) (e : Entry)
+        (time : ℕ) →
         IsHeld setup past readings c → object past m.id ≡ Some e → meaning e.interface m ≡ Some ReleasesSeat →
         TookOne setup past m readings [] c (handled c m.id ReleasesSeat time) }
-    ensures empty { (setup : Setup) (past : List Raw) (m : Raw) (readings : List ℕ) (c : ConverterView) (e : Entry) (x : Meaning) (time : ℕ) →
-        IsHeld setup past readings c → object past m.id ≡ Some e → meaning e.interface m ≡ Some x → mask_in (Some x) ≡ Some 0 →
+    ensures empty { (setup : Setup) (past : List Raw) (m : Raw) (readings : List ℕ) (c : ConverterView) (e : Entry)
+        (x : Meaning) (time : ℕ) →
+        IsHeld setup past readings c → object past m.id ≡ Some e → meaning e.interface m ≡ Some x →
+        mask_in (Some x) ≡ Some 0 →
         TookOne setup past m readings [] c (handled c m.id x time) }
 {}
 
 /// One more `bind`, or `request_device`, of a mask with a bit: it is handed out, and a device of the interfaces that the
 /// seat grants is added, and resumed.
 pub fn binds()
-    ensures bind { (setup : Setup) (past : List Raw) (m : Raw) (readings : List ℕ) (c : ConverterView) (e : Entry) (mask time : ℕ) →
+    ensures bind { (setup : Setup) (past : List Raw) (m : Raw) (readings : List ℕ) (c : ConverterView) (e : Entry)
+        (mask time : ℕ) →
         IsHeld setup past readings c → object past m.id ≡ Some e → meaning e.interface m ≡ Some (Binds mask) →
         handled c m.id (Binds mask) time ≡ queues c (bind_of mask (seat_of past)) }
-    ensures request_device { (setup : Setup) (past : List Raw) (m : Raw) (readings : List ℕ) (c : ConverterView) (e : Entry) (mask time : ℕ) →
+    ensures request_device { (setup : Setup) (past : List Raw) (m : Raw) (readings : List ℕ) (c : ConverterView)
+        (e : Entry) (mask time : ℕ) →
         IsHeld setup past readings c → object past m.id ≡ Some e → meaning e.interface m ≡ Some (RequestsDevice mask) →
         handled c m.id (RequestsDevice mask) time ≡ queues c (request_device_of mask (seat_of past)) }
-    ensures seat { (setup : Setup) (past : List Raw) (m : Raw) (readings : List ℕ) (c : ConverterView) (e : Entry) (x : Meaning) (mask time : ℕ) →
-        IsHeld setup past readings c → object past m.id ≡ Some e → meaning e.interface m ≡ Some x → mask_in (Some x) ≡ Some mask →
+    ensures seat { (setup : Setup) (past : List Raw) (m : Raw) (readings : List ℕ) (c : ConverterView) (e : Entry)
+        (x : Meaning) (mask time : ℕ) →
+        IsHeld setup past readings c → object past m.id ≡ Some e → meaning e.interface m ≡ Some x →
+        mask_in (Some x) ≡ Some mask →
         find (is_seat seat_id) (handled c m.id x time).handle.seats ≡ Some (seat_held setup past) }
-    ensures held { (old added : ConnectionView) (seat : ObjectView) (name : Option (List ℕ)) (kind : DeviceType) (interfaces : List KnownInterface)
+    ensures held { (old added : ConnectionView) (seat : ObjectView) (name : Option (List ℕ)) (kind : DeviceType)
+        (interfaces : List KnownInterface)
         (items : List DeviceSetup) → AddsDevice old seat name kind interfaces items added →
         holds_device added (new_device (endpoint_of old.ctx) old.negotiated seat name interfaces).device ≡ true }
-    ensures device { (setup : Setup) (past : List Raw) (m : Raw) (readings : List ℕ) (c : ConverterView) (e : Entry) (x : Meaning) (mask time : ℕ)
+    ensures device { (setup : Setup) (past : List Raw) (m : Raw) (readings : List ℕ) (c : ConverterView) (e : Entry)
+        (x : Meaning) (mask time : ℕ)
         (added : ConnectionView) →
-        IsHeld setup past readings c → object past m.id ≡ Some e → meaning e.interface m ≡ Some x → mask_in (Some x) ≡ Some mask → mask ≢ 0 →
+        IsHeld setup past readings c → object past m.id ≡ Some e → meaning e.interface m ≡ Some x →
+        mask_in (Some x) ≡ Some mask → mask ≢ 0 →
         refusal setup past m ≡ None → exhausts past m ≡ false →
         AddsDevice (handled c m.id x time).handle (seat_of past) None Virtual
         (granted_by (find (is_seat seat_id) (handled c m.id x time).handle.seats) (set_of mask)) [] added →
@@ -151,15 +180,21 @@ pub fn binds()
           handle = tells added (resumed_event (handled c m.id x time).handle.ctx.table.next_own);
         }) }
     // the ids run out exactly where too few are left for it
-    ensures exhausted { (setup : Setup) (past : List Raw) (m : Raw) (readings : List ℕ) (c : ConverterView) (e : Entry) (x : Meaning) (mask time : ℕ) →
-        IsHeld setup past readings c → object past m.id ≡ Some e → meaning e.interface m ≡ Some x → mask_in (Some x) ≡ Some mask → mask ≢ 0 →
+    ensures exhausted { (setup : Setup) (past : List Raw) (m : Raw) (readings : List ℕ) (c : ConverterView) (e : Entry)
+        (x : Meaning) (mask time : ℕ) →
+        IsHeld setup past readings c → object past m.id ≡ Some e → meaning e.interface m ≡ Some x →
+        mask_in (Some x) ≡ Some mask → mask ≢ 0 →
         refusal setup past m ≡ None →
-        (exhausts past m ≡ true) ↔ (own_end (handled c m.id x time).handle.ctx.table < (handled c m.id x time).handle.ctx.table.next_own
+        (exhausts past m ≡ true) ↔ (own_end (handled c m.id x time).handle.ctx.table <
+        (handled c m.id x time).handle.ctx.table.next_own
         + (length (granted_by (find (is_seat seat_id) (handled c m.id x time).handle.seats) (set_of mask)) + 1)) }
     // and then it is handed out, and nothing answers it
-    ensures last { (setup : Setup) (past : List Raw) (m : Raw) (readings later : List ℕ) (c : ConverterView) (e : Entry) (x : Meaning) (mask time : ℕ) →
-        IsHeld setup past readings c → object past m.id ≡ Some e → meaning e.interface m ≡ Some x → mask_in (Some x) ≡ Some mask → mask ≢ 0 →
+    ensures last { (setup : Setup) (past : List Raw) (m : Raw) (readings later : List ℕ) (c : ConverterView)
+        (e : Entry) (x : Meaning) (mask time : ℕ) →
+        IsHeld setup past readings c → object past m.id ≡ Some e → meaning e.interface m ≡ Some x →
+        mask_in (Some x) ≡ Some mask → mask ≢ 0 →
         exhausts past m ≡ true →
-        ((handled c m.id x time).queue ≡ c.queue ++ map (request_in_code past) (gives (readings ++ later) (each (slot setup) past) (slot setup past m)))
+        ((handled c m.id x time).queue ≡ c.queue ++
+        map (request_in_code past) (gives (readings ++ later) (each (slot setup) past) (slot setup past m)))
         × (reply setup past m ≡ []) }
 {}

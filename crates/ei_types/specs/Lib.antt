@@ -3,6 +3,7 @@ pub mod Capability
 pub mod Settled
 pub mod Operations
 pub mod Errors
+pub mod Decided
 pub mod Texts
 -- what the clauses cite of the crates below
 pub use Rattle.ei_spec.specs.Reading

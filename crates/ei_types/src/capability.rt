@@ -138,7 +138,8 @@ impl Flags for DeviceCapabilities {
 
     ghost exact = { ⊤ };
 
-    ghost table = { (codes "POINTER", 1) ∷ (codes "POINTER_ABSOLUTE", 2) ∷ (codes "KEYBOARD", 4) ∷ (codes "TOUCH", 8) ∷ (codes "SCROLL", 16) ∷
+    ghost table = { (codes "POINTER", 1) ∷ (codes "POINTER_ABSOLUTE", 2) ∷ (codes "KEYBOARD", 4) ∷ (codes "TOUCH", 8) ∷
+        (codes "SCROLL", 16) ∷
         (codes "BUTTON", 32) ∷ (codes "TEXT", 64) ∷ (codes "GESTURE", 128) ∷ [] };
 
     ghost set_of = { bits_of };

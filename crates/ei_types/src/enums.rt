@@ -23,10 +23,7 @@ impl From<ContextType> for u32 {
     ghost from_gives = { λ kind number. number ≡ context_type_number kind };
 
     fn from(kind: ContextType) -> u32 {
-        match kind {
-            ContextType::Receiver => 1,
-            ContextType::Sender => 2,
-        }
+        kind as u32
     }
 }
 
@@ -198,10 +195,7 @@ impl From<DeviceType> for u32 {
     ghost from_gives = { λ kind number. number ≡ device_type_number kind };
 
     fn from(kind: DeviceType) -> u32 {
-        match kind {
-            DeviceType::Virtual => 1,
-            DeviceType::Physical => 2,
-        }
+        kind as u32
     }
 }
 
@@ -248,10 +242,7 @@ impl From<ButtonState> for u32 {
     ghost from_gives = { λ state number. number ≡ button_state_number state };
 
     fn from(state: ButtonState) -> u32 {
-        match state {
-            ButtonState::Released => 0,
-            ButtonState::Press => 1,
-        }
+        state as u32
     }
 }
 
@@ -308,10 +299,7 @@ impl From<KeyState> for u32 {
     ghost from_gives = { λ state number. number ≡ key_state_number state };
 
     fn from(state: KeyState) -> u32 {
-        match state {
-            KeyState::Released => 0,
-            KeyState::Press => 1,
-        }
+        state as u32
     }
 }
 
@@ -366,9 +354,7 @@ impl From<KeymapType> for u32 {
     ghost from_gives = { λ kind number. number ≡ keymap_type_number kind };
 
     fn from(kind: KeymapType) -> u32 {
-        match kind {
-            KeymapType::Xkb => 1,
-        }
+        kind as u32
     }
 }
 

@@ -21,7 +21,8 @@ use crate::enums::DisconnectReason;
 pub fn enums_read_back()
     ensures context_types { (x : ContextType) (s t : Unread) → Follows (Word (context_type_number x)) s t →
         read context_type s ≡ Ok (Word (context_type_number x), t) }
-    ensures reasons { (x : DisconnectReason) (s t : Unread) → IsReason x → Follows (Word (disconnect_reason_number x)) s t →
+    ensures reasons { (x : DisconnectReason) (s t : Unread) → IsReason x →
+        Follows (Word (disconnect_reason_number x)) s t →
         read disconnect_reason s ≡ Ok (Word (disconnect_reason_number x), t) }
     ensures device_types { (x : DeviceType) (s t : Unread) → Follows (Word (device_type_number x)) s t →
         read device_type s ≡ Ok (Word (device_type_number x), t) }

@@ -1,5 +1,6 @@
 -- What a function that reads says of what reading gives, and the values that arguments stand for.
-use Rattle.std.specs.Prelude.{◌≡◌, IsErr, Option, Some, None, Result, Ok, Err}
+use Rattle.std.specs.Prelude.{◌≡◌, ℕ, List, IsErr, IfOk, Option, Some, None, Result, Ok, Err}
+use Rattle.ei_spec.specs.Interface.{known_of}
 use Rattle.ei_spec.specs.Value.{Kind, Text, Nullable, Value, Word, Long, Signed, SignedLong, Letters, Null, Fd}
 use Rattle.ei_spec.specs.Reading.{Fault, EndOfMessage, Utf8, InvalidId, NoFd, InvalidOpcode}
 use Rattle.ei_spec.specs.Reading.{InvalidVariant, InvalidInterface, HeaderLength, MessageLength, InvalidNull}
@@ -59,11 +60,24 @@ abbrev pub IsFault : ParseError → Type 0
 IsFault error.NoMemory = ⊥
 IsFault e = Unit {0}
 
--- only a text wants memory
-abbrev pub MayStop : Kind → ParseError → Type 0
-MayStop Text e = Unit {0}
-MayStop Nullable e = Unit {0}
-MayStop k e = IsFault e
+-- where the error is want of memory, this holds
+abbrev pub WhereFull : Type 0 → ParseError → Type 0
+WhereFull P error.NoMemory = P
+WhereFull P e = Unit {0}
+
+-- a text that isn't the name of an interface
+abbrev pub IsOtherText : List ℕ → Type 0
+IsOtherText text = known_of text ≡ None
+
+abbrev pub IsOther : Value → Type 0
+IsOther (Letters text) = IsOtherText text
+IsOther v = Unit {0}
+
+-- only a text wants memory, and none that is the name of an interface
+abbrev pub MayStop : {Rest : Type 0} → Kind → Result (Value × Rest) Fault → ParseError → Type 0
+MayStop Text read e = WhereFull (IfOk read (λ x. IsOther x.0)) e
+MayStop Nullable read e = WhereFull (IfOk read (λ x. IsOther x.0)) e
+MayStop k read e = IsFault e
 
 -- the shorter way takes nothing where reading refuses; and a text it may leave to the general way
 abbrev pub Leaves : {Y : Type 0} → Kind → Result Y Fault → Type 0

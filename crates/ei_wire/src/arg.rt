@@ -70,7 +70,8 @@ impl Arg<'_> {
         ensures err_handles { OnErr result (handles.new.items ≡ handles.old.items) }
         // a refusal comes only where room was missing, and no room is lost
         ensures succeeds { vec_len buf.old + length (written (value_of_arg self.now)) ≤ vec_capacity buf.old
-            → vec_len handles.old + length (handles_of (value_of_arg self.now)) ≤ vec_capacity handles.old → IsOk result }
+            → vec_len handles.old + length (handles_of (value_of_arg self.now)) ≤ vec_capacity handles.old →
+            IsOk result }
         ensures capacity { vec_capacity buf.old ≤ vec_capacity buf.new }
         ensures handle_capacity { vec_capacity handles.old ≤ vec_capacity handles.new }
     {
@@ -132,7 +133,7 @@ pub trait OwnedArg: Sized {
     fn parse(stream: &mut ByteStream<'_>) -> Result<Self, ParseError>
         ensures read { Gives (λ x. (value x, stream.new)) result (read kind stream.old) }
         ensures err { OnErr result (stream.new ≡ stream.old) }
-        ensures memory { IfErr result (MayStop kind) };
+        ensures memory { IfErr result (MayStop kind (read kind stream.old)) };
 
     /// Takes the same, if it is lawful, in fewer steps. `None` says no more than that nothing is taken: `parse` then tells what is
     /// wrong, or takes what this call leaves to it.
@@ -379,5 +380,6 @@ pub fn spelled<T: OwnedArg>()
 /// No spelling of a value is a proper beginning of another value's, so what follows never matters.
 #[tactic(auto, using(crate::proofs::NoPrefix::no_prefix))]
 pub fn no_proper_prefix<T: OwnedArg>()
-    ensures { (v w : Value) (a b more : List ℕ) → IsSpelling T.kind v a → IsSpelling T.kind w b → b ≡ a ++ more → more ≡ [] }
+    ensures { (v w : Value) (a b more : List ℕ) → IsSpelling T.kind v a → IsSpelling T.kind w b → b ≡ a ++ more →
+        more ≡ [] }
 {}

@@ -11,7 +11,8 @@ use crate::stream::ByteStream;
 /// Takes the one argument of a row.
 #[inline]
 pub fn read_one<A: OwnedArg + Drop>(bytes: &mut ByteStream<'_>) -> Result<A, ParseError>
-    ensures read { ReadsArguments (λ x. (A.value x ∷ [], bytes.new)) bytes.new.taken result (all_at (A.kind ∷ []) bytes.old) }
+    ensures read { ReadsArguments (λ x. (A.value x ∷ [], bytes.new)) bytes.new.taken result
+        (all_at (A.kind ∷ []) bytes.old) }
 {
     bytes.read_arg()
 }
@@ -34,7 +35,10 @@ pub fn read_two<A: OwnedArg + Drop, B: OwnedArg + Drop>(
 pub fn read_three<A: OwnedArg + Drop, B: OwnedArg + Drop, C: OwnedArg + Drop>(
     bytes: &mut ByteStream<'_>,
 ) -> Result<(A, B, C), ParseError>
-    ensures read { ReadsArguments (λ x. (A.value x.0 ∷ B.value x.1 ∷ C.value x.2 ∷ [], bytes.new)) bytes.new.taken result
+    ensures read { ReadsArguments (λ x. (
+      A.value x.0 ∷ B.value x.1 ∷ C.value x.2 ∷ [],
+      bytes.new,
+    )) bytes.new.taken result
         (all_at (A.kind ∷ B.kind ∷ C.kind ∷ []) bytes.old) }
 {
     let a = bytes.read_arg()?;
@@ -52,7 +56,10 @@ where
     C: OwnedArg + Drop,
     D: OwnedArg + Drop,
     E: OwnedArg + Drop,
-    ensures read { ReadsArguments (λ x. (A.value x.0 ∷ B.value x.1 ∷ C.value x.2 ∷ D.value x.3 ∷ E.value x.4 ∷ [], bytes.new))
+    ensures read { ReadsArguments (λ x. (
+      A.value x.0 ∷ B.value x.1 ∷ C.value x.2 ∷ D.value x.3 ∷ E.value x.4 ∷ [],
+      bytes.new,
+    ))
         bytes.new.taken result (all_at (A.kind ∷ B.kind ∷ C.kind ∷ D.kind ∷ E.kind ∷ []) bytes.old) }
 {
     let a = bytes.read_arg()?;
@@ -101,7 +108,8 @@ pub fn lawful_two<A: OwnedArg + Drop, B: OwnedArg + Drop>(
 pub fn lawful_three<A: OwnedArg + Drop, B: OwnedArg + Drop, C: OwnedArg + Drop>(
     bytes: &mut ByteStream<'_>,
 ) -> Option<(A, B, C)>
-    ensures { IfSome result (λ x. IsWhole (A.kind ∷ B.kind ∷ C.kind ∷ []) (A.value x.0 ∷ B.value x.1 ∷ C.value x.2 ∷ []) bytes.old bytes.new) }
+    ensures { IfSome result (λ x. IsWhole (A.kind ∷ B.kind ∷ C.kind ∷ [])
+        (A.value x.0 ∷ B.value x.1 ∷ C.value x.2 ∷ []) bytes.old bytes.new) }
 {
     let a = A::parse_lawful(bytes)?;
     let b = B::parse_lawful(bytes)?;

@@ -3,7 +3,7 @@
 ghost use Rattle.std.specs.Prelude.{◌≡◌, ℕ, List, length, IfOk, IfErr, IfSome, IfNone, IsErr, OnErr, Ok, Err, ◌≤◌, ◌<◌, ◌+◌, ◌^◌, Some, None, true, nat_eq};
 ghost use Rattle.std.specs.List.{list_any};
 ghost use Rattle.std.specs.Int.{w32, w64};
-ghost use Rattle.ei_wire.specs.Gives.{Gives, IsFault, MayStop};
+ghost use Rattle.ei_wire.specs.Gives.{Gives, IsFault, IsOtherText, MayStop, WhereFull};
 ghost use Rattle.ei_wire.specs.Letters.{behind_letters};
 ghost use Rattle.ei_spec.specs.Reading.{Unread, number_at, text_at, letters_at, utf8, read, Read};
 ghost use Rattle.ei_spec.specs.Value.{Word, Long, Letters, Fd, U32, U64, Handle as HandleKind, Nullable, Text as TextKind, Choice};
@@ -158,6 +158,7 @@ impl<'a> ByteStream<'a> {
     pub(crate) fn text(&mut self) -> Result<Option<EiText>, ParseError>
         ensures read { Gives (λ t. (or_null t, self.new)) result (read Nullable self.old) }
         ensures err { OnErr result (self.new ≡ self.old) }
+        ensures memory { IfErr result (MayStop Nullable (read Nullable self.old)) }
     {
         let (text, rest) = text_of(self.alloc, self.bytes)?;
         self.bytes = rest;
@@ -169,6 +170,7 @@ impl<'a> ByteStream<'a> {
     pub(crate) fn whole_text(&mut self) -> Result<EiText, ParseError>
         ensures read { Gives (λ t. (Letters t, self.new)) result (read TextKind self.old) }
         ensures err { OnErr result (self.new ≡ self.old) }
+        ensures memory { IfErr result (MayStop TextKind (read TextKind self.old)) }
     {
         let (text, rest) = text_of(self.alloc, self.bytes)?;
         match text {
@@ -238,7 +240,7 @@ impl<'a> ByteStream<'a> {
     pub fn read_arg<T: OwnedArg>(&mut self) -> Result<T, ParseError>
         ensures read { Gives (λ x. (T.value x, self.new)) result (read T.kind self.old) }
         ensures err { OnErr result (self.new ≡ self.old) }
-        ensures memory { IfErr result (MayStop T.kind) }
+        ensures memory { IfErr result (MayStop T.kind (read T.kind self.old)) }
     {
         T::parse(self)
     }
@@ -283,7 +285,8 @@ fn long_of(bytes: &[u8]) -> Result<(u64, &[u8]), ParseError>
 #[tactic(auto, using(ei_spec::proofs::Utf8::utf8_if, ei_spec::proofs::Utf8::utf8_if_not))]
 fn utf8_of(bytes: &[u8]) -> Result<&str, ParseError>
     requires { length bytes.now < 2 ^ 32 }
-    ensures { Gives (λ t. t.now) result (utf8 bytes.now) }
+    ensures text { Gives (λ t. t.now) result (utf8 bytes.now) }
+    ensures memory { IfErr result IsFault }
 {
     match simdutf8::compat::from_utf8(bytes) {
         Ok(text) => Ok(text),
@@ -296,7 +299,8 @@ fn utf8_of(bytes: &[u8]) -> Result<&str, ParseError>
 #[tactic(auto, unfolding(ei_spec::specs::Reading::letters_at), using(crate::proofs::InterfaceNames::name_at_front))]
 fn letters_of(alloc: Global, len: u32, bytes: &[u8]) -> Result<(EiText, &[u8]), ParseError>
     requires { len + 1 < 2 ^ 32 }
-    ensures { Gives (λ x. (x.0, x.1.now)) result (letters_at len bytes.now) }
+    ensures read { Gives (λ x. (x.0, x.1.now)) result (letters_at len bytes.now) }
+    ensures memory { IfErr result (WhereFull (IfOk (letters_at len bytes.now) (λ x. IsOtherText x.0))) }
 {
     let end = len as usize;
     if bytes.len() < end {
@@ -335,7 +339,8 @@ fn name_at(len: u32, bytes: &[u8]) -> Option<(KnownInterface, &[u8])>
 #[inline]
 fn behind(bytes: &[u8], end: usize) -> Result<&[u8], ParseError>
     requires { end + 1 < 2 ^ 32 }
-    ensures { Gives (λ x. x.now) result (behind_letters end bytes.now) }
+    ensures rest { Gives (λ x. x.now) result (behind_letters end bytes.now) }
+    ensures memory { IfErr result IsFault }
 {
     let whole = end + 1 + (4 - (end + 1) % 4) % 4;
     if bytes.len() < whole {
@@ -347,7 +352,8 @@ fn behind(bytes: &[u8], end: usize) -> Result<&[u8], ParseError>
 #[inline(never)]
 #[tactic(auto, unfolding(ei_spec::specs::Reading::text_at))]
 fn text_of(alloc: Global, bytes: &[u8]) -> Result<(Option<EiText>, &[u8]), ParseError>
-    ensures { Gives (λ x. (x.0, x.1.now)) result (text_at bytes.now) }
+    ensures read { Gives (λ x. (x.0, x.1.now)) result (text_at bytes.now) }
+    ensures memory { IfErr result (WhereFull (IfOk (text_at bytes.now) (λ x. IfSome x.0 IsOtherText))) }
 {
     let (len, rest) = word_of(bytes)?;
     if len == 0 {

@@ -3,5 +3,6 @@ mod Kept
 mod Meeting
 mod Pieces
 mod ReadRows
+mod Running
 mod Sending
 mod TableNews

@@ -1,10 +1,11 @@
 -- What a delivery does, and a source of one piece.
-use Rattle.std.specs.Prelude.{◌≡◌, ℕ, ◌<◌, ◌≤◌, ◌+◌, Bool, true, false, List, [], ◌∷◌, length, min, Result, Ok, Err}
+use Rattle.std.specs.Prelude.{◌≡◌, ℕ, ◌<◌, ◌≤◌, ◌+◌, ◌-◌, ◌^◌, Bool, true, false, List, [], ◌∷◌, length, min, Some, Result, Ok, Err}
 use Rattle.ei_spec.specs.Piece.{Piece}
 use Rattle.ei_spec.specs.declared.limits.TheConstants.{MOST_UNREAD_HANDLES}
 use Rattle.ei_wire.specs.declared.error.ReadError.{ReadError}
 use Rattle.ei_wire.specs.declared.error.ReadError.TheVariants as read_error
 use Rattle.ei_backend.specs.declared.outside.LastAnswer.{LastAnswer}
+use Rattle.ei_backend.specs.Outside.{SourceView}
 use Rattle.ei_backend.specs.Backend.{BackendView, with_piece, with_ring, closed_of}
 use Rattle.ei_ends.specs.Steps.{handed, left_over}
 use Rattle.ei_world.specs.Stored.{StoredEnd, with_endpoint}
@@ -19,6 +20,10 @@ pub record PortionView : Type 0 where
 abbrev pub portion : Bool → Piece → LastAnswer → PortionView
 portion false piece last = record { left = piece ∷ []; given = []; last = last }
 portion true piece last = record { left = []; given = piece ∷ []; last = last }
+
+-- what it says of itself: it never fails, and doesn't count how often it is asked
+abbrev pub seen_portion : PortionView → SourceView
+seen_portion p = record { left = Some p.left; given = p.given; faults = 0; asked = 2 ^ 64 - 1; last = p.last }
 
 -- an end once so many bytes of what waits were delivered, or nothing where none does
 abbrev pub delivered_end : ℕ → List ℕ → Piece → StoredEnd → StoredEnd

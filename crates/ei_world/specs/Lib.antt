@@ -3,3 +3,4 @@ pub mod Asked
 pub mod Delivered
 pub mod TwoEnds
 pub mod Received
+pub mod Steps

@@ -8,6 +8,7 @@ use Rattle.ei_spec.specs.Piece.{Piece}
 use Rattle.ei_spec.specs.Rows.{Row, row_at}
 use Rattle.ei_spec.specs.Arguments.{AreOf}
 use Rattle.ei_spec.specs.Table.{table}
+use Rattle.ei_spec.specs.declared.limits.TheConstants.{MOST_UNREAD_HANDLES}
 use Rattle.ei_wire.specs.Gives.{fault_of}
 use Rattle.ei_wire.specs.declared.error.ReadError.{ReadError}
 use Rattle.ei_wire.specs.declared.error.ReadError.TheVariants as read_error
@@ -153,6 +154,10 @@ Calls side m (Err send_error.IdsExhausted) old new = (HasOwnId side m old → �
 Calls side m (Err send_error.MessageTooLong) old new = HasOwnId side m old × IsTooLong m × (new ≡ old)
 Calls side m (Err send_error.NoMemory) old new = new ≡ old
 
+-- the same of a call to the object
+abbrev pub CallsTo : Side → ObjectView → ℕ → List Stored → Result (Option ObjectView) SendError → WorldView → WorldView → Type 0
+CallsTo side target opcode values result old new = Calls side (asked_of side old target opcode values) result old new
+
 -- ---- a flush, a delivery, a read
 
 -- the end without what waited to be sent
@@ -163,6 +168,10 @@ flushed_end x = with_endpoint (with_unsent nothing x.backend) x
 abbrev pub flushed_world : Side → WorldView → WorldView
 flushed_world side w = with_end side (flushed_end (stored_of side w))
     (with_waiting (other_side side) (behind (waiting_for (other_side side) w) (unsent_of (stored_of side w).backend)) w)
+
+-- a side has sent at most as many handles as may be unread
+abbrev pub HasSentFewHandles : Side → WorldView → Type 0
+HasSentFewHandles side w = length (handles_sent (end_of side w).sent) ≤ MOST_UNREAD_HANDLES
 
 -- with the handles of a delivery of so many bytes more would be unread at a side than may be
 abbrev pub TooManyHandles : Side → ℕ → WorldView → Type 0
@@ -194,13 +203,13 @@ read_world side w = with_end side (having_read (sends (other_side side)) (stored
 abbrev pub AllDeliveredAt : Side → WorldView → Type 0
 AllDeliveredAt side w = AllDelivered (end_of (other_side side) w) (end_of side w) (waiting_for side w)
 
--- a call spent the world: no list has changed
-pub record IsSpentBy (old new : WorldView) : Type 0 where
-  pub spent : new.spent ≡ true
-  pub client_sent : new.client.sent ≡ old.client.sent
-  pub client_taken : new.client.taken ≡ old.client.taken
-  pub server_sent : new.server.sent ≡ old.server.sent
-  pub server_taken : new.server.taken ≡ old.server.taken
+-- a side has taken as many messages as the other sent
+abbrev pub HasTakenAll : Side → WorldView → Type 0
+HasTakenAll side w = length (end_of side w).taken ≡ length (end_of (other_side side) w).sent
+
+-- once a side took its next message and no memory was left to store it: nothing else has changed
+abbrev pub spent_world : Side → WorldView → WorldView
+spent_world side w = with_end side (with_endpoint (next (sends (other_side side)) (stored_of side w).backend).1 (stored_of side w)) (record w { spent = true })
 
 -- ---- what a read answers
 

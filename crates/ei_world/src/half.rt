@@ -1,38 +1,30 @@
 //! One end, with what it sent and took.
 
-ghost use Rattle.std.specs.Prelude.{reverse, map, ◌≡◌, ◌<◌, ◌≤◌, length, IfOk, OnOk, OnErr, None, Some, IsErrOf, true, false};
+ghost use Rattle.std.specs.Prelude.{reverse, ◌≡◌, ◌<◌, ◌≤◌, [], length, IfOk, OnOk, OnErr, None, Some, IsErrOf, true, false};
 ghost use Rattle.ei_spec.specs.Interface.{Known};
 ghost use Rattle.ei_spec.specs.declared.limits.TheConstants.{MOST_PIECE_BYTES, MOST_PIECE_HANDLES};
-ghost use Rattle.ei_backend.specs.Backend.{unsent_of};
+ghost use Rattle.ei_backend.specs.Backend.{unsent_of, next};
 ghost use Rattle.ei_backend.specs.Table.{own, own_end};
 ghost use Rattle.ei_wire.specs.declared.error.SendError.TheVariants as send_error;
 ghost use Rattle.ei_ends.specs.Sent.{new_of};
 ghost use Rattle.ei_ends.specs.Steps.{behind};
 ghost use Rattle.ei_ends.specs.Joined.{acquainted};
-ghost use Rattle.ei_wire.specs.Gives.{value_of_arg};
-ghost use Rattle.ei_world.specs.Stored.{sent_view, end_in, having_sent, read_as};
+ghost use Rattle.ei_world.specs.Stored.{sent_view, end_in, having_sent, read_as, with_endpoint};
 ghost use Rattle.ei_world.specs.Asked.{asked, IsOfRow, IsNext, IsSendable, AreNew, IsTooLong, Sends};
 ghost use Rattle.ei_world.specs.Delivered.{Delivers, TakesIn, moves};
-ghost use Rattle.ei_world.specs.TwoEnds.{new_stored, flushed_end, IsRead, ReadsRows, StoresAnswer};
+ghost use Rattle.ei_world.specs.TwoEnds.{flushed_end, IsRead, ReadsRows, StoresAnswer};
 
 use crate::link::Link;
 use crate::met::{find_sent, find_taken};
 use crate::portion::Portion;
 use crate::record::{Announced, Got, Record, Target};
-use ei_backend::{Backend, MessageEnum, Object, PendingRequestResult};
+use ei_backend::{Backend, HasBackend, MessageEnum, Object, PendingRequestResult};
 use ei_rows::row_of;
 use ei_spec::{Handle, KnownInterface};
 use ei_values::{Value, stored};
-use ei_wire::{Arg, NoMemory, ReadError, SendError};
+use ei_wire::{NoMemory, ReadError, SendError};
 use std::alloc::Global;
 use std::marker::Model;
-
-/// A message whose arguments can be told, all of them in the order of its row: with the version of what it announces, and
-/// where it names the interface of that, the name.
-pub trait Arguments: MessageEnum {
-    fn arguments(&self, alloc: Global) -> Result<Vec<Arg<'_>>, NoMemory>
-        ensures { IfOk result (λ args. map value_of_arg args.items ≡ Self.values self.now) };
-}
 
 /// Why a read gave nothing.
 #[derive(Clone, Copy)]
@@ -43,15 +35,15 @@ pub enum HalfError {
     Spent,
 }
 
-/// One end.
+/// One end: its context, and what it sent and took.
 #[derive(Drop)]
-pub struct Half {
-    backend: Backend,
+pub struct Half<C: HasBackend> {
+    context: C,
     sent: Vec<Record>,
     taken: Vec<Got>,
 }
 
-impl Model for Half {
+impl<C: HasBackend> Model for Half<C> {
     ghost use Rattle.std.specs.Prelude.{reverse};
     ghost use Rattle.std.specs.Coded.{codes};
     ghost use Rattle.ei_backend.specs.Codes.{backend_code};
@@ -61,19 +53,19 @@ impl Model for Half {
 
     ghost coded = { Prim.hlevel (codes, backend_code) };
 
-    ghost view = { λ h. record { backend = h.backend; sent = reverse h.sent.items; taken = reverse h.taken.items } };
+    ghost view = { λ h. record { backend = C.seen h.context; sent = reverse h.sent.items; taken = reverse h.taken.items } };
 }
 
-impl Half {
-    /// A new end.
-    pub fn new(alloc: Global, client: bool) -> Result<Half, NoMemory>
-        ensures { IfOk result (λ h. h ≡ new_stored client) }
+impl<C: HasBackend> Half<C> {
+    /// A new end of this context.
+    pub fn new(alloc: Global, context: C) -> Half<C>
+        ensures { result ≡ record { backend = C.seen context; sent = []; taken = [] } }
     {
-        Ok(Half {
-            backend: Backend::new(alloc, client)?,
+        Half {
+            context,
             sent: Vec::new(alloc),
             taken: Vec::new(alloc),
-        })
+        }
     }
 
     /// What it sent, the first first.
@@ -94,14 +86,14 @@ impl Half {
     pub fn is_closed(&self) -> bool
         ensures { result ≡ self.now.backend.closed }
     {
-        self.backend.is_closed()
+        self.context.backend().is_closed()
     }
 
-    /// Its endpoint.
-    pub fn backend(&self) -> &Backend
-        ensures { result.now ≡ self.now.backend }
+    /// Its context.
+    pub fn context(&self) -> &C
+        ensures { C.seen result.now ≡ self.now.backend }
     {
-        &self.backend
+        &self.context
     }
 
     /// The object of that id which it made or read at some time, or object 0.
@@ -131,7 +123,7 @@ impl Half {
         ensures err { OnErr result (self.new ≡ self.old) }
     {
         self.sent.reserve(1)?;
-        message.send(alloc, events, &mut self.backend)?;
+        message.send(alloc, events, self.context.backend_mut())?;
         match self.sent.push(message) {
             Ok(()) => Ok(()),
             Err(_) => unreachable!(),
@@ -156,7 +148,13 @@ impl Half {
         ensures err { OnErr result (self.new ≡ self.old) }
     {
         self.sent.reserve(1)?;
-        let object = message.send_new(alloc, events, &mut self.backend, interface, version)?;
+        let object = message.send_new(
+            alloc,
+            events,
+            self.context.backend_mut(),
+            interface,
+            version,
+        )?;
         match self.sent.push(message) {
             Ok(()) => Ok(object),
             Err(_) => unreachable!(),
@@ -205,7 +203,7 @@ impl Half {
         ensures sendable { OnOk result (IsSendable events self.old.backend.table.next_own
             (sent_view (asked self.old.backend.table.next_own target.id target.interface target.version opcode values.now))) }
     {
-        let next = self.backend.next_id();
+        let next = self.context.backend().next_id();
         let message = Record::asked(alloc, target, opcode, values, next)?;
         self.send(alloc, events, message)
     }
@@ -217,13 +215,14 @@ impl Half {
         ensures err { OnErr result (self.new ≡ self.old) }
         ensures link_err { OnErr result (link.new ≡ link.old) }
     {
-        link.append(self.backend.unsent(), self.backend.unsent_handles())?;
-        self.backend.clear_unsent();
+        let backend = self.context.backend();
+        link.append(backend.unsent(), backend.unsent_handles())?;
+        self.context.backend_mut().clear_unsent();
         Ok(())
     }
 
     /// Takes the next message, and stores it.
-    pub fn read<T: Arguments + Drop>(
+    pub fn read<T: MessageEnum + Drop>(
         &mut self,
         alloc: Global,
         events: bool,
@@ -232,10 +231,10 @@ impl Half {
         requires rows { ReadsRows events self.old }
         ensures ok { IfOk result (λ answer. StoresAnswer T.target T.code T.values events answer self.old self.new) }
         ensures memory { IsErrOf result HalfError.NoMemory → self.new ≡ self.old }
-        ensures spent { IsErrOf result HalfError.Spent → (self.new.sent ≡ self.old.sent) × (self.new.taken ≡ self.old.taken) }
+        ensures spent { IsErrOf result HalfError.Spent → self.new ≡ with_endpoint (next events self.old.backend).1 self.old }
     {
         let after = self.sent.len() as u64;
-        let answer = match self.backend.pending::<T>() {
+        let answer = match self.context.backend_mut().pending::<T>() {
             Ok(answer) => answer,
             Err(_) => return Err(HalfError::NoMemory),
         };
@@ -271,7 +270,7 @@ impl Half {
         requires most { n ≤ 1536 }
         ensures delivers { Delivers n result self.old link.old self.new link.new }
     {
-        if self.backend.is_closed() {
+        if self.context.backend().is_closed() {
             return Err(ReadError::UnexpectedEof);
         }
         let bytes = link.bytes();
@@ -281,7 +280,11 @@ impl Half {
         let handles = link.handles();
         let count = bytes.len().min(n);
         let handle_count = handles.len().min(64);
-        let answer = take_in(&mut self.backend, &bytes[..count], &handles[..handle_count]);
+        let answer = take_in(
+            self.context.backend_mut(),
+            &bytes[..count],
+            &handles[..handle_count],
+        );
         if is_moved(&answer) {
             link.advance(count, handle_count);
         }
@@ -290,7 +293,7 @@ impl Half {
 }
 
 /// A message that was read, as it is stored.
-fn record_of<T: Arguments>(alloc: Global, events: bool, message: &T) -> Result<Record, NoMemory>
+fn record_of<T: MessageEnum>(alloc: Global, events: bool, message: &T) -> Result<Record, NoMemory>
     requires { IsRead events (T.target message.now) (T.code message.now) (T.values message.now) }
     ensures { IfOk result (λ r. r ≡ read_as events (T.target message.now) (T.code message.now) (T.values message.now)) }
 {

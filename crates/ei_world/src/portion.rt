@@ -1,9 +1,9 @@
 //! A portion of what lies between two ends, as a source.
 
-ghost use Rattle.std.specs.Prelude.{◌≡◌, ◌<◌, ◌≤◌, [], ◌∷◌, Some, length, IfOk};
-ghost use Rattle.ei_backend.specs.Outside.{HasCause, TakesTold, GivesPiece, IsPieceSize, last_of};
+ghost use Rattle.std.specs.Prelude.{◌≡◌, ◌<◌, ◌≤◌, false, length};
 ghost use Rattle.ei_spec.specs.declared.limits.TheConstants.{MOST_PIECE_BYTES, MOST_PIECE_HANDLES};
 ghost use Rattle.ei_backend.specs.declared.outside.LastAnswer.TheVariants as LastAnswers;
+ghost use Rattle.ei_world.specs.Delivered.{portion, seen_portion};
 
 use ei_backend::{Fault, LastAnswer, Source, Taken};
 use ei_spec::Handle;
@@ -35,7 +35,7 @@ impl<'a> Portion<'a> {
         requires some { 0 < length bytes.now }
         requires bytes { length bytes.now ≤ MOST_PIECE_BYTES }
         requires handles { length handles.now ≤ MOST_PIECE_HANDLES }
-        ensures { result ≡ record { left = record { bytes = bytes.now; handles = handles.now } ∷ []; given = []; last = LastAnswers.Nothing } }
+        ensures { result ≡ portion false (record { bytes = bytes.now; handles = handles.now }) LastAnswers.Nothing }
     {
         Portion {
             bytes,
@@ -47,13 +47,7 @@ impl<'a> Portion<'a> {
 }
 
 impl Source for Portion<'_> {
-    ghost left = { λ p. Some p.left };
-
-    ghost given = { λ p. p.given };
-
-    ghost faults = { λ _. 0 };
-
-    ghost last = { λ p. p.last };
+    ghost view = { seen_portion };
 
     ghost later = { λ _ _. Unit {0} };
 
@@ -61,15 +55,7 @@ impl Source for Portion<'_> {
 
     ghost later_trans = { λ _ _ _ _ _. tt };
 
-    fn take(&mut self, bytes: &mut [u8], handles: &mut [Handle]) -> Result<Taken, Fault>
-        requires room { MOST_PIECE_BYTES ≤ length bytes.old }
-        requires handle_room { MOST_PIECE_HANDLES ≤ length handles.old }
-        ensures size { IfOk result IsPieceSize }
-        ensures pieces { TakesTold (Some self.old.left) (Some self.new.left) result bytes.new handles.new }
-        ensures given { GivesPiece self.old.given self.new.given result bytes.new handles.new }
-        ensures cause { HasCause 0 0 result }
-        ensures last { self.new.last ≡ last_of result }
-    {
+    fn take(&mut self, bytes: &mut [u8], handles: &mut [Handle]) -> Result<Taken, Fault> {
         if self.given {
             self.last = LastAnswer::End;
             return Ok(Taken {

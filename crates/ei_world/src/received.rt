@@ -4,7 +4,7 @@ use ei_backend::PendingRequestResult;
 
 /// What the client took, or the server.
 #[derive(Drop)]
-pub enum Received<E, R> {
-    Client(PendingRequestResult<E>),
-    Server(PendingRequestResult<R>),
+pub enum Received {
+    Client(PendingRequestResult<ei_client::Event>),
+    Server(PendingRequestResult<ei_server::Request>),
 }

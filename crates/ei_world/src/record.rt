@@ -39,7 +39,7 @@ pub enum Got {
 
 /// An object that is named by its id, with what it was announced as.
 #[derive(Clone, Copy)]
-pub struct Target {
+pub(crate) struct Target {
     pub id: u64,
     pub interface: KnownInterface,
     pub version: u32,
@@ -47,7 +47,7 @@ pub struct Target {
 
 impl Target {
     /// What names the object.
-    pub fn of(object: &Object) -> Target
+    pub(crate) fn of(object: &Object) -> Target
         requires { object.now.interface ≡ Known (as_known object.now.interface) }
         ensures { result ≡ record { id = object.now.id; interface = as_known object.now.interface; version = object.now.version } }
     {
@@ -64,7 +64,7 @@ impl Target {
 
 /// The object that a message announces. The interface is none where it isn't one of the protocol.
 #[derive(Clone, Copy)]
-pub struct Announced {
+pub(crate) struct Announced {
     pub id: u64,
     pub interface: Option<KnownInterface>,
     pub version: u32,
@@ -82,7 +82,7 @@ fn destroys(events: bool, interface: KnownInterface, opcode: u32) -> bool
 
 impl Record {
     /// The message to an object, with the next own id in the place of a new one.
-    pub fn asked(
+    pub(crate) fn asked(
         alloc: Global,
         target: Target,
         opcode: u32,
@@ -103,7 +103,7 @@ impl Record {
     }
 
     /// The object that the message announces.
-    pub fn announces(&self, events: bool) -> Option<Announced>
+    pub(crate) fn announces(&self, events: bool) -> Option<Announced>
         ensures { AreNew result (new_of events (sent_view self.now)) }
     {
         let row = row_of(events, self.interface, self.opcode)?;
@@ -127,7 +127,12 @@ impl Record {
 
     /// Writes the message, which announces nothing.
     #[tactic(auto, unfolding(ei_ends::specs::Sent::row_of, ei_ends::specs::Sent::bytes_in, ei_ends::specs::Steps::table_after, ei_ends::specs::Steps::table_with))]
-    pub fn send(&self, alloc: Global, events: bool, backend: &mut Backend) -> Result<(), SendError>
+    pub(crate) fn send(
+        &self,
+        alloc: Global,
+        events: bool,
+        backend: &mut Backend,
+    ) -> Result<(), SendError>
         requires plain { new_of events (sent_view self.now) ≡ None }
         ensures ok { OnOk result (backend.new ≡ called events (sent_view self.now) backend.old) }
         ensures short { OnOk result (IsTooLong self.now → ⊥) }
@@ -145,7 +150,7 @@ impl Record {
 
     /// Writes the message, which announces the next object.
     #[tactic(auto, unfolding(ei_ends::specs::Sent::row_of, ei_ends::specs::Sent::bytes_in, ei_ends::specs::Steps::table_after, ei_ends::specs::Steps::table_with))]
-    pub fn send_new(
+    pub(crate) fn send_new(
         &self,
         alloc: Global,
         events: bool,

@@ -1,22 +1,22 @@
 //! Two ends over links.
 
-ghost use Rattle.std.specs.Prelude.{reverse, ◌≡◌, ℕ, ◌<◌, ◌≤◌, ◌⊎◌, None, Ok, length, false, true, IfOk, OnOk, OnErr, IsErrOf};
-ghost use Rattle.ei_spec.specs.declared.limits.TheConstants.{MOST_UNREAD_HANDLES};
+ghost use Rattle.std.specs.Prelude.{reverse, ◌≡◌, ℕ, ◌<◌, ◌≤◌, ◌⊎◌, None, Ok, false, true, IfOk, OnOk, OnErr, IsErrOf};
 ghost use Rattle.ei_wire.specs.declared.error.ReadError.TheVariants as read_error;
 ghost use Rattle.ei_backend.specs.Backend.{Answers, next};
-ghost use Rattle.ei_ends.specs.Agree.{handles_sent};
+ghost use Rattle.ei_client.specs.Event as event;
+ghost use Rattle.ei_server.specs.Request as request;
 ghost use Rattle.ei_world.specs.declared.side.Side.TheVariants as side;
-ghost use Rattle.ei_world.specs.TwoEnds.{end_of, stored_of, other_side, new_world, Agrees, MayAsk, MayCall, asked_for, asked_of, Calls, met_at};
-ghost use Rattle.ei_world.specs.TwoEnds.{flushed_world, DeliversAt, read_world, AllDeliveredAt, IsSpentBy, NotRefused};
+ghost use Rattle.ei_world.specs.TwoEnds.{stored_of, other_side, new_world, Agrees, MayAsk, MayCall, asked_for, Calls, CallsTo, met_at};
+ghost use Rattle.ei_world.specs.TwoEnds.{flushed_world, DeliversAt, HasSentFewHandles, read_world, spent_world, AllDeliveredAt, HasTakenAll, NotRefused};
 ghost use Rattle.ei_world.specs.Asked.{AreNew};
-ghost use Rattle.ei_world.specs.Received.{AnswersAt};
+ghost use Rattle.ei_world.specs.Received.{ReceivesAt, IsNeverRefused};
 
-use crate::half::{Arguments, Half, HalfError};
+use crate::half::{Half, HalfError};
 use crate::link::Link;
 use crate::received::Received;
 use crate::record::{Announced, Got, Record, Target};
 use crate::side::Side;
-use ei_backend::{Backend, Object, PendingRequestResult};
+use ei_backend::{Object, PendingRequestResult};
 use ei_values::Value;
 use ei_wire::{NoMemory, ReadError, SendError};
 use std::alloc::Global;
@@ -31,8 +31,8 @@ use std::marker::Model;
 #[derive(Drop)]
 pub struct World {
     alloc: Global,
-    client: Half,
-    server: Half,
+    client: Half<ei_client::Context>,
+    server: Half<ei_server::Context>,
     to_client: Link,
     to_server: Link,
     spent: bool,
@@ -57,10 +57,12 @@ impl World {
     pub fn new(alloc: Global) -> Result<World, NoMemory>
         ensures { IfOk result (λ w. w ≡ new_world) }
     {
+        let client = ei_client::Context::new(alloc)?;
+        let server = ei_server::Context::new(alloc)?;
         Ok(World {
             alloc,
-            client: Half::new(alloc, true)?,
-            server: Half::new(alloc, false)?,
+            client: Half::new(alloc, client),
+            server: Half::new(alloc, server),
             to_client: Link::new(alloc),
             to_server: Link::new(alloc),
             spent: false,
@@ -105,14 +107,18 @@ impl World {
         self.spent
     }
 
-    /// The endpoint of a side.
-    pub fn backend(&self, side: Side) -> &Backend
-        ensures { result.now ≡ (stored_of side self.now).backend }
+    /// The client's context.
+    pub fn client(&self) -> &ei_client::Context
+        ensures { result.now ≡ self.now.client.backend }
     {
-        match side {
-            Side::Client => self.client.backend(),
-            Side::Server => self.server.backend(),
-        }
+        self.client.context()
+    }
+
+    /// The server's context.
+    pub fn server(&self) -> &ei_server::Context
+        ensures { result.now ≡ self.now.server.backend }
+    {
+        self.server.context()
     }
 
     /// The object of that id which the side made or read at some time, or object 0.
@@ -131,8 +137,9 @@ impl World {
     /// The target is one that the client made or read at some time, or object 0, be it alive or not. `New` stands in the place
     /// of a new id; an object whose interface the message names is asked for by `NewInterface`, for both.
     ///
-    /// `IdsExhausted` exactly where the message needs an own id and none is left; `MessageTooLong` exactly where an id is there
-    /// or not needed and the message would have more than 1048576 bytes.
+    /// `IdsExhausted` exactly where the message needs an own id and none is left, `MessageTooLong` exactly where no id is lacking
+    /// and the message would have more than 1048576 bytes; but `NoMemory` may come in place of any answer. A call that is
+    /// refused changes nothing.
     pub fn client_call(
         &mut self,
         target: &Object,
@@ -141,7 +148,7 @@ impl World {
     ) -> Result<Option<Object>, SendError>
         requires whole { self.old.spent ≡ false }
         requires may { MayCall side.Client self.old target.now opcode values.now }
-        ensures { Calls side.Client (asked_of side.Client self.old target.now opcode values.now) result self.old self.new }
+        ensures { CallsTo side.Client target.now opcode values.now result self.old self.new }
     {
         self.call(Side::Client, Target::of(target), opcode, values)
     }
@@ -155,7 +162,7 @@ impl World {
     ) -> Result<Option<Object>, SendError>
         requires whole { self.old.spent ≡ false }
         requires may { MayCall side.Server self.old target.now opcode values.now }
-        ensures { Calls side.Server (asked_of side.Server self.old target.now opcode values.now) result self.old self.new }
+        ensures { CallsTo side.Server target.now opcode values.now result self.old self.new }
     {
         self.call(Side::Server, Target::of(target), opcode, values)
     }
@@ -193,14 +200,15 @@ impl World {
     /// Hands the first n bytes that wait, and the first 64 handles, or what there is, to the side. It answers how many bytes
     /// came: 0 exactly where none waits and the side isn't closed.
     ///
-    /// `UnexpectedEof` exactly where the side is closed; `HandleLimit` where more than 4096 handles would be unread: the piece is
-    /// lost, and the side is closed; `NoMemory`, and nothing is changed. `ReadFault` never comes.
+    /// `UnexpectedEof` exactly where the side is closed, and that is looked at first. `HandleLimit` exactly where it isn't and
+    /// more than 4096 handles would be unread: the piece is lost, and the side is closed. But `NoMemory` may come in place of
+    /// both at an open side, and changes nothing. `ReadFault` never comes.
     pub fn deliver(&mut self, side: Side, n: usize) -> Result<usize, ReadError>
         requires some { 0 < n }
         requires most { n ≤ 1536 }
         requires whole { self.old.spent ≡ false }
         ensures delivers { DeliversAt side n result self.old self.new }
-        ensures few { length (handles_sent (end_of (other_side side) self.old).sent) ≤ MOST_UNREAD_HANDLES → IsErrOf result read_error.HandleLimit → ⊥ }
+        ensures few { HasSentFewHandles (other_side side) self.old → IsErrOf result read_error.HandleLimit → ⊥ }
     {
         match side {
             Side::Client => self.client.deliver(&mut self.to_client, n),
@@ -208,32 +216,25 @@ impl World {
         }
     }
 
-    /// The next message that is whole at the side, taken out and stored, or a message to no object. `None` exactly where no
-    /// whole message is unread there; once nothing is on its way, the side has then taken as many as the other sent.
+    /// The next message that is whole at the side, taken out and stored, or the id of a message to no object. `None` exactly
+    /// where no whole message is unread there; where then nothing is on its way, the side has taken all that the other sent.
     ///
-    /// No message is ever refused. Where memory is wanted before the message is taken, nothing is changed; where it is wanted
-    /// behind that, the world is spent.
-    pub fn read<E: Arguments + Drop, R: Arguments + Drop>(
-        &mut self,
-        side: Side,
-    ) -> Result<Option<Received<E, R>>, NoMemory>
-        requires events { (E.events ≡ true) × (R.events ≡ false) }
+    /// No message is ever refused. `NoMemory` where memory is wanted: before a message was taken nothing is changed, behind
+    /// that the world is spent.
+    pub fn read(&mut self, side: Side) -> Result<Option<Received>, NoMemory>
         requires whole { self.old.spent ≡ false }
-        ensures ok { IfOk result (λ answer. AnswersAt side answer
-            (λ a. Answers E.target E.code E.values a self.new.client.backend (next true self.old.client.backend))
-            (λ a. Answers R.target R.code R.values a self.new.server.backend (next false self.old.server.backend))) }
+        ensures ok { IfOk result (λ answer. ReceivesAt side answer self.old self.new) }
         ensures stores { OnOk result (self.new ≡ read_world side self.old) }
-        ensures never_refused { IfOk result (λ answer. AnswersAt side answer NotRefused NotRefused) }
-        ensures all { result ≡ Ok None → AllDeliveredAt side self.old →
-            length (end_of side self.old).taken ≡ length (end_of (other_side side) self.old).sent }
-        ensures err { OnErr result ((self.new ≡ self.old) ⊎ IsSpentBy self.old self.new) }
+        ensures never_refused { IfOk result IsNeverRefused }
+        ensures all { result ≡ Ok None → AllDeliveredAt side self.old → HasTakenAll side self.old }
+        ensures err { OnErr result ((self.new ≡ self.old) ⊎ (self.new ≡ spent_world side self.old)) }
     {
         match side {
-            Side::Client => match self.read_client::<E>()? {
+            Side::Client => match self.read_client()? {
                 Some(answer) => Ok(Some(Received::Client(answer))),
                 None => Ok(None),
             },
-            Side::Server => match self.read_server::<R>()? {
+            Side::Server => match self.read_server()? {
                 Some(answer) => Ok(Some(Received::Server(answer))),
                 None => Ok(None),
             },
@@ -241,19 +242,16 @@ impl World {
     }
 
     /// The client takes its next message.
-    fn read_client<E: Arguments + Drop>(
-        &mut self,
-    ) -> Result<Option<PendingRequestResult<E>>, NoMemory>
-        requires events { E.events ≡ true }
+    fn read_client(&mut self) -> Result<Option<PendingRequestResult<ei_client::Event>>, NoMemory>
         requires whole { self.old.spent ≡ false }
-        ensures ok { IfOk result (λ a. Answers E.target E.code E.values a self.new.client.backend (next true self.old.client.backend)) }
+        ensures ok { IfOk result (λ a. Answers event.target_of event.opcode_of event.values_of a self.new.client.backend
+            (next true self.old.client.backend)) }
         ensures stores { OnOk result (self.new ≡ read_world side.Client self.old) }
         ensures never_refused { IfOk result NotRefused }
-        ensures all { result ≡ Ok None → AllDeliveredAt side.Client self.old →
-            length (end_of side.Client self.old).taken ≡ length (end_of side.Server self.old).sent }
-        ensures err { OnErr result ((self.new ≡ self.old) ⊎ IsSpentBy self.old self.new) }
+        ensures all { result ≡ Ok None → AllDeliveredAt side.Client self.old → HasTakenAll side.Client self.old }
+        ensures err { OnErr result ((self.new ≡ self.old) ⊎ (self.new ≡ spent_world side.Client self.old)) }
     {
-        match self.client.read::<E>(self.alloc, true) {
+        match self.client.read::<ei_client::Event>(self.alloc, true) {
             Ok(answer) => Ok(answer),
             Err(HalfError::NoMemory) => Err(NoMemory),
             Err(HalfError::Spent) => {
@@ -264,19 +262,16 @@ impl World {
     }
 
     /// The server takes its next message.
-    fn read_server<R: Arguments + Drop>(
-        &mut self,
-    ) -> Result<Option<PendingRequestResult<R>>, NoMemory>
-        requires requests { R.events ≡ false }
+    fn read_server(&mut self) -> Result<Option<PendingRequestResult<ei_server::Request>>, NoMemory>
         requires whole { self.old.spent ≡ false }
-        ensures ok { IfOk result (λ a. Answers R.target R.code R.values a self.new.server.backend (next false self.old.server.backend)) }
+        ensures ok { IfOk result (λ a. Answers request.target_of request.opcode_of request.values_of a self.new.server.backend
+            (next false self.old.server.backend)) }
         ensures stores { OnOk result (self.new ≡ read_world side.Server self.old) }
         ensures never_refused { IfOk result NotRefused }
-        ensures all { result ≡ Ok None → AllDeliveredAt side.Server self.old →
-            length (end_of side.Server self.old).taken ≡ length (end_of side.Client self.old).sent }
-        ensures err { OnErr result ((self.new ≡ self.old) ⊎ IsSpentBy self.old self.new) }
+        ensures all { result ≡ Ok None → AllDeliveredAt side.Server self.old → HasTakenAll side.Server self.old }
+        ensures err { OnErr result ((self.new ≡ self.old) ⊎ (self.new ≡ spent_world side.Server self.old)) }
     {
-        match self.server.read::<R>(self.alloc, false) {
+        match self.server.read::<ei_server::Request>(self.alloc, false) {
             Ok(answer) => Ok(answer),
             Err(HalfError::NoMemory) => Err(NoMemory),
             Err(HalfError::Spent) => {

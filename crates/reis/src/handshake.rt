@@ -1,4 +1,7 @@
-//! The handshake of a server. That of a client isn't built yet.
+//! The handshake of a client, event by event, and that of a server.
 
-pub use ei_handshake::{EisHandshakeResp, EisHandshaker, Versions, request_result};
+pub use ei_blocking::ei_handshake_blocking;
+pub use ei_handshake::{
+    EiHandshaker, EisHandshakeResp, EisHandshaker, HandshakeResp, Versions, request_result,
+};
 pub use ei_types::HandshakeError;

@@ -46,13 +46,13 @@ impl<'a> Cut<'a> {
 }
 
 impl Source for Cut<'_> {
-    ghost left = { λ _. None };
-
-    ghost given = { λ s. s.given.pieces };
-
-    ghost faults = { λ _. 0 };
-
-    ghost last = { λ s. s.last };
+    ghost view = { λ s. record {
+      left = None;
+      given = s.given.pieces;
+      faults = 0;
+      asked = 18446744073709551615;
+      last = s.last;
+    } };
 
     ghost later = { λ _ _. Unit {0} };
 
@@ -89,11 +89,7 @@ pub(crate) struct Dropped {
 }
 
 impl Sink for Dropped {
-    ghost taken = { λ _. None };
-
-    ghost faults = { λ _. 0 };
-
-    ghost wants = { λ _. 0 };
+    ghost view = { λ _. record { taken = None; puts = None; faults = 0; wants = 0 } };
 
     ghost later = { λ _ _. Unit {0} };
 

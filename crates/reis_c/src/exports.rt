@@ -50,7 +50,8 @@ pub extern "C" fn reis_c_start(
     // which answer it is
     ensures there { (result ≡ number.HAS_SESSION) ↔ IsSome session.old.held }
     ensures lawless { (result ≡ number.CAPABILITIES) ↔ ((session.old.held ≡ None) × (all_bits < capabilities)) }
-    ensures which { (result ≡ number.OK) ⊎ (result ≡ number.NO_MEMORY) ⊎ (result ≡ number.HAS_SESSION) ⊎ (result ≡ number.CAPABILITIES) }
+    ensures which { (result ≡ number.OK) ⊎ (result ≡ number.NO_MEMORY) ⊎ (result ≡ number.HAS_SESSION) ⊎
+        (result ≡ number.CAPABILITIES) }
 {
     if let Some(held) = session.take(alloc) {
         session.put(held);
@@ -161,7 +162,8 @@ pub extern "C" fn reis_c_request_text(
     text: &mut [u8],
     length: &mut usize,
 ) -> u32
-    ensures written { ReadsSession session.old.held result session.new.held (λ held. Writes (last_text held) text.old result length.new text.new) }
+    ensures written { ReadsSession session.old.held result session.new.held
+        (λ held. Writes (last_text held) text.old result length.new text.new) }
     ensures none { result ≡ number.NO_SESSION → (length.new ≡ 0) × (text.new ≡ text.old) }
 {
     *length = 0;
@@ -218,8 +220,10 @@ pub extern "C" fn reis_c_end_text(
     text: &mut [u8],
     length: &mut usize,
 ) -> u32
-    ensures written { ReadsSession session.old.held result session.new.held (λ held. WritesMade (ending_text held) text.old result length.new text.new) }
-    ensures none { (result ≡ number.NO_SESSION) ⊎ (result ≡ number.NO_MEMORY) → (length.new ≡ 0) × (text.new ≡ text.old) }
+    ensures written { ReadsSession session.old.held result session.new.held
+        (λ held. WritesMade (ending_text held) text.old result length.new text.new) }
+    ensures none { (result ≡ number.NO_SESSION) ⊎ (result ≡ number.NO_MEMORY) → (length.new ≡ 0) ×
+        (text.new ≡ text.old) }
 {
     *length = 0;
     on_session!(session, alloc, |held| held.end_text(alloc, text, length))

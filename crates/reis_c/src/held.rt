@@ -43,7 +43,8 @@ fn start_server(
     pieces: u32,
 ) -> Result<Server, Error>
     requires lawful { bits_of capabilities ≤ all_bits }
-    ensures { IfOk result (λ server. IsServing (setup_for initial_serial (bits_of capabilities) pieces) [] nothing [] server × (server.answer ≡ None)) }
+    ensures { IfOk result (λ server. IsServing
+        (setup_for initial_serial (bits_of capabilities) pieces) [] nothing [] server × (server.answer ≡ None)) }
 {
     if pieces == NO_LIMIT {
         return Server::start_unlimited(alloc, initial_serial, capabilities);
@@ -70,7 +71,8 @@ impl Held {
         pieces: u32,
     ) -> Option<Box<Held>>
         requires lawful { bits_of capabilities ≤ all_bits }
-        ensures { IfSome result (λ held. IsStarted (setup_for initial_serial (bits_of capabilities) pieces) held.value) }
+        ensures { IfSome result (λ held. IsStarted
+            (setup_for initial_serial (bits_of capabilities) pieces) held.value) }
     {
         let server = start_server(alloc, initial_serial, capabilities, pieces).ok()?;
         Box::new(alloc, Held { server, last: None }).ok()
@@ -101,7 +103,8 @@ impl Held {
 
     /// Tells who the client is.
     pub(crate) fn client(&self, context_type: &mut u32, room: &mut [u8], length: &mut usize) -> u32
-        ensures { TellsClient (connection_of_server self.now.server) room.old result context_type.new length.new room.new }
+        ensures { TellsClient
+            (connection_of_server self.now.server) room.old result context_type.new length.new room.new }
     {
         match self.server.connection() {
             Some(connection) => {
@@ -149,8 +152,10 @@ impl Held {
 
     /// Writes the text of the error that ended the session.
     pub(crate) fn end_text(&self, alloc: Global, room: &mut [u8], length: &mut usize) -> u32
-        ensures written { result ≢ NO_MEMORY → Writes (end_text self.now.server.answer) room.old result length.new room.new }
-        ensures memory { result ≡ NO_MEMORY → IsSome (end_text self.now.server.answer) × (length.new ≡ 0) × (room.new ≡ room.old) }
+        ensures written { result ≢ NO_MEMORY → Writes
+            (end_text self.now.server.answer) room.old result length.new room.new }
+        ensures memory { result ≡ NO_MEMORY → IsSome (end_text self.now.server.answer) × (length.new ≡ 0) ×
+            (room.new ≡ room.old) }
     {
         *length = 0;
         let Some(Err(error)) = self.server.answer() else {

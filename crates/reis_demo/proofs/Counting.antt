@@ -111,11 +111,14 @@ coded_count past (r ∷ rs) =
 
 -- ---- together
 
+-- as many requests come, whatever the readings are
+pub same_number : (setup : Setup) (readings : List ℕ) (messages : List Raw) → length (framed setup readings messages) ≡ length (framed setup [] messages)
+same_number setup readings messages = same_length is_input (framed setup readings messages) (framed setup [] messages) (same_kinds setup readings messages)
+
 -- as many requests are kept as the messages give
 pub requests_kept : (setup : Setup) (readings : List ℕ) (past messages : List Raw) → length (map (request_in_code past) (framed setup readings messages)) ≡ length (framed setup [] messages)
 requests_kept setup readings past messages =
-    length-map (framed setup readings messages) (request_in_code past)
-    ∙ same_length is_input (framed setup readings messages) (framed setup [] messages) (same_kinds setup readings messages)
+    length-map (framed setup readings messages) (request_in_code past) ∙ same_number setup readings messages
 
 -- and as many of them are inputs
 pub inputs_kept : (setup : Setup) (readings : List ℕ) (past messages : List Raw) → count_by is_input_request (map (request_in_code past) (framed setup readings messages)) ≡ count_by is_input (framed setup [] messages)

@@ -5,7 +5,8 @@ use Rattle.ei_session.specs.Served.{Disconnect}
 use Rattle.ei_serve.specs.declared.session.Ended.{Ended}
 use Rattle.ei_serve.specs.declared.session.Ended.TheVariants as ended
 use Rattle.ei_serve.specs.Refusing.{refusal_of, IsRefused}
-use Rattle.ei_serve.specs.Serving.{AnswersAs, IsDecided}
+use Rattle.ei_serve.specs.Serving.{AnswersAs}
+use Rattle.ei_types.specs.Decided.{IsDecided}
 use Rattle.ei_types.specs.declared.error.Error.{Error}
 use Rattle.ei_types.specs.declared.error.Error.TheVariants as error
 

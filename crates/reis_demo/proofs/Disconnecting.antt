@@ -1,4 +1,4 @@
--- The session over the generated stream ends with its disconnect.
+-- The session over the generated stream handles all its messages, and ends with its disconnect.
 use Rattle.std.proofs.Common.{◌≡◌, ℕ, zero, suc, ◌+◌, ◌^◌, ◌<◌, ◌≤◌, Bool, true, false, not, ltb, List, [], ◌∷◌, ◌++◌, map, length, take, drop}
 use Rattle.std.proofs.Common.{Option, Some, None, refl, sym, ap, ◌∙◌, arith}
 use Rattle.std.specs.Int.{div_ceil}
@@ -13,7 +13,7 @@ use Rattle.ei_spec.proofs.Cuts.{front_none}
 use Rattle.ei_spec.proofs.FrontLaws.{front_again}
 use Rattle.ei_spec.proofs.GoesOn as goes_on
 use Rattle.ei_session.specs.Refusals.{Refusal, judge}
-use Rattle.ei_session.specs.Served.{Disconnect, reading_of, read_first, ran_out, is_waiting, is_over, over_at, answer_of, least, too_many_handles}
+use Rattle.ei_session.specs.Served.{Disconnect, reading_of, read_first, ran_out, is_waiting, is_over, over_at, answer_at, least, too_many_handles}
 use Rattle.ei_session.specs.Served.{Outcome, session}
 use Rattle.reis_demo.specs.Generated.{demo_setup, piece_at, cut, groups_from, opening, disconnect_message, generated_messages, generated_bytes, generated}
 use Rattle.reis_demo.proofs.CutLaws.{joined_again}
@@ -23,7 +23,7 @@ use Rattle.reis_demo.proofs.StreamLength.{stream_short}
 -- ---- the reading of the whole stream
 
 -- the messages before the end, the newest first
-abbrev before_end : ℕ → ℕ → List Raw
+abbrev pub before_end : ℕ → ℕ → List Raw
 before_end groups start = onto (groups_from groups 1 start) (onto opening [])
 
 whole_read : (groups start : ℕ) → 1 + groups ≤ 2 ^ 64 → read (judge demo_setup) [] (generated_bytes groups start) ≡ reading (disconnect_message ∷ before_end groups start) [] Ended
@@ -78,6 +78,10 @@ least_fails test (suc n) k h = by (test k) refl h (least_fails test n (k + 1))
 
 -- ---- more pieces change neither the messages nor the stop, once reading stopped for good
 
+-- the outcome of a reading
+abbrev outcome_of : Reading Refusal → Outcome
+outcome_of r = record { handled = r.past; answer = answer_at r }
+
 kept_at : (s : Stop Refusal) (past : List Raw) (rest more : List ℕ) → is_waiting s ≡ false → go_on (judge demo_setup) (reading past rest s) more ≡ reading past (rest ++ more) s
 unfolding go_on
 kept_at Waiting past rest more w = absurd cc
@@ -85,12 +89,11 @@ kept_at Ended past rest more w = refl
 kept_at (HeaderLength n) past rest more w = refl
 kept_at (RefusedStop e) past rest more w = refl
 
-stays : (bytes more : List ℕ) → is_waiting (reading_of demo_setup bytes).stop ≡ false →
-    answer_of (reading_of demo_setup (bytes ++ more)).stop (reading_of demo_setup (bytes ++ more)).past ≡ answer_of (reading_of demo_setup bytes).stop (reading_of demo_setup bytes).past
+stays : (bytes more : List ℕ) → is_waiting (reading_of demo_setup bytes).stop ≡ false → outcome_of (reading_of demo_setup (bytes ++ more)) ≡ outcome_of (reading_of demo_setup bytes)
 unfolding reading_of
 stays bytes more w =
     let r = read (judge demo_setup) [] bytes in
-    ap (λ (x : Reading Refusal). answer_of x.stop x.past) (goes_on.cut (judge demo_setup) [] bytes more ∙ kept_at r.stop r.past r.rest more w)
+    ap outcome_of (goes_on.cut (judge demo_setup) [] bytes more ∙ kept_at r.stop r.past r.rest more w)
 
 stream_append : (a b : List Piece) → stream (a ++ b) ≡ stream a ++ stream b
 unfolding stream
@@ -106,7 +109,7 @@ nothing_ends pieces h =
 -- ---- pieces without handles, whose reading ends
 
 module _ (pieces : List Piece) (few : length pieces ≤ 4294967295) (none : (k : ℕ) → handle_count (take k pieces) ≡ 0)
-    (ends : is_waiting (reading_of demo_setup (stream pieces)).stop ≡ false) (disconnects : answer_of (reading_of demo_setup (stream pieces)).stop (reading_of demo_setup (stream pieces)).past ≡ Disconnect) where
+    (ends : is_waiting (reading_of demo_setup (stream pieces)).stop ≡ false) where
   few_at : (j : ℕ) → j ≤ length pieces → ltb demo_setup.pieces j ≡ false
   few_at j le = le-ltb demo_setup.pieces j (omega (arith, few))
 
@@ -118,17 +121,15 @@ module _ (pieces : List Piece) (few : length pieces ≤ 4294967295) (none : (k :
   unfolding is_over
   over_by j w le e = rw (few_at j le, handles_at j, e) refl
 
-  answered_at : (j : ℕ) → j ≤ length pieces → (over_at demo_setup pieces j).answer ≡ answer_of (read_first demo_setup pieces j).stop (read_first demo_setup pieces j).past
+  over_with : (j : ℕ) → j ≤ length pieces → over_at demo_setup pieces j ≡ outcome_of (read_first demo_setup pieces j)
   unfolding over_at
-  answered_at j le = rw (few_at j le, handles_at j) refl
+  over_with j le = rw (few_at j le, handles_at j) refl
 
-  same_answer : (j : ℕ) → is_waiting (read_first demo_setup pieces j).stop ≡ false → answer_of (read_first demo_setup pieces j).stop (read_first demo_setup pieces j).past ≡ Disconnect
+  same_outcome : (j : ℕ) → is_waiting (read_first demo_setup pieces j).stop ≡ false → outcome_of (read_first demo_setup pieces j) ≡ outcome_of (reading_of demo_setup (stream pieces))
   unfolding read_first
-  same_answer j w =
+  same_outcome j w =
       let whole : stream (take j pieces) ++ stream (drop j pieces) ≡ stream pieces = sym (stream_append (take j pieces) (drop j pieces)) ∙ ap stream (take-append-drop j pieces) in
-      sym (stays (stream (take j pieces)) (stream (drop j pieces)) w)
-      ∙ ap (λ (x : List ℕ). answer_of (reading_of demo_setup x).stop (reading_of demo_setup x).past) whole
-      ∙ disconnects
+      sym (stays (stream (take j pieces)) (stream (drop j pieces)) w) ∙ ap (λ (x : List ℕ). outcome_of (reading_of demo_setup x)) whole
 
   last_read : is_waiting (read_first demo_setup pieces (length pieces)).stop ≡ false
   unfolding read_first
@@ -138,21 +139,21 @@ module _ (pieces : List Piece) (few : length pieces ≤ 4294967295) (none : (k :
   stops_at j true le e over = absurd (let q : false ≡ true = sym (over_by j true le e) ∙ over in cc)
   stops_at j false le e over = refl
 
-  by_least : (o : Option ℕ) (n : ℕ) → length pieces ≡ suc n → least (is_over demo_setup pieces) 1 (length pieces) ≡ o → (session demo_setup pieces).answer ≡ Disconnect
+  by_least : (o : Option ℕ) (n : ℕ) → length pieces ≡ suc n → least (is_over demo_setup pieces) 1 (length pieces) ≡ o → session demo_setup pieces ≡ outcome_of (reading_of demo_setup (stream pieces))
   unfolding session
   by_least (Some m) n some e =
       let l = least_holds (is_over demo_setup pieces) (length pieces) 1 m e in
       let within : m ≤ length pieces = omega (arith, l.2) in
       let w = stops_at m (is_waiting (read_first demo_setup pieces m).stop) within refl l.0 in
       let outcome : session demo_setup pieces ≡ over_at demo_setup pieces m = rw (e, session) refl in
-      ap (λ (o : Outcome). o.answer) outcome ∙ answered_at m within ∙ same_answer m w
+      outcome ∙ over_with m within ∙ same_outcome m w
   by_least None n some e =
       let last : is_over demo_setup pieces (1 + n) ≡ false = least_fails (is_over demo_setup pieces) n 1 (ap (least (is_over demo_setup pieces) 1) (sym some) ∙ e) in
       let over : is_over demo_setup pieces (length pieces) ≡ true = over_by (length pieces) false (omega arith) last_read in
       let same : 1 + n ≡ length pieces = omega (arith, some) in
       absurd (let q : true ≡ false = sym over ∙ ap (is_over demo_setup pieces) (sym same) ∙ last in cc)
 
-  by_length : (n : ℕ) → length pieces ≡ n → (session demo_setup pieces).answer ≡ Disconnect
+  by_length : (n : ℕ) → length pieces ≡ n → session demo_setup pieces ≡ outcome_of (reading_of demo_setup (stream pieces))
   by_length zero e =
       let same : take 0 pieces ≡ pieces = take_all 0 pieces (omega (arith, e)) in
       absurd (nothing_ends pieces (ap (λ (ps : List Piece). is_waiting (reading_of demo_setup (stream ps)).stop) same ∙ ends))
@@ -174,10 +175,10 @@ cut_handles : (size : ℕ) (bytes : List ℕ) (k : ℕ) → handle_count (take k
 unfolding cut
 cut_handles size bytes k = no_handles size bytes _ k
 
--- of any number of groups that fits four bytes, and any first number
-pub ends_by_disconnect : (groups start : ℕ) → groups < 2 ^ 32 → (session demo_setup (generated groups start)).answer ≡ Disconnect
+-- of any number of groups that fits four bytes, and any first number: all messages are handled
+pub all_handled : (groups start : ℕ) → groups < 2 ^ 32 → session demo_setup (generated groups start) ≡ record { handled = disconnect_message ∷ before_end groups start; answer = Disconnect }
 unfolding reading_of
-ends_by_disconnect groups start small =
+all_handled groups start small =
     let bytes = generated_bytes groups start in
     let pieces = cut 4096 bytes in
     let joined : stream pieces ≡ bytes = joined_again 4096 bytes (omega arith) in
@@ -185,6 +186,10 @@ ends_by_disconnect groups start small =
     let short = stream_short groups start in
     let times = div_ceil_times (length bytes) 4096 (omega arith) in
     let count = few_pieces 4096 bytes in
-    by_length pieces (omega (arith, short, times.1, count, small)) (cut_handles 4096 bytes) (ap (λ (r : Reading Refusal). is_waiting r.stop) whole)
-    (ap (λ (r : Reading Refusal). answer_of r.stop r.past) whole ∙ rw (ids_last groups start (omega (arith, small))) refl)
-    (length pieces) refl
+    by_length pieces (omega (arith, short, times.1, count, small)) (cut_handles 4096 bytes) (ap (λ (r : Reading Refusal). is_waiting r.stop) whole) (length pieces) refl
+    ∙ ap outcome_of whole
+    ∙ rw (ids_last groups start (omega (arith, small))) refl
+
+-- and it ends with the disconnect
+pub ends_by_disconnect : (groups start : ℕ) → groups < 2 ^ 32 → (session demo_setup (generated groups start)).answer ≡ Disconnect
+ends_by_disconnect groups start small = ap (λ (o : Outcome). o.answer) (all_handled groups start small)

@@ -17,7 +17,7 @@ use Rattle.ei_serve.specs.declared.session.Turn.TheVariants as turn
 use Rattle.ei_serve.specs.declared.state.SessionState.{SessionState}
 use Rattle.ei_serve.specs.Around.{Around}
 use Rattle.ei_serve.specs.Causes.{RefusesToStart}
-use Rattle.ei_serve.specs.Serving.{IsDecided}
+use Rattle.ei_types.specs.Decided.{IsDecided}
 use Rattle.ei_serve.specs.Refusing.{refusal_of}
 use Rattle.ei_serve.specs.Steps.{GivesOut, Goes, GoesInPart}
 use Rattle.ei_serve.specs.Turning.{Closes, ClosesRefused, Finds, Stays, BreaksOff, Turns}
@@ -65,6 +65,8 @@ module _ (setup : Setup) (pieces : List Piece) (times : List ℕ) (t : SessionSt
     replies = g.replies;
     drawn = g.drawn;
     leaves = g.leaves;
+    least = g.least;
+    most = g.most;
   }
 
   closes_behind : (answer : Answer) → Closes setup pieces times answer y z → Closes setup pieces times answer start finish
@@ -81,7 +83,7 @@ module _ (setup : Setup) (pieces : List Piece) (times : List ℕ) (t : SessionSt
   stays_behind h = record {
     keeps = h.keeps;
     out = ap (λ (l : List EisRequest). all ++ l) (h.out ∙ none) ∙ append-nil all;
-    took = h.took;
+    sink = h.sink;
     readings = h.readings;
   }
 

@@ -10,7 +10,7 @@ use Rattle.ei_session.specs.Events.{replies}
 use Rattle.ei_session.specs.Served.{session}
 use Rattle.ei_request.specs.declared.event.EisRequest.{EisRequest}
 use Rattle.ei_serve.specs.declared.session.Ended.{Ended}
-use Rattle.ei_serve.specs.Serving.{HandsOut, Replied}
+use Rattle.ei_serve.specs.Serving.{HandsOut}
 use Rattle.ei_types.specs.declared.error.Error.{Error}
 use Rattle.reis_demo.specs.Generated.{demo_setup, cut, generated, generated_bytes}
 use Rattle.reis_demo.specs.Summary.{is_input, is_input_request, six_lines, demo_lines}
@@ -31,13 +31,17 @@ empty = record { bytes = []; handles = [] }
 bytes_of_some : (p q : Piece) → Some p ≡ Some q → p.bytes ≡ q.bytes
 bytes_of_some p q e = let same : p ≡ q = cc in ap (λ (x : Piece). x.bytes) same
 
-replies_told : (past : List Raw) (after : Piece) → Replied demo_setup past (Some empty) (Some after) → length after.bytes ≡ length (all_bytes (replies demo_setup past))
+-- a tray that held the first piece holds the second, with the replies to the messages behind it
+abbrev Answered : Setup → List Raw → Piece → Piece → Type 0
+Answered setup past before after = (held : Piece) → Some before ≡ Some held → Some after ≡ Some (with_more (all_bytes (replies setup past)) [] held)
+
+replies_told : (past : List Raw) (after : Piece) → Answered demo_setup past empty after → length after.bytes ≡ length (all_bytes (replies demo_setup past))
 replies_told past after h = ap (λ (x : List ℕ). length x) (bytes_of_some after (with_more (all_bytes (replies demo_setup past)) [] empty) (h empty refl))
 
 -- what a session over a stream gave, where it took an empty list and an empty tray
 pub record Gave (s : Setup) (pieces : List Piece) (readings : Option (List ℕ)) (old out : List EisRequest) (before after : Piece) : Type 0 where
   pub requests : HandsOut s (session s pieces).handled readings old out
-  pub replied : Replied s (session s pieces).handled (Some before) (Some after)
+  pub replied : Answered s (session s pieces).handled before after
   pub none : old ≡ []
   pub nothing : before ≡ empty
 

@@ -20,7 +20,7 @@ pub record Counts (came : List EisRequest) (tally : Tally) : Type 0 where
 
 -- what stands around a session that handed these requests out
 abbrev pub handing : List EisRequest → Around → Around
-handing came a = around a.source came a.took a.readings
+handing came a = around a.source came a.sink a.readings
 
 -- A turn of a session did what the definitions say, behind these requests, and those that it handed out were counted too.
 pub record TurnsCounted (setup : Setup) (pieces : List Piece) (times : List ℕ) (came : List EisRequest) (result : Result Turn Error) (s : SessionState) (tally : Tally) (old new : Around) : Type 0 where

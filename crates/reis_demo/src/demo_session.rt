@@ -4,7 +4,8 @@ ghost use Rattle.std.specs.Prelude.{◌≡◌, IfOk, OnOk, Ok};
 ghost use Rattle.ei_backend.specs.Lent.{LentClock};
 ghost use Rattle.ei_serve.specs.Standing.{setup_of};
 ghost use Rattle.ei_serve.specs.declared.session.Ended.TheVariants as ended;
-ghost use Rattle.ei_serve.specs.Serving.{AnswersAs, IsDecided, LeftReadings};
+ghost use Rattle.ei_serve.specs.Serving.{AnswersAs, LeftReadings};
+ghost use Rattle.ei_types.specs.Decided.{IsDecided};
 ghost use Rattle.reis_demo.specs.Generated.{demo_setup};
 ghost use Rattle.reis_demo.specs.Summary.{demo_session, demo_lines};
 
@@ -55,7 +56,8 @@ pub fn demo<C: Clock>(
     ensures answer { IfOk result (λ summary. AnswersAs (demo_session groups start).answer summary.answer) }
     ensures decided { IfOk result (λ summary. IsDecided summary.answer) }
     ensures disconnects { IfOk result (λ summary. summary.answer ≡ Ok ended.Disconnect) }
-    ensures readings { OnOk result (LeftReadings demo_setup (demo_session groups start).handled (C.readings clock.old) (C.readings clock.new)) }
+    ensures readings { OnOk result (LeftReadings demo_setup (demo_session groups start).handled (C.view clock.old).left
+        (C.view clock.new).left) }
     ensures clock { LentClock C.later clock.old clock.new }
 {
     let mut source = Generated::new(alloc, groups, start)?;

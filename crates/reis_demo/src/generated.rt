@@ -3,10 +3,10 @@
 ghost use Rattle.std.specs.Prelude.{◌≡◌, ◌≤◌, ◌+◌, [], Some, take, drop, length, min, vec_len, vec_capacity, IfOk, IsOk};
 ghost use Rattle.ei_spec.specs.Message.{all_bytes};
 ghost use Rattle.ei_spec.specs.declared.limits.TheConstants.{MOST_PIECE_BYTES, MOST_PIECE_HANDLES};
-ghost use Rattle.ei_backend.specs.Outside.{IsPieceSize, TakesTold, GivesPiece, given_with, HasCause, last_of};
+ghost use Rattle.ei_backend.specs.Outside.{IsPieceSize, IsTake, given_with};
 ghost use Rattle.ei_backend.specs.declared.outside.LastAnswer.TheVariants as answers;
-ghost use Rattle.reis_demo.specs.Generated.{cut, generated_bytes};
-ghost use Rattle.reis_demo.specs.Script.{StreamView, unsaid};
+ghost use Rattle.reis_demo.specs.Generated.{generated_bytes};
+ghost use Rattle.reis_demo.specs.Script.{StreamView, unsaid, stream_of};
 
 use crate::opening::opening;
 use crate::script::{GROUP_BYTES, Script};
@@ -58,7 +58,8 @@ impl Generated {
     ///
     /// `NoMemory` where there is none for its buffer.
     pub fn new(alloc: Global, groups: u32, start: u32) -> Result<Generated, NoMemory>
-        ensures { IfOk result (λ s. s ≡ record { left = generated_bytes groups start; given = []; last = answers.Nothing }) }
+        ensures { IfOk result
+            (λ s. s ≡ record { left = generated_bytes groups start; given = []; last = answers.Nothing }) }
     {
         Ok(Generated {
             script: Script::new(groups, start),
@@ -92,7 +93,8 @@ fn drop_front(waiting: &mut Vec<u8>, count: usize)
 fn hand_out(waiting: &mut Vec<u8>, count: usize, bytes: &mut [u8], given: &mut GivenPieces)
     requires within { count ≤ vec_len waiting.old }
     requires room { count ≤ length bytes.old }
-    ensures given { given.new.pieces ≡ given_with given.old.pieces count (record { bytes = take count bytes.new; handles = [] }) }
+    ensures given { given.new.pieces ≡ given_with given.old.pieces count
+        (record { bytes = take count bytes.new; handles = [] }) }
     ensures bytes { take count bytes.new ≡ take count waiting.old.items }
     ensures left { waiting.new.items ≡ drop count waiting.old.items }
     ensures capacity { vec_capacity waiting.new ≡ vec_capacity waiting.old }
@@ -105,13 +107,7 @@ fn hand_out(waiting: &mut Vec<u8>, count: usize, bytes: &mut [u8], given: &mut G
 }
 
 impl Source for Generated {
-    ghost left = { λ s. Some (cut 4096 s.left) };
-
-    ghost given = { λ s. s.given };
-
-    ghost faults = { λ _. 0 };
-
-    ghost last = { λ s. s.last };
+    ghost view = { stream_of };
 
     ghost later = { λ _ _. Unit {0} };
 
@@ -123,10 +119,7 @@ impl Source for Generated {
         requires room { MOST_PIECE_BYTES ≤ length bytes.old }
         requires handle_room { MOST_PIECE_HANDLES ≤ length _handles.old }
         ensures size { IfOk result IsPieceSize }
-        ensures pieces { TakesTold (Some (cut 4096 self.old.left)) (Some (cut 4096 self.new.left)) result bytes.new _handles.new }
-        ensures given { GivesPiece self.old.given self.new.given result bytes.new _handles.new }
-        ensures cause { HasCause 0 0 result }
-        ensures last { self.new.last ≡ last_of result }
+        ensures takes { IsTake (stream_of self.old) (stream_of self.new) result bytes.new _handles.new }
         // beyond the trait's: it never fails, and what is left
         ensures ok { IsOk result }
         ensures left { self.new.left ≡ drop 4096 self.old.left }

@@ -65,7 +65,8 @@ pub(crate) fn six_lines(
     answer: &Result<Ended, Error>,
 ) -> Result<Vec<u8>, NoMemory>
     ensures { IfOk result (λ text. text.items ≡
-        six_lines counts.now.groups counts.now.tally.inputs counts.now.tally.requests counts.now.bytes_in counts.now.bytes_out answer.now) }
+        six_lines counts.now.groups counts.now.tally.inputs counts.now.tally.requests counts.now.bytes_in
+        counts.now.bytes_out answer.now) }
 {
     let mut out = Vec::new(alloc);
     push_number(alloc, &mut out, "groups", u128::from(counts.groups))?;

@@ -56,7 +56,8 @@ fn push_message(
     args: &[Arg<'_>],
 ) -> Result<(), NoMemory>
     requires { length (args_body args.now) ≤ 1000 }
-    ensures ok { OnOk result (out.new.items ≡ out.old.items ++ bytes_of (message object_id opcode (map value_of_arg args.now))) }
+    ensures ok { OnOk result (out.new.items ≡ out.old.items ++
+        bytes_of (message object_id opcode (map value_of_arg args.now))) }
     ensures capacity { vec_capacity out.old ≤ vec_capacity out.new }
 {
     let header = Header {
@@ -125,7 +126,8 @@ fn own_interfaces() -> [(&'static str, u32); 12]
 
 /// Appends the announcements of the client's interfaces: those of a connection, and then those of a device.
 fn push_announcements(alloc: Global, out: &mut Vec<u8>) -> Result<(), NoMemory>
-    ensures ok { OnOk result (out.new.items ≡ out.old.items ++ all_bytes (objects_announced ++ capabilities_announced)) }
+    ensures ok { OnOk result (out.new.items ≡ out.old.items ++
+        all_bytes (objects_announced ++ capabilities_announced)) }
     ensures capacity { vec_capacity out.old ≤ vec_capacity out.new }
 {
     let interfaces = own_interfaces();

@@ -1,7 +1,8 @@
 //! The sink of the replies.
 
 ghost use Rattle.std.specs.Prelude.{◌≡◌, [], length, Some, IfOk};
-ghost use Rattle.ei_backend.specs.Outside.{HasPutCause, HasPutWant, Puts, IsPutSize};
+ghost use Rattle.ei_backend.specs.Memory.{sink_of};
+ghost use Rattle.ei_backend.specs.Outside.{IsPut, IsPutSize};
 
 use ei_backend::{PutError, Sink, Tray};
 use ei_spec::Handle;
@@ -32,11 +33,7 @@ impl Replies {
 }
 
 impl Sink for Replies {
-    ghost taken = { λ s. Some s.tray.held };
-
-    ghost faults = { λ _. 0 };
-
-    ghost wants = { λ s. s.tray.wants };
+    ghost view = { λ s. record (sink_of s.tray) { faults = 0 } };
 
     ghost later = { λ _ _. Unit {0} };
 
@@ -46,9 +43,8 @@ impl Sink for Replies {
 
     fn put(&mut self, bytes: &[u8], handles: &[Handle]) -> Result<usize, PutError>
         ensures size { IfOk result (λ n. IsPutSize n bytes.now) }
-        ensures taken { Puts (Some self.old.tray.held) (Some self.new.tray.held) result bytes.now handles.now }
-        ensures cause { HasPutCause 0 0 result }
-        ensures want { HasPutWant self.old.tray.wants self.new.tray.wants result }
+        ensures puts { IsPut (record (sink_of self.old.tray) { faults = 0 })
+            (record (sink_of self.new.tray) { faults = 0 }) result bytes.now handles.now }
     {
         self.tray.put(bytes, handles)
     }

@@ -100,7 +100,8 @@ fn push_header(out: &mut Vec<u8>, object_id: u64, length: u32, opcode: u32)
 #[tactic(auto, unfolding(ei_spec::specs::Message::bytes_of))]
 fn push_words(out: &mut Vec<u8>, object_id: u64, opcode: u32, first: u32, second: u32)
     requires { vec_len out.old + 24 ≤ vec_capacity out.old }
-    ensures bytes { out.new.items ≡ out.old.items ++ bytes_of (message object_id opcode (Word first ∷ Word second ∷ [])) }
+    ensures bytes { out.new.items ≡ out.old.items ++
+        bytes_of (message object_id opcode (Word first ∷ Word second ∷ [])) }
     ensures len { vec_len out.new ≡ vec_len out.old + 24 }
     ensures capacity { vec_capacity out.old ≤ vec_capacity out.new }
 {

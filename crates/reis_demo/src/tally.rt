@@ -4,12 +4,14 @@ ghost use Rattle.std.specs.Prelude.{◌≡◌, ◌≤◌, ◌+◌, ◌^◌, ℕ,
 ghost use Rattle.ei_types.specs.Capability.{bits_of, all_bits};
 ghost use Rattle.ei_types.specs.declared.error.Error.TheVariants as error;
 ghost use Rattle.ei_session.specs.Setup.{Setup as Started};
-ghost use Rattle.ei_backend.specs.Outside.{Piece, source_view};
+ghost use Rattle.ei_backend.specs.Outside.{Piece, SinkView};
 ghost use Rattle.ei_backend.specs.Lent.{LentSource, LentSink, LentClock};
 ghost use Rattle.ei_serve.specs.Around.{around};
 ghost use Rattle.ei_request.specs.declared.event.EisRequest.{EisRequest as Handed};
 ghost use Rattle.ei_serve.specs.Standing.{IsOver, Stands, setup_of};
-ghost use Rattle.ei_serve.specs.Serving.{ForPieces, IsDecided, IsSourceEnd, Replied};
+ghost use Rattle.ei_serve.specs.Serving.{IsSourceEnd, Replied};
+ghost use Rattle.ei_backend.specs.Pieces.{ForPieces};
+ghost use Rattle.ei_types.specs.Decided.{IsDecided};
 ghost use Rattle.reis_demo.specs.Summary.{is_input_request};
 ghost use Rattle.ei_serve.specs.Turning.{IsAtEnd};
 ghost use Rattle.reis_demo.specs.Tally.{Counts, ServesCounted, TurnsCounted};
@@ -66,15 +68,16 @@ fn count_turn<S: Source, K: Sink, C: Clock>(
     requires input_room { tally.old.inputs ≤ 2 ^ 127 }
     // behind any requests that were counted before
     ensures turns { (setup : Started) (pieces : List Piece) (times : List ℕ) (came : List Handed) →
-        Stands setup pieces times session.old → Counts came tally.old → TurnsCounted setup pieces times came result session.new tally.new
-        (around (source_view S.left S.given source.old) [] (K.taken sink.old) (C.readings clock.old))
-        (around (source_view S.left S.given source.new) [] (K.taken sink.new) (C.readings clock.new)) }
+        Stands setup pieces times session.old → Counts came tally.old →
+        TurnsCounted setup pieces times came result session.new tally.new
+        (around (S.view source.old) [] (K.view sink.old) (C.view clock.old).left)
+        (around (S.view source.new) [] (K.view sink.new) (C.view clock.new).left) }
     ensures none { requests.new.items ≡ [] }
     ensures few { tally.new.requests ≤ tally.old.requests + 2 ^ 64 }
     ensures few_inputs { tally.new.inputs ≤ tally.old.inputs + 2 ^ 64 }
     // what source, sink and clock say
-    ensures source { LentSource S.faults S.last S.later (IsErrOf result error.ReadFault) (IsAtEnd result) source.old source.new }
-    ensures sink { LentSink K.faults K.later (IsErrOf result error.WriteFault) sink.old sink.new }
+    ensures source { LentSource S.view S.later (IsErrOf result error.ReadFault) (IsAtEnd result) source.old source.new }
+    ensures sink { LentSink K.view K.later (IsErrOf result error.WriteFault) sink.old sink.new }
     ensures clock { LentClock C.later clock.old clock.new }
 {
     let answer = session.turn(source, sink, clock, requests);
@@ -97,12 +100,14 @@ pub(crate) fn serve_counted<S: Source, K: Sink, C: Clock>(
     requires lawful { bits_of setup.capabilities ≤ all_bits }
     requires none { Counts [] tally.old }
     ensures serves { IsDecided result →
-        ForPieces S.left S.given (IsSourceEnd result) source.old source.new (λ told left. ServesCounted (setup_of setup) told left result tally.new
-        (around (source_view S.left S.given source.old) [] (K.taken sink.old) (C.readings clock.old))
-        (around (source_view S.left S.given source.new) [] (K.taken sink.new) (C.readings clock.new))) }
+        ForPieces (IsSourceEnd result) (S.view source.old) (S.view source.new)
+        (λ told left. ServesCounted (setup_of setup) told left result tally.new
+        (around (S.view source.old) [] (K.view sink.old) (C.view clock.old).left)
+        (around (S.view source.new) [] (K.view sink.new) (C.view clock.new).left)) }
     // what source, sink and clock say
-    ensures source { LentSource S.faults S.last S.later (IsErrOf result error.ReadFault) (IsSourceEnd result) source.old source.new }
-    ensures sink { LentSink K.faults K.later (IsErrOf result error.WriteFault) sink.old sink.new }
+    ensures source { LentSource S.view S.later (IsErrOf result error.ReadFault)
+        (IsSourceEnd result) source.old source.new }
+    ensures sink { LentSink K.view K.later (IsErrOf result error.WriteFault) sink.old sink.new }
     ensures clock { LentClock C.later clock.old clock.new }
 {
     let mut session = Session::start(alloc, setup, sink)?;
@@ -123,14 +128,16 @@ fn count_turns<S: Source, K: Sink, C: Clock>(
 ) -> Result<Ended, Error>
     requires started { Stands (setup_of setup) [] [] session.old }
     requires none { Counts [] tally.old }
-    // where the sink has the greeting behind what it held before: the session that the definitions say
-    ensures serves { (before : Option Piece) → Replied (setup_of setup) [] before (K.taken sink.old) →
-        ForPieces S.left S.given (IsSourceEnd result) source.old source.new (λ told left. ServesCounted (setup_of setup) told left result tally.new
-        (around (source_view S.left S.given source.old) [] before (C.readings clock.old))
-        (around (source_view S.left S.given source.new) [] (K.taken sink.new) (C.readings clock.new))) }
+    // where the sink was greeted since it said this: the session that the definitions say
+    ensures serves { (before : SinkView) → Replied (setup_of setup) [] before (K.view sink.old) →
+        ForPieces (IsSourceEnd result) (S.view source.old) (S.view source.new)
+        (λ told left. ServesCounted (setup_of setup) told left result tally.new
+        (around (S.view source.old) [] before (C.view clock.old).left)
+        (around (S.view source.new) [] (K.view sink.new) (C.view clock.new).left)) }
     // what source, sink and clock say
-    ensures source { LentSource S.faults S.last S.later (IsErrOf result error.ReadFault) (IsSourceEnd result) source.old source.new }
-    ensures sink { LentSink K.faults K.later (IsErrOf result error.WriteFault) sink.old sink.new }
+    ensures source { LentSource S.view S.later (IsErrOf result error.ReadFault)
+        (IsSourceEnd result) source.old source.new }
+    ensures sink { LentSink K.view K.later (IsErrOf result error.WriteFault) sink.old sink.new }
     ensures clock { LentClock C.later clock.old clock.new }
 {
     let mut requests = Vec::new(alloc);

@@ -23,6 +23,7 @@ pub fn one_group()
     ensures inputs { count_by is_input (demo_requests 1 0) ≡ 3 }
     ensures bytes_out { length (all_bytes (replies demo_setup (demo_session 1 0).handled)) ≡ 1224 }
     ensures lines { six_lines 1 3 7 688 1224 (Ok ended.Disconnect) ≡
-        line_of (codes "groups 1") ++ (line_of (codes "inputs 3") ++ (line_of (codes "requests 7") ++ (line_of (codes "bytes in 688")
+        line_of (codes "groups 1") ++ (line_of (codes "inputs 3") ++
+        (line_of (codes "requests 7") ++ (line_of (codes "bytes in 688")
         ++ (line_of (codes "bytes out 1224") ++ line_of (codes "end disconnect"))))) }
 {}

@@ -3,7 +3,7 @@ use Rattle.std.proofs.Common.{◌≡◌, ◌≤◌, ◌⊎◌, inl, inr, ℕ, �
 use Rattle.std.proofs.lemmas.List.{append-nil, take-append-le, length-take-le, drop-append-le}
 use Rattle.std.proofs.Math.Seq.{take-append-add, drop-append_seam}
 use Rattle.std.specs.Prelude.{Option, Some, None, is_some, true, false, Result, Ok, Err, IfOk, OnErr}
-use Rattle.ei_backend.specs.Outside.{Gives, answer_at, is_end}
+use Rattle.ei_backend.specs.Outside.{InputView, Gives, answer_at, is_end}
 use Rattle.ei_backend.specs.declared.outside.Fault.{Fault}
 use Rattle.ei_backend.specs.declared.outside.LastAnswer.{LastAnswer}
 use Rattle.reis_lines.specs.Given.{GaveBehind, came_to_end, given_since}
@@ -50,11 +50,11 @@ gave_on x y z a b b' c p is q = record {
 }
 
 -- what was given behind some bytes is what was given since
-pub since_is : {I : Type 0} (given : I → List ℕ) (old new : I) (bytes : List ℕ) → given new ≡ given old ++ bytes → given_since given old new ≡ bytes
-since_is given old new bytes gave = ap (drop (length (given old))) gave ∙ drop-append_seam (given old) bytes
+pub since_is : {I : Type 0} (view : I → InputView) (old new : I) (bytes : List ℕ) → (view new).given ≡ (view old).given ++ bytes → given_since view old new ≡ bytes
+since_is view old new bytes gave = ap (drop (length (view old).given)) gave ∙ drop-append_seam (view old).given bytes
 
-pub since_gave : {I : Type 0} (given : I → List ℕ) (old new : I) (bytes : List ℕ) → given new ≡ given old ++ bytes → given new ≡ given old ++ given_since given old new
-since_gave given old new bytes gave = gave ∙ ap (λ v. given old ++ v) (sym (since_is given old new bytes gave))
+pub since_gave : {I : Type 0} (view : I → InputView) (old new : I) (bytes : List ℕ) → (view new).given ≡ (view old).given ++ bytes → (view new).given ≡ (view old).given ++ given_since view old new
+since_gave view old new bytes gave = gave ∙ ap (λ v. (view old).given ++ v) (sym (since_is view old new bytes gave))
 
 -- ---- whether the input answered its end
 
@@ -69,8 +69,8 @@ not_come None count (inl some) = absurd cc
 not_come None count (inr full) = grind arith
 
 -- a line was found, or too many bytes are held: the input's last answer is no end, or it wasn't asked
-pub asked_found : {I : Type 0} (last : I → LastAnswer) (old new : I) (found : Option ℕ) (count : ℕ) → (is_some found ≡ true) ⊎ (131073 ≤ count) →
-    (new ≡ old) ⊎ (is_end (last new) ≡ false) →
-    ((new ≡ old) × (came_to_end (Ok found) count ≡ false)) ⊎ (is_end (last new) ≡ came_to_end (Ok found) count)
-asked_found last old new found count stop (inl same) = inl (same, not_come found count stop)
-asked_found last old new found count stop (inr open_yet) = inr (open_yet ∙ sym (not_come found count stop))
+pub asked_found : {I : Type 0} (view : I → InputView) (old new : I) (found : Option ℕ) (count : ℕ) → (is_some found ≡ true) ⊎ (131073 ≤ count) →
+    (new ≡ old) ⊎ (is_end (view new).last ≡ false) →
+    ((new ≡ old) × (came_to_end (Ok found) count ≡ false)) ⊎ (is_end (view new).last ≡ came_to_end (Ok found) count)
+asked_found view old new found count stop (inl same) = inl (same, not_come found count stop)
+asked_found view old new found count stop (inr open_yet) = inr (open_yet ∙ sym (not_come found count stop))

@@ -3,8 +3,7 @@
 use Rattle.std.proofs.Common.{◌≡◌, inl, inr, ℕ, ◌+◌, ◌-◌, ◌^◌, List, [], ◌∷◌, ◌++◌, length, map, refl, ap, sym, ◌∙◌, append_assoc, arith, Some}
 use Rattle.std.specs.Prelude.{min, Option, None, Bool, true, false}
 use Rattle.std.specs.Option.{option_map}
-use Rattle.ei_backend.specs.Outside.{is_end}
-use Rattle.ei_backend.specs.declared.outside.LastAnswer.{LastAnswer}
+use Rattle.ei_backend.specs.Outside.{InputView, is_end}
 use Rattle.reis_lines.specs.Text.{before_newline, Spell, pieces_of, bad_line_of, number_from, whole_lines}
 use Rattle.reis_lines.specs.Given.{given_since}
 use Rattle.reis_lines.specs.HexSource.{Reading, joined_lines, HoldsBadLine, LaterReading, IsAtEnd, HoldsEnd, HoldsNoLine}
@@ -44,31 +43,31 @@ spent_at_bad_line held more ended line n h none = none_first held more ended lin
 
 -- ---- what was given, with what may follow
 
-module _ {I : Type 0} (text : I → Option (List ℕ)) (given : I → List ℕ) (last : I → LastAnswer) (faults : I → ℕ) (later : I → I → Type 0) where
+module _ {I : Type 0} (view : I → InputView) (later : I → I → Type 0) where
   abbrev Later : Reading I → Reading I → Type 0
-  Later = LaterReading text given last faults later
+  Later = LaterReading view later
 
   -- nothing follows where the end is known, since it was answered
-  pub none_if_known : (x y : Reading I) → Later x y → x.ended ≡ false → (more : List ℕ) → (is_end (last y.input) ≡ true → more ≡ []) → y.ended ≡ true → more ≡ []
-  none_if_known x y r open_yet more none e = none (known_end last x y r.asked open_yet e)
+  pub none_if_known : (x y : Reading I) → Later x y → x.ended ≡ false → (more : List ℕ) → (is_end (view y.input).last ≡ true → more ≡ []) → y.ended ≡ true → more ≡ []
+  none_if_known x y r open_yet more none e = none (known_end view x y r.asked open_yet e)
 
   -- an input has given these bytes since
-  pub gave_since : (x y : Reading I) → Later x y → given y.input ≡ given x.input ++ given_since given x.input y.input
-  gave_since x y r = since_gave given x.input y.input r.bytes r.gave
+  pub gave_since : (x y : Reading I) → Later x y → (view y.input).given ≡ (view x.input).given ++ given_since view x.input y.input
+  gave_since x y r = since_gave view x.input y.input r.bytes r.gave
 
   -- the bytes given are the lines that went, and the bytes held
-  lines_and_held : (x y : Reading I) (r : Later x y) → x.held ≡ [] → (bytes : List ℕ) → given y.input ≡ given x.input ++ bytes →
+  lines_and_held : (x y : Reading I) (r : Later x y) → x.held ≡ [] → (bytes : List ℕ) → (view y.input).given ≡ (view x.input).given ++ bytes →
       bytes ≡ joined_lines r.lines.lines ++ y.held
   lines_and_held x y r nothing bytes gave =
-      sym (since_is given x.input y.input bytes gave) ∙ since_is given x.input y.input r.bytes r.gave ∙ ap (λ v. v ++ r.bytes) (sym nothing) ∙ r.lines.same
+      sym (since_is view x.input y.input bytes gave) ∙ since_is view x.input y.input r.bytes r.gave ∙ ap (λ v. v ++ r.bytes) (sym nothing) ∙ r.lines.same
 
-  lines_and_more : (x y : Reading I) (r : Later x y) → x.held ≡ [] → (bytes more : List ℕ) → given y.input ≡ given x.input ++ bytes →
+  lines_and_more : (x y : Reading I) (r : Later x y) → x.held ≡ [] → (bytes more : List ℕ) → (view y.input).given ≡ (view x.input).given ++ bytes →
       bytes ++ more ≡ joined_lines r.lines.lines ++ (y.held ++ more)
   lines_and_more x y r nothing bytes more gave =
       ap (λ v. v ++ more) (lines_and_held x y r nothing bytes gave) ∙ append_assoc (joined_lines r.lines.lines) y.held more
 
   -- the pieces of what was given are those that the source gave, and then those of what is held
-  pub pieces_given : (x y : Reading I) → Later x y → x.held ≡ [] → x.pieces ≡ [] → (bytes more : List ℕ) → given y.input ≡ given x.input ++ bytes →
+  pub pieces_given : (x y : Reading I) → Later x y → x.held ≡ [] → x.pieces ≡ [] → (bytes more : List ℕ) → (view y.input).given ≡ (view x.input).given ++ bytes →
       (y.ended ≡ true → more ≡ []) → pieces_of (bytes ++ more) ≡ y.pieces ++ pieces_of (y.held ++ more)
   pieces_given x y r nothing no_piece bytes more gave none =
       let l = r.lines in
@@ -77,11 +76,11 @@ module _ {I : Type 0} (text : I → Option (List ℕ)) (given : I → List ℕ) 
       ∙ ap (λ v. v ++ pieces_of (y.held ++ more)) (sym (r.pieces ∙ ap (λ v. v ++ l.pieces) no_piece))
 
   pub pieces_since : (x y : Reading I) → Later x y → x.held ≡ [] → x.pieces ≡ [] → (more : List ℕ) →
-      (y.ended ≡ true → more ≡ []) → pieces_of (given_since given x.input y.input ++ more) ≡ y.pieces ++ pieces_of (y.held ++ more)
-  pieces_since x y r nothing no_piece more none = pieces_given x y r nothing no_piece (given_since given x.input y.input) more (gave_since x y r) none
+      (y.ended ≡ true → more ≡ []) → pieces_of (given_since view x.input y.input ++ more) ≡ y.pieces ++ pieces_of (y.held ++ more)
+  pieces_since x y r nothing no_piece more none = pieces_given x y r nothing no_piece (given_since view x.input y.input) more (gave_since x y r) none
 
   -- where no whole line is held, the pieces that the source gave are those of the whole lines given
-  pub whole_lines_given : (x y : Reading I) → Later x y → x.held ≡ [] → x.pieces ≡ [] → (bytes : List ℕ) → given y.input ≡ given x.input ++ bytes →
+  pub whole_lines_given : (x y : Reading I) → Later x y → x.held ≡ [] → x.pieces ≡ [] → (bytes : List ℕ) → (view y.input).given ≡ (view x.input).given ++ bytes →
       HoldsNoLine y.held y.ended → Spell (whole_lines bytes) y.pieces
   whole_lines_given x y r nothing no_piece bytes gave no_line =
       let l = r.lines in
@@ -91,7 +90,7 @@ module _ {I : Type 0} (text : I → Option (List ℕ)) (given : I → List ℕ) 
       rw (lines, pieces) l.spelled
 
   -- the first bad line of what was given stands behind the lines that went
-  bad_behind : (x y : Reading I) (r : Later x y) → x.held ≡ [] → (bytes more : List ℕ) → given y.input ≡ given x.input ++ bytes → (y.ended ≡ true → more ≡ []) →
+  bad_behind : (x y : Reading I) (r : Later x y) → x.held ≡ [] → (bytes more : List ℕ) → (view y.input).given ≡ (view x.input).given ++ bytes → (y.ended ≡ true → more ≡ []) →
       bad_line_of (bytes ++ more) ≡ option_map (λ k. length r.lines.lines + k) (bad_line_of (y.held ++ more))
   bad_behind x y r nothing bytes more gave none =
       let l = r.lines in
@@ -99,7 +98,7 @@ module _ {I : Type 0} (text : I → Option (List ℕ)) (given : I → List ℕ) 
       ∙ bad_on l.lines (y.held ++ more) y.ended l.pieces (AreLines-more l.lines y.held more y.ended none l.are_lines) l.spelled
 
   -- a bad line that is held is the first of what was given, and its number is its place
-  pub bad_line_given : (x y : Reading I) → Later x y → x.held ≡ [] → x.line ≡ 0 → (bytes more : List ℕ) → given y.input ≡ given x.input ++ bytes →
+  pub bad_line_given : (x y : Reading I) → Later x y → x.held ≡ [] → x.line ≡ 0 → (bytes more : List ℕ) → (view y.input).given ≡ (view x.input).given ++ bytes →
       (y.ended ≡ true → more ≡ []) → (n : ℕ) → HoldsBadLine y.held y.ended y.line n →
       (place : ℕ) × (bad_line_of (bytes ++ more) ≡ Some place) × (n ≡ min place (2 ^ 64 - 1))
   bad_line_given x y r nothing first bytes more gave none n h = (
@@ -108,7 +107,7 @@ module _ {I : Type 0} (text : I → Option (List ℕ)) (given : I → List ℕ) 
     omega (arith, h.number, r.lines.grown, first),
   )
 
-  pub bad_number_given : (x y : Reading I) → Later x y → x.held ≡ [] → x.line ≡ 0 → (bytes more : List ℕ) → given y.input ≡ given x.input ++ bytes →
+  pub bad_number_given : (x y : Reading I) → Later x y → x.held ≡ [] → x.line ≡ 0 → (bytes more : List ℕ) → (view y.input).given ≡ (view x.input).given ++ bytes →
       (y.ended ≡ true → more ≡ []) → (n : ℕ) → HoldsBadLine y.held y.ended y.line n → number_from 0 (bad_line_of (bytes ++ more)) ≡ Some n
   bad_number_given x y r nothing first bytes more gave none n h =
       let b = bad_line_given x y r nothing first bytes more gave none n h in
@@ -116,7 +115,7 @@ module _ {I : Type 0} (text : I → Option (List ℕ)) (given : I → List ℕ) 
       ap (number_from 0) b.1 ∙ ap (λ k. Some k) number
 
   -- at a true end none was bad
-  pub no_bad_line_given : (x y : Reading I) → Later x y → x.held ≡ [] → (bytes more : List ℕ) → given y.input ≡ given x.input ++ bytes →
+  pub no_bad_line_given : (x y : Reading I) → Later x y → x.held ≡ [] → (bytes more : List ℕ) → (view y.input).given ≡ (view x.input).given ++ bytes →
       (y.ended ≡ true → more ≡ []) → HoldsEnd y.held y.ended → bad_line_of (bytes ++ more) ≡ None
   no_bad_line_given x y r nothing bytes more gave none h =
       bad_behind x y r nothing bytes more gave none

@@ -6,8 +6,7 @@ use Rattle.std.proofs.Math.Seq.{get_or-append_seam}
 use Rattle.std.specs.Prelude.{◌==◌, Option, Bool, true, false, if◌then◌else◌}
 use Rattle.std.specs.Option.{option_map}
 use Rattle.ei_spec.specs.Piece.{Piece}
-use Rattle.ei_backend.specs.Outside.{is_end}
-use Rattle.ei_backend.specs.declared.outside.LastAnswer.{LastAnswer}
+use Rattle.ei_backend.specs.Outside.{InputView, is_end}
 use Rattle.reis_lines.specs.Text.{has_newline, before_newline, onto, split, Spell, bad_line_of, whole_lines}
 use Rattle.reis_lines.specs.Given.{given_since, line_at, HasBadLine, MetBadLine}
 use Rattle.reis_lines.specs.HexSource.{Reading, fresh, joined_lines, AreLines, KnowsEnd, HoldsBadLine, LaterReading}
@@ -88,41 +87,41 @@ has_as_known bytes ended end place known h = record {
 }
 
 -- an end that a source came to know was answered
-pub known_end : {I : Type 0} (last : I → LastAnswer) (x y : Reading I) → KnowsEnd last x y → x.ended ≡ false → y.ended ≡ true → is_end (last y.input) ≡ true
-known_end last x y (inl same) open_yet e = absurd cc
-known_end last x y (inr is) open_yet e = sym is ∙ e
+pub known_end : {I : Type 0} (view : I → InputView) (x y : Reading I) → KnowsEnd view x y → x.ended ≡ false → y.ended ≡ true → is_end (view y.input).last ≡ true
+known_end view x y (inl same) open_yet e = absurd cc
+known_end view x y (inr is) open_yet e = sym is ∙ e
 
-module _ {I : Type 0} (text : I → Option (List ℕ)) (given : I → List ℕ) (last : I → LastAnswer) (faults : I → ℕ) (later : I → I → Type 0) where
+module _ {I : Type 0} (view : I → InputView) (later : I → I → Type 0) where
   -- the bad line that a source over a fresh input met is the first among the bytes given
-  pub met_bad_line : (old : I) (y : Reading I) (n : ℕ) → LaterReading text given last faults later (fresh old) y → y.bad ≡ Some n → MetBadLine given last old y.input n
+  pub met_bad_line : (old : I) (y : Reading I) (n : ℕ) → LaterReading view later (fresh old) y → y.bad ≡ Some n → MetBadLine view old y.input n
   met_bad_line old y n r is =
       let l = r.lines in
       let h = r.holds refl n is in
-      let since : given_since given old y.input ≡ joined_lines l.lines ++ y.held = since_is given old y.input r.bytes r.gave ∙ l.same in
+      let since : given_since view old y.input ≡ joined_lines l.lines ++ y.held = since_is view old y.input r.bytes r.gave ∙ l.same in
       record {
         place = length l.lines + 1;
         bad =
-            has_as_known (given_since given old y.input) y.ended (is_end (last y.input)) (length l.lines + 1) (known_end last (fresh old) y r.asked refl)
+            has_as_known (given_since view old y.input) y.ended (is_end (view y.input).last) (length l.lines + 1) (known_end view (fresh old) y r.asked refl)
             (subst (λ (v : List ℕ). HasBadLine v y.ended (length l.lines + 1)) (sym since)
             (has_bad_line l.lines y.held l.pieces y.ended y.line n l.are_lines l.spelled h));
         number = omega (arith, h.number, l.grown);
       }
 
   -- what an input gave are the lines of the pieces that the source gave, and then the bytes that it holds
-  pub gave_lines : (old : I) (y : Reading I) → LaterReading text given last faults later (fresh old) y → GaveLines (given_since given old y.input) y.pieces y.held
+  pub gave_lines : (old : I) (y : Reading I) → LaterReading view later (fresh old) y → GaveLines (given_since view old y.input) y.pieces y.held
   gave_lines old y r = record {
     lines = r.lines.lines;
-    same = since_is given old y.input r.bytes r.gave ∙ r.lines.same;
+    same = since_is view old y.input r.bytes r.gave ∙ r.lines.same;
     spelled = subst (λ (v : List Piece). Spell (map before_newline r.lines.lines) v) (sym r.pieces) r.lines.spelled;
     room = r.fits (omega arith);
   }
 
   -- what a call says of an input that a source read
-  pub lent_by : (old : I) (y : Reading I) → LaterReading text given last faults later (fresh old) y → LentInput text given faults later old y.input
+  pub lent_by : (old : I) (y : Reading I) → LaterReading view later (fresh old) y → LentInput view later old y.input
   lent_by old y r =
-      let since = since_is given old y.input r.bytes r.gave in
+      let since = since_is view old y.input r.bytes r.gave in
       record {
-        gave = since_gave given old y.input r.bytes r.gave;
+        gave = since_gave view old y.input r.bytes r.gave;
         told = λ t told.
             let m = r.left t told in
             (m.0, r.told t told told ∙ m.1, m.2 ∙ ap (λ v. v ++ m.0) (sym since));

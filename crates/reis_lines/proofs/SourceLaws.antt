@@ -1,4 +1,4 @@
--- What becomes of the unread text where a line is handed out, or is bad, or none comes.
+-- What becomes of the unread view where a line is handed out, or is bad, or none comes.
 use Rattle.std.proofs.Common.{◌≡◌, ◌<◌, ◌≤◌, ◌⊎◌, inl, inr, ℕ, ◌+◌, ◌-◌, ◌^◌, zero, suc, List, [], ◌∷◌, ◌++◌, length, take, drop}
 use Rattle.std.proofs.Common.{arith, Some, refl, ap, sym, ◌∙◌, subst, append_assoc}
 use Rattle.std.proofs.lemmas.List.{append-nil, take-append-drop, take_all, drop_all, length-drop}
@@ -8,8 +8,7 @@ use Rattle.std.specs.Prelude.{Bool, true, false, slice_get}
 use Rattle.std.specs.Option.{option_map}
 use Rattle.ei_spec.specs.declared.handle.Handle.{Handle}
 use Rattle.ei_spec.specs.Piece.{Piece}
-use Rattle.ei_backend.specs.Outside.{HandsOut}
-use Rattle.ei_backend.specs.declared.outside.LastAnswer.{LastAnswer}
+use Rattle.ei_backend.specs.Outside.{InputView, HandsOut}
 use Rattle.reis_lines.specs.Text.{has_newline, before_newline, line_bytes, piece_before, pieces_of}
 use Rattle.reis_lines.specs.Held.{FindsNewline, Moves, line_len, line_skip}
 use Rattle.reis_lines.specs.HexSource.{Reading, unless_ended, AreLines, LaterLines, KnowsEnd, LeftBehind, HoldsBadLine, LaterReading, HandsLine}
@@ -38,7 +37,7 @@ mapped : (f : List ℕ → List Piece) (o : Option (List ℕ)) (ps : List Piece)
 mapped f None ps e = cc
 mapped f (Some t) ps e = (t, refl, cc)
 
--- the first line of the unread text, as it was found among the bytes held
+-- the first line of the unread view, as it was found among the bytes held
 pub record FindsFirst (held text mid rest : List ℕ) (found : Option ℕ) (ended : Bool) : Type 0 where
   pub same : held ++ text ≡ mid ++ rest
   pub place : FindsNewline found mid
@@ -231,23 +230,23 @@ left_behind old new a b bytes more moves = λ t is.
     (m.rest, m.left_is, sym (drop-append_seam a t) ∙ ap (drop (length a)) whole ∙ drop-append_seam a (bytes ++ m.rest))
 
 -- what a reading that went on gave, and knows of the end
-pub record GoesOn {I : Type 0} (text : I → Option (List ℕ)) (given : I → List ℕ) (last : I → LastAnswer) (faults : I → ℕ) (later : I → I → Type 0) (x y : Reading I) : Type 0 where
+pub record GoesOn {I : Type 0} (view : I → InputView) (later : I → I → Type 0) (x y : Reading I) : Type 0 where
   pub input : later x.input y.input
-  pub count : faults x.input ≤ faults y.input
+  pub count : (view x.input).faults ≤ (view y.input).faults
   pub bytes : List ℕ
-  pub gave : given y.input ≡ given x.input ++ bytes
+  pub gave : (view y.input).given ≡ (view x.input).given ++ bytes
   pub lines : LaterLines x.held bytes y.held x.line y.line y.ended
   pub pieces : y.pieces ≡ x.pieces ++ lines.pieces
-  pub left : LeftBehind (unread text x) bytes (unread text y)
-  pub told : (t : List ℕ) → unread text x ≡ Some t → text x.input ≡ Some t → text y.input ≡ unread text y
-  pub asked : KnowsEnd last x y
+  pub left : LeftBehind (unread view x) bytes (unread view y)
+  pub told : (t : List ℕ) → unread view x ≡ Some t → (view x.input).left ≡ Some t → (view y.input).left ≡ unread view y
+  pub asked : KnowsEnd view x y
   pub ended : x.ended ≡ true → (y.input ≡ x.input) × (y.ended ≡ true)
   pub fits : length y.held ≤ ROOM
 
 -- a reading that went on without a bad line
-pub unmet_later : {I : Type 0} (text : I → Option (List ℕ)) (given : I → List ℕ) (last : I → LastAnswer) (faults : I → ℕ) (later : I → I → Type 0) (x y : Reading I) →
-    x.bad ≡ None → y.bad ≡ x.bad → y.bad_faults ≡ x.bad_faults → GoesOn text given last faults later x y → LaterReading text given last faults later x y
-unmet_later text given last faults later x y none same same_faults g =
+pub unmet_later : {I : Type 0} (view : I → InputView) (later : I → I → Type 0) (x y : Reading I) →
+    x.bad ≡ None → y.bad ≡ x.bad → y.bad_faults ≡ x.bad_faults → GoesOn view later x y → LaterReading view later x y
+unmet_later view later x y none same same_faults g =
     let unmet : y.bad ≡ None = same ∙ none in
     record {
       input = g.input;

@@ -5,7 +5,7 @@ use Rattle.std.proofs.lemmas.List.{append-nil}
 use Rattle.std.specs.Prelude.{min, ◌==◌, Option, None, Bool, true, false}
 use Rattle.std.specs.Option.{option_map}
 use Rattle.ei_spec.specs.Piece.{Piece}
-use Rattle.ei_backend.specs.declared.outside.LastAnswer.{LastAnswer}
+use Rattle.ei_backend.specs.Outside.{InputView}
 use Rattle.reis_lines.specs.Text.{has_newline, before_newline, onto, split, line_bytes, piece_of_line, piece_before, Spell, pieces_of_lines, pieces_of}
 use Rattle.reis_lines.specs.Text.{bad_line_before, bad_line_of_lines, bad_line_of, number_from}
 use Rattle.reis_lines.specs.HexSource.{Reading, unread, left_of, joined_lines, AreLines, HoldsBadLine, LaterReading}
@@ -181,7 +181,7 @@ number_lines line now count (Some n) is =
     let e : min (line + (count + n)) (2 ^ 64 - 1) ≡ min (now + n) (2 ^ 64 - 1) = omega (arith, is) in
     ap (λ k. Some k) e
 
--- The unread text, the bytes held and then the text left, is these lines, handed out as these pieces, and the text unread now. The
+-- The unread view, the bytes held and then the text left, is these lines, handed out as these pieces, and the text unread now. The
 -- first bad line keeps its number.
 pub record LaterText (held text held_new : List ℕ) (left : Option (List ℕ)) (line line_new : ℕ) (ended : Bool) : Type 0 where
   pub lines : List (List ℕ)
@@ -195,15 +195,15 @@ pub record LaterText (held text held_new : List ℕ) (left : Option (List ℕ)) 
   pub handed : pieces_of (held ++ text) ≡ pieces ++ pieces_of (held_new ++ rest)
   pub bad : number_from line (bad_line_of (held ++ text)) ≡ number_from line_new (bad_line_of (held_new ++ rest))
 
-module _ {I : Type 0} (text : I → Option (List ℕ)) (given : I → List ℕ) (last : I → LastAnswer) (faults : I → ℕ) (later : I → I → Type 0) where
+module _ {I : Type 0} (view : I → InputView) (later : I → I → Type 0) where
   abbrev Later : Reading I → Reading I → Type 0
-  Later = LaterReading text given last faults later
+  Later = LaterReading view later
 
-  pub later_text : (x y : Reading I) → Later x y → (t : List ℕ) → unread text x ≡ Some t → LaterText x.held t y.held (unread text y) x.line y.line y.ended
+  pub later_text : (x y : Reading I) → Later x y → (t : List ℕ) → unread view x ≡ Some t → LaterText x.held t y.held (unread view y) x.line y.line y.ended
   later_text x y r t told =
       let l = r.lines in
       let m = r.left t told in
-      let none : y.ended ≡ true → m.0 ≡ [] = rest_none (text y.input) y.ended m.0 m.1 in
+      let none : y.ended ≡ true → m.0 ≡ [] = rest_none (view y.input).left y.ended m.0 m.1 in
       let lines = AreLines-more l.lines y.held m.0 y.ended none l.are_lines in
       let whole : x.held ++ t ≡ joined_lines l.lines ++ (y.held ++ m.0) =
       ap (λ v. x.held ++ v) m.2 ∙ sym (append_assoc x.held r.bytes m.0) ∙ ap (λ v. v ++ m.0) l.same ∙ append_assoc (joined_lines l.lines) y.held m.0 in
@@ -224,7 +224,7 @@ module _ {I : Type 0} (text : I → Option (List ℕ)) (given : I → List ℕ) 
       }
 
   -- the bad line that was met is the first of the text
-  pub number_told : (x y : Reading I) → Later x y → x.bad ≡ None → (n : ℕ) → y.bad ≡ Some n → (t : List ℕ) → unread text x ≡ Some t →
+  pub number_told : (x y : Reading I) → Later x y → x.bad ≡ None → (n : ℕ) → y.bad ≡ Some n → (t : List ℕ) → unread view x ≡ Some t →
       number_from x.line (bad_line_of (x.held ++ t)) ≡ Some n
   number_told x y r none n is t told =
       let p = later_text x y r t told in
@@ -232,7 +232,7 @@ module _ {I : Type 0} (text : I → Option (List ℕ)) (given : I → List ℕ) 
       p.bad ∙ ap (number_from y.line) (bad_first y.held p.rest y.ended y.line n h p.none) ∙ ap (λ k. Some k) (sym h.number)
 
   -- and no piece is left from then on
-  pub spent_told : (x y : Reading I) → Later x y → x.bad ≡ None → (n : ℕ) → y.bad ≡ Some n → (t : List ℕ) → unread text x ≡ Some t → left_of text y ≡ Some []
+  pub spent_told : (x y : Reading I) → Later x y → x.bad ≡ None → (n : ℕ) → y.bad ≡ Some n → (t : List ℕ) → unread view x ≡ Some t → left_of view y ≡ Some []
   spent_told x y r none n is t told =
       let p = later_text x y r t told in
       ap (option_map (λ v. pieces_of (y.held ++ v))) p.left_is ∙ ap (λ v. Some v) (none_first y.held p.rest y.ended y.line n (r.holds none n is) p.none)

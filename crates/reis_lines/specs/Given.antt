@@ -1,9 +1,8 @@
 -- The bytes that an input gave, whatever it tells of its text, and the bad line among them.
 use Rattle.std.specs.Prelude.{◌≡◌, ◌<◌, ◌≤◌, ◌⊎◌, ℕ, ◌-◌, ◌^◌, min, nat_le, Bool, true, false, List, [], ◌++◌, length, drop, get_or, Option, Some, None}
 use Rattle.std.specs.Prelude.{Result, Ok}
-use Rattle.ei_backend.specs.Outside.{is_end}
+use Rattle.ei_backend.specs.Outside.{InputView, is_end}
 use Rattle.ei_backend.specs.declared.outside.Fault.{Fault}
-use Rattle.ei_backend.specs.declared.outside.LastAnswer.{LastAnswer}
 use Rattle.reis_lines.specs.Text.{split, bad_line_of, whole_lines}
 use Rattle.reis_lines.specs.declared.held.TheConstants.{LONGEST_LINE}
 
@@ -19,8 +18,8 @@ came_to_end (Ok None) count = nat_le count LONGEST_LINE
 came_to_end result count = false
 
 -- the bytes that an input gave from one state to another
-abbrev pub given_since : {I : Type 0} → (I → List ℕ) → I → I → List ℕ
-given_since given old new = drop (length (given old)) (given new)
+abbrev pub given_since : {I : Type 0} → (I → InputView) → I → I → List ℕ
+given_since view old new = drop (length (view old).given) (view new).given
 
 -- the line at a place, from 1
 abbrev pub line_at : List ℕ → ℕ → List ℕ
@@ -34,7 +33,7 @@ pub record HasBadLine (bytes : List ℕ) (ended : Bool) (place : ℕ) : Type 0 w
 
 -- The bytes that an input gave from one state to another have a first bad line, which is whole, and this is its number: its place,
 -- up to the last value of 64 bits. Nothing follows where the input's last answer was its end.
-pub record MetBadLine {I : Type 0} (given : I → List ℕ) (last : I → LastAnswer) (old new : I) (n : ℕ) : Type 0 where
+pub record MetBadLine {I : Type 0} (view : I → InputView) (old new : I) (n : ℕ) : Type 0 where
   pub place : ℕ
-  pub bad : HasBadLine (given_since given old new) (is_end (last new)) place
+  pub bad : HasBadLine (given_since view old new) (is_end (view new).last) place
   pub number : n ≡ min place (2 ^ 64 - 1)

@@ -4,7 +4,7 @@ use Rattle.std.specs.Prelude.{Option, Some, None, IsSome, Result, Ok, Err, Bool,
 use Rattle.std.specs.Option.{option_map}
 use Rattle.std.specs.Borrow.{GName}
 use Rattle.ei_spec.specs.Piece.{Piece}
-use Rattle.ei_backend.specs.Outside.{Rose, given_with, is_end}
+use Rattle.ei_backend.specs.Outside.{SourceView, InputView, Rose, given_with, is_end}
 use Rattle.ei_backend.specs.declared.outside.Fault.{Fault}
 use Rattle.ei_backend.specs.declared.outside.LastAnswer.{LastAnswer}
 use Rattle.ei_backend.specs.declared.outside.LastAnswer.TheVariants as answers
@@ -54,16 +54,26 @@ unless_ended true (Some t) = Some []
 unless_ended ended told = told
 
 -- the text left behind the bytes held, where the input tells it
-abbrev pub unread : {I : Type 0} → (I → Option (List ℕ)) → Reading I → Option (List ℕ)
-unread text r = unless_ended r.ended (text r.input)
+abbrev pub unread : {I : Type 0} → (I → InputView) → Reading I → Option (List ℕ)
+unread view r = unless_ended r.ended (view r.input).left
 
 -- the pieces left, where the input tells its text
-abbrev pub left_of : {I : Type 0} → (I → Option (List ℕ)) → Reading I → Option (List Piece)
-left_of text r = option_map (λ t. pieces_of (r.held ++ t)) (unread text r)
+abbrev pub left_of : {I : Type 0} → (I → InputView) → Reading I → Option (List Piece)
+left_of view r = option_map (λ t. pieces_of (r.held ++ t)) (unread view r)
 
 -- the input's faults, and those for a bad line
-abbrev pub faults_of : {I : Type 0} → (I → ℕ) → Reading I → ℕ
-faults_of faults r = faults r.input + r.bad_faults
+abbrev pub faults_of : {I : Type 0} → (I → InputView) → Reading I → ℕ
+faults_of view r = (view r.input).faults + r.bad_faults
+
+-- what the source says of itself
+abbrev pub source_of : {I : Type 0} → (I → InputView) → HexSource I → SourceView
+source_of view s = record {
+  left = left_of view (text_reading s);
+  given = s.given.pieces;
+  faults = faults_of view (text_reading s);
+  asked = s.asked;
+  last = s.last;
+}
 
 -- lines, one after another
 abbrev pub joined_lines : List (List ℕ) → List ℕ
@@ -104,10 +114,10 @@ pub record Stands {I : Type 0} (x y : Reading I) : Type 0 where
   pub bad : y.bad ≡ x.bad
 
 -- nothing was asked, or the input's end is known exactly where it was its last answer
-abbrev pub KnowsEnd : {I : Type 0} → (I → LastAnswer) → Reading I → Reading I → Type 0
-KnowsEnd last x y = ((y.input ≡ x.input) × (y.ended ≡ x.ended)) ⊎ (y.ended ≡ is_end (last y.input))
+abbrev pub KnowsEnd : {I : Type 0} → (I → InputView) → Reading I → Reading I → Type 0
+KnowsEnd view x y = ((y.input ≡ x.input) × (y.ended ≡ x.ended)) ⊎ (y.ended ≡ is_end (view y.input).last)
 
--- these bytes of the unread text were given, and the others are left
+-- these bytes of the unread view were given, and the others are left
 abbrev pub LeftBehind : Option (List ℕ) → List ℕ → Option (List ℕ) → Type 0
 LeftBehind old bytes new = (t : List ℕ) → old ≡ Some t → (rest : List ℕ) × (new ≡ Some rest) × (t ≡ bytes ++ rest)
 
@@ -116,17 +126,17 @@ LeftBehind old bytes new = (t : List ℕ) → old ≡ Some t → (rest : List �
 -- end, and no more bytes are held than a buffer has room for. A bad line that is met stands at the front of the bytes held, and
 -- behind it nothing is read. The input's count of faults has not fallen, nor that of the faults for the bad line.
 pub record LaterReading
-    {I : Type 0} (text : I → Option (List ℕ)) (given : I → List ℕ) (last : I → LastAnswer) (faults : I → ℕ) (later : I → I → Type 0) (x y : Reading I)
+    {I : Type 0} (view : I → InputView) (later : I → I → Type 0) (x y : Reading I)
     : Type 0 where
   pub input : later x.input y.input
-  pub count : faults x.input ≤ faults y.input
+  pub count : (view x.input).faults ≤ (view y.input).faults
   pub bytes : List ℕ
-  pub gave : given y.input ≡ given x.input ++ bytes
+  pub gave : (view y.input).given ≡ (view x.input).given ++ bytes
   pub lines : LaterLines x.held bytes y.held x.line y.line y.ended
   pub pieces : y.pieces ≡ x.pieces ++ lines.pieces
-  pub left : LeftBehind (unread text x) bytes (unread text y)
-  pub told : (t : List ℕ) → unread text x ≡ Some t → text x.input ≡ Some t → text y.input ≡ unread text y
-  pub asked : KnowsEnd last x y
+  pub left : LeftBehind (unread view x) bytes (unread view y)
+  pub told : (t : List ℕ) → unread view x ≡ Some t → (view x.input).left ≡ Some t → (view y.input).left ≡ unread view y
+  pub asked : KnowsEnd view x y
   pub ended : x.ended ≡ true → (y.input ≡ x.input) × (y.ended ≡ true)
   pub kept : (n : ℕ) → x.bad ≡ Some n → Stands x y
   pub unmet : y.bad ≡ None → (x.bad ≡ None) × (x.bad_faults ≡ y.bad_faults)
@@ -148,27 +158,27 @@ abbrev pub HoldsNoLine : List ℕ → Bool → Type 0
 HoldsNoLine held ended = (has_newline held ≡ false) × (ended ≡ false)
 
 -- the input failed, while no whole line was held
-abbrev pub FailsHere : {I : Type 0} → (I → LastAnswer) → Reading I → Type 0
-FailsHere last r = HoldsNoLine r.held r.ended × (last r.input ≡ answers.Fault)
+abbrev pub FailsHere : {I : Type 0} → (I → InputView) → Reading I → Type 0
+FailsHere view r = HoldsNoLine r.held r.ended × ((view r.input).last ≡ answers.Fault)
 
 -- an end was answered only where no line comes, and a fault only where the input failed and no whole line is held, or at a bad line
-pub record AnswersTruly {I : Type 0} (last : I → LastAnswer) (r : Reading I) (answer : LastAnswer) : Type 0 where
+pub record AnswersTruly {I : Type 0} (view : I → InputView) (r : Reading I) (answer : LastAnswer) : Type 0 where
   pub ends : answer ≡ answers.End → HoldsEnd r.held r.ended
-  pub fails : answer ≡ answers.Fault → FailsHere last r ⊎ IsSome r.bad
+  pub fails : answer ≡ answers.Fault → FailsHere view r ⊎ IsSome r.bad
 
 -- where the input tells its text, the end was answered only where no line comes next
-abbrev pub EndsTruly : {I : Type 0} → (I → Option (List ℕ)) → Reading I → LastAnswer → Type 0
-EndsTruly text r last = last ≡ answers.End → (t : List ℕ) → unread text r ≡ Some t → IsAtEnd (r.held ++ t)
+abbrev pub EndsTruly : {I : Type 0} → (I → InputView) → Reading I → LastAnswer → Type 0
+EndsTruly view r last = last ≡ answers.End → (t : List ℕ) → unread view r ≡ Some t → IsAtEnd (r.held ++ t)
 
 -- the same input is borrowed still, its reading went on, and the last answer stays true
 pub record LaterSource
-    {I : Type 0} (text : I → Option (List ℕ)) (given : I → List ℕ) (last : I → LastAnswer) (faults : I → ℕ) (later : I → I → Type 0) (x y : HexSource I)
+    {I : Type 0} (view : I → InputView) (later : I → I → Type 0) (x y : HexSource I)
     : Type 0 where
   pub same_reference : reference_of x ≡ reference_of y
-  pub reading : LaterReading text given last faults later (text_reading x) (text_reading y)
-  pub truly : AnswersTruly last (text_reading x) (answer_of x) → AnswersTruly last (text_reading y) (answer_of y)
-  pub ends : (t : List ℕ) → unread text (text_reading x) ≡ Some t → EndsTruly text (text_reading x) (answer_of x) →
-      EndsTruly text (text_reading y) (answer_of y)
+  pub reading : LaterReading view later (text_reading x) (text_reading y)
+  pub truly : AnswersTruly view (text_reading x) (answer_of x) → AnswersTruly view (text_reading y) (answer_of y)
+  pub ends : (t : List ℕ) → unread view (text_reading x) ≡ Some t → EndsTruly view (text_reading x) (answer_of x) →
+      EndsTruly view (text_reading y) (answer_of y)
 
 -- the first line went, as this many bytes, or no line comes next
 pub record HandsLine (held text held_new : List ℕ) (left : Option (List ℕ)) (n : ℕ) (bytes : List ℕ) : Type 0 where
@@ -177,7 +187,7 @@ pub record HandsLine (held text held_new : List ℕ) (left : Option (List ℕ)) 
   pub ends : n ≡ 0 → (pieces_of (held ++ text) ≡ []) × (held ++ text ≡ held_new ++ rest) × IsAtEnd (held_new ++ rest)
   pub piece : 0 < n → pieces_of (held ++ text) ≡ record { bytes = take n bytes; handles = [] } ∷ pieces_of (held_new ++ rest)
 
--- what becomes of the unread text
+-- what becomes of the unread view
 abbrev pub NextPiece : List ℕ → List ℕ → Result ℕ Fault → List ℕ → Option (List ℕ) → List ℕ → Type 0
 NextPiece held text (Ok n) held_new left bytes = HandsLine held text held_new left n bytes
 NextPiece held text (Err e) held_new left bytes = Moves held text held_new left

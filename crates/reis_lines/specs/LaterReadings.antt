@@ -4,8 +4,7 @@ use Rattle.std.specs.Prelude.{◌≡◌, ◌⊎◌, ℕ, Bool, true, List, [], �
 use Rattle.std.proofs.Common.{◌∙◌, sym, ap, append_assoc, arith, length-append, inl, inr, subst}
 use Rattle.std.proofs.lemmas.List.{append-nil}
 use Rattle.std.proofs.Math.Seq.{drop-append_seam}
-use Rattle.ei_backend.specs.Outside.{Rose, is_end}
-use Rattle.ei_backend.specs.declared.outside.LastAnswer.{LastAnswer}
+use Rattle.ei_backend.specs.Outside.{InputView, Rose, is_end}
 use Rattle.ei_spec.specs.Piece.{Piece}
 use Rattle.reis_lines.specs.Text.{before_newline, line_bytes, piece_of_line, Spell}
 use Rattle.reis_lines.specs.HexSource.{Reading, text_reading, unread, joined_lines, AreLines, LaterLines, HoldsBadLine, Stands, KnowsEnd}
@@ -109,10 +108,10 @@ left_on x y z a b p q = λ t is.
     let n = q m.0 m.1 in
     (n.0, n.1, m.2 ∙ ap (λ v. a ++ v) n.2 ∙ sym (append_assoc a b n.0))
 
-knows_on : {I : Type 0} (last : I → LastAnswer) (x y z : Reading I) → KnowsEnd last x y → KnowsEnd last y z → KnowsEnd last x z
-knows_on last x y z a (inr is) = inr is
-knows_on last x y z (inl p) (inl q) = inl (q.0 ∙ p.0, q.1 ∙ p.1)
-knows_on last x y z (inr is) (inl q) = inr (q.1 ∙ is ∙ ap (λ i. is_end (last i)) (sym q.0))
+knows_on : {I : Type 0} (view : I → InputView) (x y z : Reading I) → KnowsEnd view x y → KnowsEnd view y z → KnowsEnd view x z
+knows_on view x y z a (inr is) = inr is
+knows_on view x y z (inl p) (inl q) = inl (q.0 ∙ p.0, q.1 ∙ p.1)
+knows_on view x y z (inr is) (inl q) = inr (q.1 ∙ is ∙ ap (λ i. is_end (view i).last) (sym q.0))
 
 some_or_none : (o : Option ℕ) → (o ≡ None) ⊎ ((n : ℕ) × (o ≡ Some n))
 some_or_none None = inl refl
@@ -130,9 +129,9 @@ holds_still y z m n s same h = record {
 number_same : (o : Option ℕ) (m n : ℕ) → o ≡ Some m → o ≡ Some n → m ≡ n
 number_same o m n a b = cc
 
-module _ {I : Type 0} (text : I → Option (List ℕ)) (given : I → List ℕ) (last : I → LastAnswer) (faults : I → ℕ) (later : I → I → Type 0) where
+module _ {I : Type 0} (view : I → InputView) (later : I → I → Type 0) where
   abbrev Later : Reading I → Reading I → Type 0
-  Later = LaterReading text given last faults later
+  Later = LaterReading view later
 
   LaterReading-refl : ((x : I) → later x x) → (x : Reading I) → x.bad ≡ x.bad → Later x x
   unfolding LaterLines-none
@@ -140,10 +139,10 @@ module _ {I : Type 0} (text : I → Option (List ℕ)) (given : I → List ℕ) 
     input = r x.input;
     count = omega arith;
     bytes = [];
-    gave = sym (append-nil (given x.input));
+    gave = sym (append-nil (view x.input).given);
     lines = LaterLines-none x.held [] x.held x.line x.line x.ended (sym (append-nil x.held)) refl;
     pieces = sym (append-nil x.pieces);
-    left = left_all (unread text x);
+    left = left_all (unread view x);
     told = λ t left is. is ∙ sym left;
     asked = inl (refl, refl);
     ended = λ is. (refl, is);
@@ -155,7 +154,7 @@ module _ {I : Type 0} (text : I → Option (List ℕ)) (given : I → List ℕ) 
     fits = λ few. few;
   }
 
-  pub LaterSource-refl : ((x : I) → later x x) → (x : HexSource I) → LaterSource text given last faults later x x
+  pub LaterSource-refl : ((x : I) → later x x) → (x : HexSource I) → LaterSource view later x x
   LaterSource-refl r x = record {
     same_reference = refl;
     reading = LaterReading-refl r (text_reading x) refl;
@@ -188,13 +187,13 @@ module _ {I : Type 0} (text : I → Option (List ℕ)) (given : I → List ℕ) 
     input = r x.input y.input z.input a.input b.input;
     count = omega (arith, a.count, b.count);
     bytes = a.bytes ++ b.bytes;
-    gave = b.gave ∙ ap (λ v. v ++ b.bytes) a.gave ∙ append_assoc (given x.input) a.bytes b.bytes;
+    gave = b.gave ∙ ap (λ v. v ++ b.bytes) a.gave ∙ append_assoc (view x.input).given a.bytes b.bytes;
     lines = LaterLines-trans x.held a.bytes y.held b.bytes z.held x.line y.line z.line y.ended z.ended a.lines b.lines (λ is. (b.ended is).1)
-        (λ is. none_given (given y.input) b.bytes (given z.input) b.gave (ap given (b.ended is).0));
+        (λ is. none_given (view y.input).given b.bytes (view z.input).given b.gave (ap (λ i. (view i).given) (b.ended is).0));
     pieces = b.pieces ∙ ap (λ v. v ++ b.lines.pieces) a.pieces ∙ append_assoc x.pieces a.lines.pieces b.lines.pieces;
-    left = left_on (unread text x) (unread text y) (unread text z) a.bytes b.bytes a.left b.left;
+    left = left_on (unread view x) (unread view y) (unread view z) a.bytes b.bytes a.left b.left;
     told = λ t left is. let p = a.left t left in b.told p.0 p.1 (a.told t left is ∙ p.1);
-    asked = knows_on last x y z a.asked b.asked;
+    asked = knows_on view x y z a.asked b.asked;
     ended = λ is. let p = a.ended is in let q = b.ended p.1 in (q.0 ∙ p.0, q.1);
     kept = λ n is. let s = a.kept n is in Stands-trans x y z s (b.kept n (s.bad ∙ is));
     unmet = λ none. let k = b.unmet none in let h = a.unmet k.0 in (h.0, h.1 ∙ k.1);
@@ -205,7 +204,7 @@ module _ {I : Type 0} (text : I → Option (List ℕ)) (given : I → List ℕ) 
   }
 
   pub LaterSource-trans : ((x y z : I) → later x y → later y z → later x z) →
-      (x y z : HexSource I) → LaterSource text given last faults later x y → LaterSource text given last faults later y z → LaterSource text given last faults later x z
+      (x y z : HexSource I) → LaterSource view later x y → LaterSource view later y z → LaterSource view later x z
   LaterSource-trans r x y z a b = record {
     same_reference = a.same_reference ∙ b.same_reference;
     reading = LaterReading-trans r (text_reading x) (text_reading y) (text_reading z) a.reading b.reading;

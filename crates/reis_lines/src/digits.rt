@@ -48,7 +48,8 @@ fn decode_digits(digits: &[u8], bytes: &mut [u8]) -> bool
 pub(crate) fn decode_line(line: &[u8], bytes: &mut [u8]) -> Option<usize>
     requires some { 0 < length line.now }
     requires room { MOST_PIECE_BYTES ≤ length bytes.old }
-    ensures spells { MatchOption result (line_bytes line.now ≡ None) (λ n. line_bytes line.now ≡ Some (take n bytes.new)) }
+    ensures spells { MatchOption result (line_bytes line.now ≡ None)
+        (λ n. line_bytes line.now ≡ Some (take n bytes.new)) }
     ensures size { IfSome result (λ n. (0 < n) × (n ≤ MOST_PIECE_BYTES)) }
 {
     if line.len() > LONGEST_LINE || line.len() % 2 != 0 {

@@ -86,13 +86,15 @@ fn fetch_behind<I: Input>(input: &mut I, room: &mut [u8], end: usize) -> Result<
     requires { end < length room.old }
     ensures fits { IfOk result (λ n. end + n ≤ length room.new) }
     ensures front { take end room.new ≡ take end room.old }
-    ensures text { (text : List ℕ) → I.text input.old ≡ Some text →
-        IfOk result (λ n. ReadsBehind (take end room.old) text (take (end + n) room.new) (I.text input.new) n) }
-    ensures left { OnErr result ((text : List ℕ) → I.text input.old ≡ Some text → I.text input.new ≡ Some text) }
-    ensures given { IfOk result (λ n. GaveBehind (I.given input.old) (I.given input.new) (take end room.old) (take (end + n) room.new)) }
-    ensures none_given { OnErr result (I.given input.new ≡ I.given input.old) }
-    ensures last { I.last input.new ≡ last_fetched result }
-    ensures cause { HasCause (I.faults input.old) (I.faults input.new) result }
+    ensures text { (text : List ℕ) → (I.view input.old).left ≡ Some text →
+        IfOk result (λ n. ReadsBehind (take end room.old) text (take (end + n) room.new) (I.view input.new).left n) }
+    ensures left { OnErr result ((text : List ℕ) → (I.view input.old).left ≡ Some text →
+        (I.view input.new).left ≡ Some text) }
+    ensures given { IfOk result (λ n. GaveBehind (I.view input.old).given (I.view input.new).given (take end room.old)
+        (take (end + n) room.new)) }
+    ensures none_given { OnErr result ((I.view input.new).given ≡ (I.view input.old).given) }
+    ensures last { (I.view input.new).last ≡ last_fetched result }
+    ensures cause { HasCause (I.view input.old).faults (I.view input.new).faults result }
     ensures later { I.later input.old input.new }
 {
     input.fetch(&mut room[end..])
@@ -155,17 +157,19 @@ impl Held {
     /// Reads on, where fewer bytes are held than are too many for a line. No byte is the end.
     fn read<I: Input>(&mut self, input: &mut I) -> Result<usize, Fault>
         requires { length self.old < TOO_LONG }
-        ensures text { (text : List ℕ) → I.text input.old ≡ Some text →
-            IfOk result (λ n. ReadsBehind self.old text self.new (I.text input.new) n) }
-        ensures left { OnErr result ((text : List ℕ) → I.text input.old ≡ Some text → I.text input.new ≡ Some text) }
-        ensures given { IfOk result (λ n. GaveBehind (I.given input.old) (I.given input.new) self.old self.new) }
-        ensures none_given { OnErr result (I.given input.new ≡ I.given input.old) }
-        ensures last { I.last input.new ≡ last_fetched result }
+        ensures text { (text : List ℕ) → (I.view input.old).left ≡ Some text →
+            IfOk result (λ n. ReadsBehind self.old text self.new (I.view input.new).left n) }
+        ensures left { OnErr result ((text : List ℕ) → (I.view input.old).left ≡ Some text →
+            (I.view input.new).left ≡ Some text) }
+        ensures given { IfOk result (λ n. GaveBehind (I.view input.old).given
+            (I.view input.new).given self.old self.new) }
+        ensures none_given { OnErr result ((I.view input.new).given ≡ (I.view input.old).given) }
+        ensures last { (I.view input.new).last ≡ last_fetched result }
         ensures count { IfOk result (λ n. length self.new ≡ length self.old + n) }
         ensures none { result ≡ Ok 0 → self.new ≡ self.old }
         ensures err { OnErr result (self.new ≡ self.old) }
         ensures fits { length self.new ≤ ROOM }
-        ensures cause { HasCause (I.faults input.old) (I.faults input.new) result }
+        ensures cause { HasCause (I.view input.old).faults (I.view input.new).faults result }
         ensures later { I.later input.old input.new }
     {
         let (start, end) = moved_to_front(&mut self.room, self.start, self.end);
@@ -179,22 +183,23 @@ impl Held {
     /// Reads until a whole line is held, or more than a line may have, or all of the text. It answers
     /// where the newline is, if there is one.
     pub(crate) fn find_line<I: Input>(&mut self, input: &mut I) -> Result<Option<usize>, Fault>
-        ensures text { (text : List ℕ) → I.text input.old ≡ Some text → Moves self.old text self.new (I.text input.new) }
+        ensures text { (text : List ℕ) → (I.view input.old).left ≡ Some text →
+            Moves self.old text self.new (I.view input.new).left }
         // whatever the input tells: what it gave, and that it answered its end exactly where this comes to it
-        ensures given { GaveBehind (I.given input.old) (I.given input.new) self.old self.new }
+        ensures given { GaveBehind (I.view input.old).given (I.view input.new).given self.old self.new }
         ensures asked { ((input.new ≡ input.old) × (came_to_end result (length self.new) ≡ false))
-            ⊎ (is_end (I.last input.new) ≡ came_to_end result (length self.new)) }
+            ⊎ (is_end (I.view input.new).last ≡ came_to_end result (length self.new)) }
         ensures place { IfOk result (λ found. FindsNewline found self.new) }
         ensures ends { result ≡ Ok None → length self.new < TOO_LONG →
-            (text : List ℕ) → I.text input.old ≡ Some text → I.text input.new ≡ Some [] }
+            (text : List ℕ) → (I.view input.old).left ≡ Some text → (I.view input.new).left ≡ Some [] }
         ensures within { IfOk result (λ found. line_skip found self.new ≤ length self.new) }
         ensures err { OnErr result (has_newline self.new ≡ false) }
-        ensures failed { OnErr result (I.last input.new ≡ answers.Fault) }
+        ensures failed { OnErr result ((I.view input.new).last ≡ answers.Fault) }
         ensures fits { length self.new ≤ ROOM }
         // a whole line is held already: the input isn't asked
         ensures unasked { has_newline self.old ≡ true → input.new ≡ input.old }
         ensures kept { has_newline self.old ≡ true → self.new ≡ self.old }
-        ensures cause { HasCause (I.faults input.old) (I.faults input.new) result }
+        ensures cause { HasCause (I.view input.old).faults (I.view input.new).faults result }
         ensures later { I.later input.old input.new }
     {
         'lines: loop {

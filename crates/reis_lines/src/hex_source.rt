@@ -28,6 +28,8 @@ pub struct HexSource<'a, I: Input> {
     bad: Option<u64>,
     bad_faults: u64,
     given: GivenPieces,
+    /// How often it was asked.
+    asked: u64,
     last: LastAnswer,
 }
 
@@ -66,6 +68,7 @@ impl<'a, I: Input> HexSource<'a, I> {
             bad: None,
             bad_faults: 0,
             given: GivenPieces::new(),
+            asked: 0,
             last: LastAnswer::Nothing,
         }
     }
@@ -87,22 +90,29 @@ impl<'a, I: Input> HexSource<'a, I> {
 
     /// Where the first line ends, if a newline ends it. The input isn't asked behind its end.
     fn find_line(&mut self) -> Result<Option<usize>, Fault>
-        ensures text { (text : List ℕ) → unread I.text (text_reading self.old) ≡ Some text →
-            Moves (text_reading self.old).held text (text_reading self.new).held (unread I.text (text_reading self.new)) }
-        ensures told { (text : List ℕ) → unread I.text (text_reading self.old) ≡ Some text → I.text (text_reading self.old).input ≡ Some text →
-            I.text (text_reading self.new).input ≡ unread I.text (text_reading self.new) }
-        ensures given { GaveBehind (I.given (text_reading self.old).input) (I.given (text_reading self.new).input)
+        ensures text { (text : List ℕ) → unread I.view (text_reading self.old) ≡ Some text →
+            Moves (text_reading self.old).held text (text_reading self.new).held
+            (unread I.view (text_reading self.new)) }
+        ensures told { (text : List ℕ) → unread I.view (text_reading self.old) ≡ Some text →
+            (I.view (text_reading self.old).input).left ≡ Some text →
+            (I.view (text_reading self.new).input).left ≡ unread I.view (text_reading self.new) }
+        ensures given { GaveBehind (I.view (text_reading self.old).input).given
+            (I.view (text_reading self.new).input).given
             (text_reading self.old).held (text_reading self.new).held }
-        ensures asked { KnowsEnd I.last (text_reading self.old) (text_reading self.new) }
+        ensures asked { KnowsEnd I.view (text_reading self.old) (text_reading self.new) }
         ensures place { IfOk result (λ found. FindsNewline found (text_reading self.new).held) }
-        ensures within { IfOk result (λ found. line_skip found (text_reading self.new).held ≤ length (text_reading self.new).held) }
-        ensures ends { result ≡ Ok None → length (text_reading self.new).held ≤ LONGEST_LINE → (text_reading self.new).ended ≡ true }
-        ensures err { OnErr result (FailsHere I.last (text_reading self.new)) }
+        ensures within { IfOk result (λ found. line_skip found (text_reading self.new).held ≤
+            length (text_reading self.new).held) }
+        ensures ends { result ≡ Ok None → length (text_reading self.new).held ≤ LONGEST_LINE →
+            (text_reading self.new).ended ≡ true }
+        ensures err { OnErr result (FailsHere I.view (text_reading self.new)) }
         ensures fits { length (text_reading self.new).held ≤ ROOM }
-        ensures unasked { has_newline (text_reading self.old).held ≡ true → (text_reading self.new).input ≡ (text_reading self.old).input }
+        ensures unasked { has_newline (text_reading self.old).held ≡ true →
+            (text_reading self.new).input ≡ (text_reading self.old).input }
         ensures behind_end { (text_reading self.old).ended ≡ true →
             ((text_reading self.new).input ≡ (text_reading self.old).input) × ((text_reading self.new).ended ≡ true) }
-        ensures cause { HasCause (I.faults (text_reading self.old).input) (I.faults (text_reading self.new).input) result }
+        ensures cause { HasCause (I.view (text_reading self.old).input).faults
+            (I.view (text_reading self.new).input).faults result }
         ensures later { I.later (text_reading self.old).input (text_reading self.new).input }
         ensures same_line { self.new.line ≡ self.old.line }
         ensures same_bad { self.new.bad ≡ self.old.bad }
@@ -123,21 +133,28 @@ impl<'a, I: Input> HexSource<'a, I> {
     fn next_piece(&mut self, bytes: &mut [u8]) -> Result<usize, Fault>
         requires { MOST_PIECE_BYTES ≤ length bytes.old }
         ensures size { IfOk result (λ n. n ≤ MOST_PIECE_BYTES) }
-        ensures pieces { (text : List ℕ) → unread I.text (text_reading self.old) ≡ Some text →
-            NextPiece (text_reading self.old).held text result (text_reading self.new).held (unread I.text (text_reading self.new)) bytes.new }
+        ensures pieces { (text : List ℕ) → unread I.view (text_reading self.old) ≡ Some text →
+            NextPiece (text_reading self.old).held text result (text_reading self.new).held
+            (unread I.view (text_reading self.new)) bytes.new }
         ensures given { GivesLine (text_reading self.old).pieces (text_reading self.new).pieces result bytes.new }
         ensures end { result ≡ Ok 0 → HoldsEnd (text_reading self.new).held (text_reading self.new).ended }
-        ensures fault { IsErr result → FailsHere I.last (text_reading self.new) ⊎ IsSome (text_reading self.new).bad }
-        ensures unasked { has_newline (text_reading self.old).held ≡ true → (text_reading self.new).input ≡ (text_reading self.old).input }
-        ensures behind_end { (text_reading self.old).ended ≡ true → (text_reading self.new).input ≡ (text_reading self.old).input }
-        ensures refused { IsSome (text_reading self.old).bad → IsErr result × ((text_reading self.new).input ≡ (text_reading self.old).input) }
-        ensures cause { HasCause (faults_of I.faults (text_reading self.old)) (faults_of I.faults (text_reading self.new)) result }
+        ensures fault { IsErr result → FailsHere I.view (text_reading self.new) ⊎ IsSome (text_reading self.new).bad }
+        ensures unasked { has_newline (text_reading self.old).held ≡ true →
+            (text_reading self.new).input ≡ (text_reading self.old).input }
+        ensures behind_end { (text_reading self.old).ended ≡ true →
+            (text_reading self.new).input ≡ (text_reading self.old).input }
+        ensures refused { IsSome (text_reading self.old).bad → IsErr result ×
+            ((text_reading self.new).input ≡ (text_reading self.old).input) }
+        ensures cause { HasCause (faults_of I.view (text_reading self.old))
+            (faults_of I.view (text_reading self.new)) result }
         ensures input_cause { (text_reading self.new).bad ≡ None →
-            HasCause (I.faults (text_reading self.old).input) (I.faults (text_reading self.new).input) result }
+            HasCause (I.view (text_reading self.old).input).faults
+            (I.view (text_reading self.new).input).faults result }
         ensures counted { (n : ℕ) → (text_reading self.new).bad ≡ Some n →
-            faults_of I.faults (text_reading self.new) ≡ I.faults (text_reading self.old).input + counted (text_reading self.old).bad_faults }
+            faults_of I.view (text_reading self.new) ≡
+            (I.view (text_reading self.old).input).faults + counted (text_reading self.old).bad_faults }
         ensures same_reference { reference_of self.new ≡ reference_of self.old }
-        ensures later { LaterReading I.text I.given I.last I.faults I.later (text_reading self.old) (text_reading self.new) }
+        ensures later { LaterReading I.view I.later (text_reading self.old) (text_reading self.new) }
     {
         if self.bad.is_some() {
             self.bad_faults = self.bad_faults.saturating_add(1);
@@ -168,47 +185,44 @@ impl<'a, I: Input> HexSource<'a, I> {
 impl<'a, I: Input> Source for HexSource<'a, I> {
     ghost use Rattle.std.specs.Prelude.{◌≡◌, ◌≤◌, ◌+◌, ℕ, Some, None, length, IfOk, IsErr, true};
     ghost use Rattle.ei_backend.specs.Memory.{counted};
-    ghost use Rattle.ei_backend.specs.Outside.{Piece, HasCause, IsPieceSize, TakesTold, GivesPiece, last_of};
+    ghost use Rattle.ei_backend.specs.Outside.{HasCause, IsPieceSize, IsTake};
     ghost use Rattle.reis_lines.specs.Text.{has_newline};
-    ghost use Rattle.reis_lines.specs.HexSource.{text_reading, answer_of, left_of, faults_of, LaterSource};
+    ghost use Rattle.reis_lines.specs.HexSource.{text_reading, source_of, faults_of, LaterSource};
     ghost use Rattle.reis_lines.specs.LaterReadings.{LaterSource-refl, LaterSource-trans};
 
-    ghost left = { λ s. left_of I.text (text_reading s) };
+    ghost view = { source_of I.view };
 
-    ghost given = { λ s. (text_reading s).pieces };
+    ghost later = { λ x y. LaterSource I.view I.later x y };
 
-    ghost faults = { λ s. faults_of I.faults (text_reading s) };
+    ghost later_refl = { λ x. LaterSource-refl I.view I.later I.later_refl x };
 
-    ghost last = { λ s. answer_of s };
-
-    ghost later = { λ x y. LaterSource I.text I.given I.last I.faults I.later x y };
-
-    ghost later_refl = { λ x. LaterSource-refl I.text I.given I.last I.faults I.later I.later_refl x };
-
-    ghost later_trans = { λ x y z a b. LaterSource-trans I.text I.given I.last I.faults I.later I.later_trans x y z a b };
+    ghost later_trans = { λ x y z a b. LaterSource-trans I.view I.later I.later_trans x y z a b };
 
     fn take(&mut self, bytes: &mut [u8], _handles: &mut [Handle]) -> Result<Taken, Fault>
         requires room { MOST_PIECE_BYTES ≤ length bytes.old }
         requires handle_room { 64 ≤ length _handles.old }
         ensures size { IfOk result IsPieceSize }
-        ensures pieces { TakesTold (left_of I.text (text_reading self.old)) (left_of I.text (text_reading self.new)) result bytes.new _handles.new }
-        ensures given { GivesPiece (text_reading self.old).pieces (text_reading self.new).pieces result bytes.new _handles.new }
-        ensures cause { HasCause (faults_of I.faults (text_reading self.old)) (faults_of I.faults (text_reading self.new)) result }
-        ensures last { answer_of self.new ≡ last_of result }
-        ensures later { LaterSource I.text I.given I.last I.faults I.later self.old self.new }
+        ensures takes { IsTake (source_of I.view self.old) (source_of I.view self.new) result bytes.new _handles.new }
+        ensures later { LaterSource I.view I.later self.old self.new }
         // the input isn't asked while a whole line is held, nor behind its end, nor behind a bad line
-        ensures unasked { has_newline (text_reading self.old).held ≡ true → (text_reading self.new).input ≡ (text_reading self.old).input }
-        ensures behind_end { (text_reading self.old).ended ≡ true → (text_reading self.new).input ≡ (text_reading self.old).input }
+        ensures unasked { has_newline (text_reading self.old).held ≡ true →
+            (text_reading self.new).input ≡ (text_reading self.old).input }
+        ensures behind_end { (text_reading self.old).ended ≡ true →
+            (text_reading self.new).input ≡ (text_reading self.old).input }
         ensures refused { (n : ℕ) → (text_reading self.old).bad ≡ Some n →
             IsErr result × ((text_reading self.new).input ≡ (text_reading self.old).input) }
         // a bad line counts one fault at each call, and where none was met a fault is the input's
         ensures counted { (n : ℕ) → (text_reading self.new).bad ≡ Some n →
-            faults_of I.faults (text_reading self.new) ≡ I.faults (text_reading self.old).input + counted (text_reading self.old).bad_faults }
+            faults_of I.view (text_reading self.new) ≡
+            (I.view (text_reading self.old).input).faults + counted (text_reading self.old).bad_faults }
         ensures input_cause { (text_reading self.new).bad ≡ None →
-            HasCause (I.faults (text_reading self.old).input) (I.faults (text_reading self.new).input) result }
+            HasCause (I.view (text_reading self.old).input).faults
+            (I.view (text_reading self.new).input).faults result }
     {
+        let asked = self.asked.saturating_add(1);
         match self.next_piece(bytes) {
             Ok(0) => {
+                self.asked = asked;
                 self.last = LastAnswer::End;
                 Ok(Taken {
                     bytes: 0,
@@ -216,6 +230,7 @@ impl<'a, I: Input> Source for HexSource<'a, I> {
                 })
             }
             Ok(n) => {
+                self.asked = asked;
                 self.last = LastAnswer::Piece;
                 Ok(Taken {
                     bytes: n,
@@ -223,6 +238,7 @@ impl<'a, I: Input> Source for HexSource<'a, I> {
                 })
             }
             Err(e) => {
+                self.asked = asked;
                 self.last = LastAnswer::Fault;
                 Err(e)
             }

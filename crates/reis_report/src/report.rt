@@ -37,8 +37,9 @@ pub fn push_reply_line(alloc: Global, out: &mut Vec<u8>, reply: &[u8]) -> Result
 
 /// Writes all of the text. After an error a front of it is written.
 pub fn write_all<O: Sink>(output: &mut O, text: &[u8]) -> Result<(), PutError>
-    ensures written { (held : Piece) → O.taken output.old ≡ Some held → Writes held text.now result (O.taken output.new) }
-    ensures sink { LentSink O.faults O.later (IsErrOf result put_error.Fault) output.old output.new }
+    ensures written { (held : Piece) → (O.view output.old).taken ≡ Some held →
+        Writes held text.now result (O.view output.new).taken }
+    ensures sink { LentSink O.view O.later (IsErrOf result put_error.Fault) output.old output.new }
 {
     let mut done = 0;
     while done < text.len() {

@@ -9,20 +9,20 @@ use Rattle.ei_session.specs.Refusals.{Refusal}
 use Rattle.ei_session.specs.Served.{Answer, Disconnect, End, UnexpectedEof, IdsExhausted, PieceLimit, HandleLimit, Refused, session, accepted, IsGood}
 use Rattle.ei_session.specs.Complete.{AreComplete}
 use Rattle.ei_session.proofs.Completing.{complete_ends}
-use Rattle.ei_backend.specs.Memory.{TrayView, never_failing}
-use Rattle.ei_backend.specs.Outside.{with_more}
+use Rattle.ei_backend.specs.Memory.{TrayView, never_failing, sink_of}
+use Rattle.ei_backend.specs.Outside.{InputView, with_more}
 use Rattle.ei_standing.specs.Standing.{request_in_code}
 use Rattle.ei_request.specs.declared.event.EisRequest.{EisRequest}
 use Rattle.ei_serve.specs.declared.session.Ended.{Ended as HowEnded}
 use Rattle.ei_serve.specs.declared.session.Ended.TheVariants as ended
 use Rattle.ei_serve.specs.Refusing.{refusal_of, IsRefused}
-use Rattle.ei_serve.specs.Serving.{AnswersAs, IsDecided, HandsOut, Replied, CutShort}
+use Rattle.ei_serve.specs.Serving.{AnswersAs, HandsOut, Replied, CutShort}
+use Rattle.ei_types.specs.Decided.{IsDecided}
 use Rattle.ei_types.specs.declared.error.Error.{Error}
 use Rattle.ei_types.specs.declared.error.Error.TheVariants as error
 use Rattle.reis_lines.specs.Text.{pieces_of, bad_line_of, number_from}
-use Rattle.ei_backend.specs.declared.outside.LastAnswer.{LastAnswer}
 use Rattle.reis_lines.specs.Given.{MetBadLine}
-use Rattle.reis_lines.specs.InputText.{InputView, input_view, IsText}
+use Rattle.reis_lines.specs.InputText.{IsText}
 use Rattle.reis_run.specs.Asked.{IsCut, Serves, Runs, MayAnswer}
 use Rattle.reis_run.specs.ProgramOutside.{Outside}
 use Rattle.reis_run.specs.Tell.{Report, status_of, Tells}
@@ -36,7 +36,7 @@ use Rattle.reis_run.specs.declared.session.LastLine.TheVariants as last_line
 
 -- a tray that took nothing
 abbrev pub empty_tray : TrayView
-empty_tray = record { held = record { bytes = []; handles = [] }; failing = never_failing; wants = 0 }
+empty_tray = record { held = record { bytes = []; handles = [] }; puts = []; failing = never_failing; wants = 0 }
 
 requests_of : (setup : Setup) (messages : List Raw) (readings : Option (List ℕ)) (old new requests : List EisRequest) → HandsOut setup messages readings old new → old ≡ [] → requests ≡ new → AreRequests setup messages readings requests
 requests_of setup messages readings old new requests h none same = record {
@@ -59,29 +59,29 @@ pub record Kept (tray : TrayView) (new : Piece) (reply : List ℕ) (old out requ
   pub requests_same : requests ≡ out
 
 -- the report of the messages
-pub is_of : (setup : Setup) (messages : List Raw) (readings : Option (List ℕ)) (tray : TrayView) (new : Piece) (reply : List ℕ) (old out requests : List EisRequest) (last : LastLine) → Kept tray new reply old out requests →
-    HandsOut setup messages readings old out → Replied setup messages (Some tray.held) (Some new) → IsOf setup messages readings (record { reply = reply; requests = requests; last = last })
-is_of setup messages readings tray new reply old out requests last k h r = record {
-  reply_is = bytes_are tray new (reply_bytes setup messages) reply (r tray.held refl) k.empty k.reply_same;
+pub is_of : (setup : Setup) (messages : List Raw) (readings : Option (List ℕ)) (tray : TrayView) (after : TrayView) (reply : List ℕ) (old out requests : List EisRequest) (last : LastLine) → Kept tray after.held reply old out requests →
+    HandsOut setup messages readings old out → Replied setup messages (sink_of tray) (sink_of after) → IsOf setup messages readings (record { reply = reply; requests = requests; last = last })
+is_of setup messages readings tray after reply old out requests last k h r = record {
+  reply_is = bytes_are tray after.held (reply_bytes setup messages) reply (r.told tray.held refl) k.empty k.reply_same;
   requests_are = requests_of setup messages readings old out requests h k.none k.requests_same;
 }
 
-pub is_of_given : (setup : Setup) (text : List ℕ) (left readings : Option (List ℕ)) (tray : TrayView) (new : Piece) (reply : List ℕ) (old out requests : List EisRequest) (last : LastLine) → Kept tray new reply old out requests →
-    HandledGiven setup text left readings old out (Some tray.held) (Some new) → IsOfGiven setup text left readings (record { reply = reply; requests = requests; last = last })
-is_of_given setup text left readings tray new reply old out requests last k h = record {
+pub is_of_given : (setup : Setup) (text : List ℕ) (left readings readings_new : Option (List ℕ)) (tray : TrayView) (after : TrayView) (reply : List ℕ) (old out requests : List EisRequest) (last : LastLine) → Kept tray after.held reply old out requests →
+    HandledGiven setup text left readings readings_new old out (sink_of tray) (sink_of after) → IsOfGiven setup text left readings (record { reply = reply; requests = requests; last = last })
+is_of_given setup text left readings readings_new tray after reply old out requests last k h = record {
   pieces = h.pieces;
   given = h.given;
   first = h.first;
   goes_on = h.goes_on;
-  is_of = is_of setup (accepted setup (stream h.pieces)) readings tray new reply old out requests last k h.requests h.replies;
+  is_of = is_of setup (accepted setup (stream h.pieces)) readings tray after reply old out requests last k h.requests h.replies;
 }
 
-pub is_of_first : (setup : Setup) (text given : List ℕ) (left readings : Option (List ℕ)) (tray : TrayView) (new : Piece) (reply : List ℕ) (old out requests : List EisRequest) (last : LastLine) → Kept tray new reply old out requests →
-    TookLines text given left (λ pieces. CutShort setup (pieces_of text) pieces readings old out (Some tray.held) (Some new)) →
+pub is_of_first : (setup : Setup) (text given : List ℕ) (left readings readings_new : Option (List ℕ)) (tray : TrayView) (after : TrayView) (reply : List ℕ) (old out requests : List EisRequest) (last : LastLine) → Kept tray after.held reply old out requests →
+    TookLines text given left (λ pieces. CutShort setup (pieces_of text) pieces readings readings_new old out (sink_of tray) (sink_of after)) →
     TookLines text given left (IsOfFirst setup (pieces_of text) readings (record { reply = reply; requests = requests; last = last }))
-is_of_first setup text given left readings tray new reply old out requests last k w =
+is_of_first setup text given left readings readings_new tray after reply old out requests last k w =
     let h = w.took in
-    let r = h.replies tray.held refl in
+    let r = h.replies.told tray.held refl in
     record {
       pieces = w.pieces;
       waiting = w.waiting;
@@ -95,10 +95,10 @@ is_of_first setup text given left readings tray new reply old out requests last 
         reached = h.reached;
         ahead = h.ahead;
         owed = h.owed;
-        reply_is = (r.0, bytes_are tray new (take r.0 (reply_bytes setup h.reached)) reply r.1 k.empty k.reply_same);
+        reply_is = (r.0, bytes_are tray after.held (take r.0 (reply_bytes setup h.reached)) reply r.1 k.empty k.reply_same);
         replied = λ some.
             let more = h.replied some tray.held refl in
-            (more.0, bytes_are tray new (reply_bytes setup (accepted setup (stream (take (h.k - 1) (pieces_of text)))) ++ more.0) reply more.1 k.empty k.reply_same);
+            (more.0, bytes_are tray after.held (reply_bytes setup (accepted setup (stream (take (h.k - 1) (pieces_of text)))) ++ more.0) reply more.1 k.empty k.reply_same);
         requests_are = requests_of setup h.reached readings old out requests h.requests k.none k.requests_same;
       };
     }
@@ -221,18 +221,14 @@ is_risen l R result tells (inl s) rose = inl (s ∙ risen_status l (tells rose))
 
 -- ---- what an input says
 
-module _ {I : Type 0} (text : I → Option (List ℕ)) (given : I → List ℕ) (last : I → LastAnswer) (faults : I → ℕ) (old new : I) where
-  abbrev view : I → InputView
-  view i = input_view text given last faults i
-
+module _ {I : Type 0} (view : I → InputView) (old new : I) where
   -- a text by what it says is a text of it
-  pub seen_text : (t : List ℕ) (left : Option (List ℕ)) →
-      IsText (λ (v : InputView). v.text) (λ (v : InputView). v.given) (λ (v : InputView). v.last) (view old) (view new) t left → IsText text given last old new t left
+  pub seen_text : (t : List ℕ) (left : Option (List ℕ)) → IsText (λ (v : InputView). v) (view old) (view new) t left → IsText view old new t left
   seen_text t left (inl is) = inl (record { told_is = is.told_is; left_is = is.left_is })
   seen_text t left (inr is) = inr (record { more = is.more; text_is = is.text_is; left_is = is.left_is; ends = is.ends })
 
   -- and a bad line that it met is met by what it says
-  pub seen_met : (n : ℕ) → MetBadLine given last old new n → MetBadLine (λ (v : InputView). v.given) (λ (v : InputView). v.last) (view old) (view new) n
+  pub seen_met : (n : ℕ) → MetBadLine view old new n → MetBadLine (λ (v : InputView). v) (view old) (view new) n
   seen_met n met = record { place = met.place; bad = met.bad; number = met.number }
 
 -- ---- the words

@@ -27,7 +27,7 @@ IsCut result = (result ≡ 4) ⊎ (result ≡ 5)
 -- follows from the text, but for faults; it is 3 only where the input failed or the bytes that it gave have a bad line, whole, and
 -- a fault of the input is told by it. Where no line is bad, the pieces make a good end sure and nothing fails, the status is 0 or 5.
 pub record Serves (text_of : Report → List ℕ) (setup : Setup) (result : ℕ) (before after : Outside) : Type 0 where
-  pub report : Reports (IsReport setup before after) text_of result before.output after.output
+  pub report : Reports (IsReport setup before after) text_of result before.output.taken after.output.taken
   pub status : ForEachText (IsTextOf before after) (λ text left. IsStatus (status_of_end (end_of setup text)) (InputRose before after) result)
   pub cause : HasReadCause result (InputRose before after) (MetLineOf before after)
   pub risen : before.input.faults < after.input.faults → (result ≡ 3) ⊎ IsCut result
@@ -36,7 +36,7 @@ pub record Serves (text_of : Report → List ℕ) (setup : Setup) (result : ℕ)
 
 -- Six lines of the session over the generated stream are told, which ends with the disconnect.
 pub record Demonstrates (groups start result : ℕ) (before after : Outside) : Type 0 where
-  pub lines : (held : Piece) → before.output ≡ Some held → Tells 0 (demo_lines groups start (Ok ended.Disconnect)) held result after.output
+  pub lines : (held : Piece) → before.output.taken ≡ Some held → Tells 0 (demo_lines groups start (Ok ended.Disconnect)) held result after.output.taken
   pub readings : result ≡ 0 → LeftReadings demo_setup (demo_session groups start).handled before.readings after.readings
 
 -- what the program does at this command; with none it tells the usage line
@@ -44,7 +44,7 @@ abbrev pub Runs : List ℕ → Option Command → ℕ → Outside → Outside �
 Runs usage (Some (Serve serial capabilities pieces)) result before after = Serves report_text (setup_with serial capabilities pieces) result before after
 Runs usage (Some (Trace serial capabilities pieces)) result before after = Serves traced_text (setup_with serial capabilities pieces) result before after
 Runs usage (Some (Demo groups start)) result before after = Demonstrates groups start result before after
-Runs usage None result before after = (held : Piece) → before.output ≡ Some held → Tells 2 usage held result after.output
+Runs usage None result before after = (held : Piece) → before.output.taken ≡ Some held → Tells 2 usage held result after.output.taken
 
 -- the statuses at this command: 2 exactly where there is none and all was told
 abbrev pub MayAnswer : Option Command → ℕ → Type 0

@@ -1,35 +1,34 @@
 -- What the program's outside says.
 use Rattle.std.specs.Prelude.{ℕ, List, Option}
-use Rattle.ei_backend.specs.Outside.{Piece, Rose}
+use Rattle.ei_backend.specs.Outside.{InputView, SinkView, Rose}
 use Rattle.reis_lines.specs.Given.{given_since, MetBadLine}
-use Rattle.reis_lines.specs.InputText.{InputView, IsText}
+use Rattle.reis_lines.specs.InputText.{IsText}
 
--- The input; what the output took, where it tells it, and its count of faults; and the readings that the clock has left, where it tells them.
+-- What the input and the output say of themselves, and the readings that the clock has left, where it tells them.
 pub record Outside : Type 0 where
   pub input : InputView
-  pub output : Option Piece
-  pub output_faults : ℕ
+  pub output : SinkView
   pub readings : Option (List ℕ)
 
 -- these, in this order
-abbrev pub outside : InputView → Option Piece → ℕ → Option (List ℕ) → Outside
-outside input output output_faults readings = record { input = input; output = output; output_faults = output_faults; readings = readings }
+abbrev pub outside : InputView → SinkView → Option (List ℕ) → Outside
+outside input output readings = record { input = input; output = output; readings = readings }
 
 -- a text of the input, and what is left of it
 abbrev pub IsTextOf : Outside → Outside → List ℕ → Option (List ℕ) → Type 0
-IsTextOf before after = IsText (λ (v : InputView). v.text) (λ (v : InputView). v.given) (λ (v : InputView). v.last) before.input after.input
+IsTextOf before after = IsText (λ (v : InputView). v) before.input after.input
 
 -- the bytes that the input gave from the first to the second
 abbrev pub given_by : Outside → Outside → List ℕ
-given_by before after = given_since (λ (v : InputView). v.given) before.input after.input
+given_by before after = given_since (λ (v : InputView). v) before.input after.input
 
 -- the bytes that the input gave have a first bad line, which is whole, and this is its number
 abbrev pub MetLineOf : Outside → Outside → ℕ → Type 0
-MetLineOf before after = MetBadLine (λ (v : InputView). v.given) (λ (v : InputView). v.last) before.input after.input
+MetLineOf before after = MetBadLine (λ (v : InputView). v) before.input after.input
 
 -- the input failed, and the output
 abbrev pub InputRose : Outside → Outside → Type 0
 InputRose before after = Rose before.input.faults after.input.faults
 
 abbrev pub OutputRose : Outside → Outside → Type 0
-OutputRose before after = Rose before.output_faults after.output_faults
+OutputRose before after = Rose before.output.faults after.output.faults

@@ -10,10 +10,13 @@ use Rattle.ei_session.specs.Served.{Answer, Disconnect, End, UnexpectedEof, sess
 use Rattle.ei_standing.specs.Standing.{request_in_code}
 use Rattle.ei_request.specs.declared.event.EisRequest.{EisRequest}
 use Rattle.ei_serve.specs.declared.session.Ended.{Ended as HowEnded}
-use Rattle.ei_serve.specs.Serving.{AnswersAs, IsDecided, IsCutShort, TookPieces, TookAllOf, TookToTheEnd, AreReadings, LeftReadings, HandsOut, Replied}
+use Rattle.ei_serve.specs.Serving.{AnswersAs, TookAllOf, TookToTheEnd, AreReadings, LeftReadings, HandsOut, Replied, CutShort}
+use Rattle.ei_backend.specs.Pieces.{TookPieces}
+use Rattle.ei_types.specs.Decided.{IsDecided, IsCutShort}
 use Rattle.ei_types.specs.declared.error.Error.{Error}
 use Rattle.ei_types.specs.declared.error.Error.TheVariants as error
 use Rattle.ei_backend.specs.declared.outside.LastAnswer.TheVariants as answers
+use Rattle.ei_backend.specs.Outside.{SinkView, InputView, Rose}
 use Rattle.reis_lines.specs.InputText.{ForEachText}
 use Rattle.reis_lines.specs.Taken.{GaveLines}
 use Rattle.reis_run.specs.ProgramOutside.{Outside, IsTextOf, MetLineOf, InputRose, given_by}
@@ -81,13 +84,14 @@ IsCutShortLine (last_line.BadLine n) = ⊥
 
 -- At a read fault the messages of exactly the pieces of the whole lines given were handled, and the session was over with none of these.
 pub record HandledGiven
-    (setup : Setup) (text : List ℕ) (left readings : Option (List ℕ)) (out_old out_new : List EisRequest) (took_old took_new : Option Piece) : Type 0 where
+    (setup : Setup) (text : List ℕ) (left readings readings_new : Option (List ℕ)) (out_old out_new : List EisRequest) (sink_old sink_new : SinkView) : Type 0 where
   pub pieces : List Piece
   pub given : AreGiven text left pieces
   pub first : (more : List Piece) × (pieces_of text ≡ pieces ++ more)
   pub goes_on : (j : ℕ) → 1 ≤ j → j ≤ length pieces → is_over setup (pieces_of text) j ≡ false
   pub requests : HandsOut setup (accepted setup (stream pieces)) readings out_old out_new
-  pub replies : Replied setup (accepted setup (stream pieces)) took_old took_new
+  pub replies : Replied setup (accepted setup (stream pieces)) sink_old sink_new
+  pub readings_left : LeftReadings setup (accepted setup (stream pieces)) readings readings_new
 
 -- the pieces that an input's text has left behind these bytes
 abbrev pub pieces_left : List ℕ → Option (List ℕ) → Option (List Piece)
@@ -108,6 +112,33 @@ pub record TookLines (text given : List ℕ) (left : Option (List ℕ)) (Took : 
   pub first : pieces_of text ≡ pieces ++ more
   pub left_is : pieces_left waiting left ≡ Some more
   pub took : Took (pieces_left waiting left)
+
+-- what a session hands out, where it replies, and the readings that its clock has left
+pub record Beside : Type 0 where
+  pub out : List EisRequest
+  pub sink : SinkView
+  pub readings : Option (List ℕ)
+
+abbrev pub beside : List EisRequest → SinkView → Option (List ℕ) → Beside
+beside out sink readings = record { out = out; sink = sink; readings = readings }
+
+-- The session over the lines of a text, of which this is left: how it ended, what it handed out and replied, which readings it took,
+-- and which lines. Where the input failed it is the session over the lines given, and where it was cut short a front of it.
+pub record ServesText
+    (setup : Setup) (gave text : List ℕ) (left : Option (List ℕ)) (last : LastLine) (old new : Beside) : Type 0 where
+  pub ends : IsDecidedLine last → EndsAs (end_of setup text) last
+  pub requests : IsDecidedLine last → HandsOut setup (session setup (pieces_of text)).handled old.readings old.out new.out
+  pub replies : IsDecidedLine last → Replied setup (session setup (pieces_of text)).handled old.sink new.sink
+  pub readings : IsAnswered last → LeftReadings setup (session setup (pieces_of text)).handled old.readings new.readings
+  pub given : IsReadFault last → HandledGiven setup text left old.readings new.readings old.out new.out old.sink new.sink
+  pub cut_short : IsCutShortLine last → TookLines text gave left (λ pieces.
+      CutShort setup (pieces_of text) pieces old.readings new.readings old.out new.out old.sink new.sink)
+  pub taken : IsDecidedLine last → TookLines text gave left (TookAllAs setup (pieces_of text) last)
+
+-- the input counted a fault, and answered it last
+pub record FailedLast {I : Type 0} (view : I → InputView) (old new : I) : Type 0 where
+  pub fault : Rose (view old).faults (view new).faults
+  pub last : (view new).last ≡ answers.Fault
 
 -- ---- what is reported
 

@@ -9,7 +9,6 @@ ghost use Rattle.ei_serve.specs.Serving.{LeftReadings};
 ghost use Rattle.ei_serve.specs.declared.session.Ended.TheVariants as ended;
 ghost use Rattle.reis_demo.specs.Generated.{demo_setup};
 ghost use Rattle.reis_demo.specs.Summary.{demo_session, demo_lines};
-ghost use Rattle.reis_lines.specs.InputText.{input_view};
 ghost use Rattle.reis_lines.specs.Lent.{LentInput};
 ghost use Rattle.reis_run.specs.Asked.{setup_with, IsCut, Serves, Runs, MayAnswer, reads_input};
 ghost use Rattle.reis_run.specs.ProgramOutside.{outside};
@@ -62,13 +61,11 @@ fn serve_command<I: Input, O: Sink, C: Clock>(
 ) -> u8
     requires lawful { bits_of setup.capabilities ≤ all_bits }
     ensures serves { Serves (told_text form) (setup_of setup) result
-        (outside (input_view I.text I.given I.last I.faults input.old)
-        (O.taken output.old) (O.faults output.old) (C.readings clock.old))
-        (outside (input_view I.text I.given I.last I.faults input.new)
-        (O.taken output.new) (O.faults output.new) (C.readings clock.new)) }
+        (outside (I.view input.old) (O.view output.old) (C.view clock.old).left)
+        (outside (I.view input.new) (O.view output.new) (C.view clock.new).left) }
     ensures answer { result ≡ 2 → ⊥ }
-    ensures input { LentInput I.text I.given I.faults I.later input.old input.new }
-    ensures output { LentSink O.faults O.later (result ≡ 4) output.old output.new }
+    ensures input { LentInput I.view I.later input.old input.new }
+    ensures output { LentSink O.view O.later (result ≡ 4) output.old output.new }
     ensures clock { LentClock C.later clock.old clock.new }
 {
     let mut reply = Tray::new(alloc);
@@ -85,12 +82,12 @@ fn demo_command<O: Sink, C: Clock>(
     output: &mut O,
     clock: &mut C,
 ) -> u8
-    ensures lines { (held : Piece) → O.taken output.old ≡ Some held →
-        Tells 0 (demo_lines groups start (Ok ended.Disconnect)) held result (O.taken output.new) }
+    ensures lines { (held : Piece) → (O.view output.old).taken ≡ Some held →
+        Tells 0 (demo_lines groups start (Ok ended.Disconnect)) held result (O.view output.new).taken }
     ensures answer { (result ≡ 0) ⊎ IsCut result }
     ensures readings { result ≡ 0 →
-        LeftReadings demo_setup (demo_session groups start).handled (C.readings clock.old) (C.readings clock.new) }
-    ensures output { LentSink O.faults O.later (result ≡ 4) output.old output.new }
+        LeftReadings demo_setup (demo_session groups start).handled (C.view clock.old).left (C.view clock.new).left }
+    ensures output { LentSink O.view O.later (result ≡ 4) output.old output.new }
     ensures clock { LentClock C.later clock.old clock.new }
 {
     match demo(alloc, groups, start, clock) {
@@ -121,16 +118,14 @@ pub fn run<I: Input, O: Sink, C: Clock>(
 ) -> u8
     // by the command that the words are, exactly: its report, its trace or its six lines; with none, the usage line
     ensures runs { Runs USAGE.now (command_of words.now) result
-        (outside (input_view I.text I.given I.last I.faults input.old)
-        (O.taken output.old) (O.faults output.old) (C.readings clock.old))
-        (outside (input_view I.text I.given I.last I.faults input.new)
-        (O.taken output.new) (O.faults output.new) (C.readings clock.new)) }
+        (outside (I.view input.old) (O.view output.old) (C.view clock.old).left)
+        (outside (I.view input.new) (O.view output.new) (C.view clock.new).left) }
     ensures answer { MayAnswer (command_of words.now) result }
     ensures unasked { reads_input (command_of words.now) ≡ false → input.new ≡ input.old }
     ensures unread { command_of words.now ≡ None → clock.new ≡ clock.old }
     // the input, the output and the clock: status 4 exactly where the output failed
-    ensures input { LentInput I.text I.given I.faults I.later input.old input.new }
-    ensures output { LentSink O.faults O.later (result ≡ 4) output.old output.new }
+    ensures input { LentInput I.view I.later input.old input.new }
+    ensures output { LentSink O.view O.later (result ≡ 4) output.old output.new }
     ensures clock { LentClock C.later clock.old clock.new }
 {
     match Command::from_words(words) {

@@ -1,19 +1,14 @@
 //! A session over the lines of an input.
 
-ghost use Rattle.std.specs.Prelude.{◌≡◌, ◌<◌, ◌≤◌, ℕ, List, Some};
+ghost use Rattle.std.specs.Prelude.{◌≡◌, ◌<◌, ◌≤◌, ℕ};
 ghost use Rattle.ei_types.specs.Capability.{bits_of, all_bits};
 ghost use Rattle.ei_backend.specs.Lent.{LentClock};
-ghost use Rattle.ei_backend.specs.Outside.{Rose};
-ghost use Rattle.ei_backend.specs.declared.outside.LastAnswer.TheVariants as answers;
-ghost use Rattle.ei_session.specs.Served.{session};
+ghost use Rattle.ei_backend.specs.Memory.{sink_of};
 ghost use Rattle.ei_serve.specs.Standing.{setup_of};
-ghost use Rattle.ei_serve.specs.Serving.{HandsOut, Replied, LeftReadings, CutShort};
 ghost use Rattle.reis_lines.specs.Given.{given_since, MetBadLine};
 ghost use Rattle.reis_lines.specs.InputText.{ForText};
 ghost use Rattle.reis_lines.specs.Lent.{LentInput};
-ghost use Rattle.reis_lines.specs.Text.{pieces_of};
-ghost use Rattle.reis_run.specs.Session.{end_of, EndsAs, IsDecidedLine, IsAnswered, IsReadFault, IsCutShortLine, HandledGiven, TookLines, TookAllAs};
-ghost use Rattle.reis_run.specs.Session.{last_line_of, IsBadLine, TellsFault};
+ghost use Rattle.reis_run.specs.Session.{beside, last_line_of, ServesText, FailedLast, IsReadFault, IsBadLine, TellsFault};
 
 use ei_backend::{Clock, Input, Tray};
 use ei_request::EisRequest;
@@ -53,30 +48,15 @@ pub(crate) fn serve_lines<I: Input, C: Clock>(
 ) -> LastLine
     requires lawful { bits_of setup.capabilities ≤ all_bits }
     // over a text of the input, told or given: the session over its pieces, or its first bad line
-    ensures ends { ForText I.text I.given I.last input.old input.new (λ text left. IsDecidedLine result → EndsAs (end_of (setup_of setup) text) result) }
-    ensures requests { ForText I.text I.given I.last input.old input.new (λ text left. IsDecidedLine result →
-        HandsOut (setup_of setup) (session (setup_of setup) (pieces_of text)).handled (C.readings clock.old) requests.old.items requests.new.items) }
-    ensures replies { ForText I.text I.given I.last input.old input.new (λ text left. IsDecidedLine result →
-        Replied (setup_of setup) (session (setup_of setup) (pieces_of text)).handled (Some reply.old.held) (Some reply.new.held)) }
-    ensures readings { ForText I.text I.given I.last input.old input.new (λ text left. IsAnswered result →
-        LeftReadings (setup_of setup) (session (setup_of setup) (pieces_of text)).handled (C.readings clock.old) (C.readings clock.new)) }
-    // where the input failed, or the session was cut short
-    ensures given { ForText I.text I.given I.last input.old input.new (λ text left. IsReadFault result →
-        HandledGiven (setup_of setup) text left (C.readings clock.old) requests.old.items requests.new.items
-        (Some reply.old.held) (Some reply.new.held)) }
-    ensures cut_short { ForText I.text I.given I.last input.old input.new (λ text left. IsCutShortLine result →
-        TookLines text (given_since I.given input.old input.new) left (λ pieces.
-        CutShort (setup_of setup) (pieces_of text) pieces (C.readings clock.old) requests.old.items requests.new.items
-        (Some reply.old.held) (Some reply.new.held))) }
-    // nothing is read behind the last line that the session takes, but what a buffer has room for
-    ensures taken { ForText I.text I.given I.last input.old input.new (λ text left. IsDecidedLine result →
-        TookLines text (given_since I.given input.old input.new) left (TookAllAs (setup_of setup) (pieces_of text) result)) }
+    ensures serves { ForText I.view input.old input.new (λ text left.
+        ServesText (setup_of setup) (given_since I.view input.old input.new) text left result
+        (beside requests.old.items (sink_of reply.old) (C.view clock.old).left)
+        (beside requests.new.items (sink_of reply.new) (C.view clock.new).left)) }
     // over any input
-    ensures fault { IsReadFault result → Rose (I.faults input.old) (I.faults input.new) }
-    ensures fault_last { IsReadFault result → I.last input.new ≡ answers.Fault }
-    ensures risen { I.faults input.old < I.faults input.new → TellsFault result }
-    ensures bad_line { (n : ℕ) → IsBadLine n result → MetBadLine I.given I.last input.old input.new n }
-    ensures input { LentInput I.text I.given I.faults I.later input.old input.new }
+    ensures fault { IsReadFault result → FailedLast I.view input.old input.new }
+    ensures risen { (I.view input.old).faults < (I.view input.new).faults → TellsFault result }
+    ensures bad_line { (n : ℕ) → IsBadLine n result → MetBadLine I.view input.old input.new n }
+    ensures input { LentInput I.view I.later input.old input.new }
     ensures clock { LentClock C.later clock.old clock.new }
 {
     let held = match Held::new(alloc) {

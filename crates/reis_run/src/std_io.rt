@@ -7,7 +7,7 @@
 ghost use Rattle.std.specs.Prelude.{◌≡◌, ◌<◌, ◌≤◌, ℕ, List, [], None, Some, IfOk, IfSome, length};
 ghost use Rattle.std.specs.Duration.{as_nanos};
 ghost use Rattle.ei_backend.specs.Memory.{counted};
-ghost use Rattle.ei_backend.specs.Outside.{HasCause, HasPutCause, HasPutWant, Fetches, Gives, last_fetched, Puts, IsPutSize, ReadsClock};
+ghost use Rattle.ei_backend.specs.Outside.{HasCause, HasPutCause, HasPutWant, CountsOne, Fetches, Gives, last_fetched, Puts, IsPutSize, IsReading};
 ghost use Rattle.ei_backend.specs.declared.outside.LastAnswer.TheVariants as answers;
 ghost use Rattle.reis_run.specs.StdIo.{Counts, IsSince, ReadsOrRepeats, faults_of_start, whole_micros};
 
@@ -31,6 +31,7 @@ pub struct StdInput<R: Read + Drop> {
     given: Given,
     last: LastAnswer,
     faults: u64,
+    asked: u64,
 }
 
 impl<R: Read + Drop> StdInput<R> {
@@ -46,18 +47,19 @@ impl<R: Read + Drop> StdInput<R> {
             given: Given::new(),
             last: LastAnswer::Nothing,
             faults: 0,
+            asked: 0,
         }
     }
 }
 
 impl<R: Read + Drop> Input for StdInput<R> {
-    ghost text = { λ s. R.remaining s.reader };
-
-    ghost given = { λ s. s.given.bytes };
-
-    ghost last = { λ s. s.last };
-
-    ghost faults = { λ s. s.faults };
+    ghost view = { λ s. record {
+      left = R.remaining s.reader;
+      given = s.given.bytes;
+      faults = s.faults;
+      asked = s.asked;
+      last = s.last;
+    } };
 
     ghost later = { λ _ _. Unit {0} };
 
@@ -72,9 +74,11 @@ impl<R: Read + Drop> Input for StdInput<R> {
         ensures given { Gives self.old.given.bytes self.new.given.bytes result bytes.new }
         ensures last { self.new.last ≡ last_fetched result }
         ensures cause { HasCause self.old.faults self.new.faults result }
+        ensures asked { CountsOne self.old.asked self.new.asked }
         // beyond the trait's
         ensures counts { Counts result self.old.faults self.new.faults }
     {
+        self.asked = self.asked.saturating_add(1);
         match self.reader.read(bytes) {
             Ok(n) => {
                 self.given.note(&bytes[..n]);
@@ -117,11 +121,7 @@ impl<W: Write + Drop> StdOutput<W> {
 impl<W: Write + Drop> Sink for StdOutput<W> {
     ghost use Rattle.reis_run.specs.StdIo.{Wrote, wrote_none, wrote_on};
 
-    ghost taken = { λ s. Some s.taken.piece };
-
-    ghost faults = { λ s. s.faults };
-
-    ghost wants = { λ _. 0 };
+    ghost view = { λ s. record { taken = Some s.taken.piece; puts = None; faults = s.faults; wants = 0 } };
 
     // the writer took what it took
     ghost later = { λ x y. Wrote (W.contents x.writer) (W.contents y.writer) x.taken.piece y.taken.piece };
@@ -136,7 +136,8 @@ impl<W: Write + Drop> Sink for StdOutput<W> {
         ensures taken { Puts (Some self.old.taken.piece) (Some self.new.taken.piece) result bytes.now handles.now }
         ensures cause { HasPutCause self.old.faults self.new.faults result }
         ensures want { HasPutWant 0 0 result }
-        ensures later { Wrote (W.contents self.old.writer) (W.contents self.new.writer) self.old.taken.piece self.new.taken.piece }
+        ensures later { Wrote (W.contents self.old.writer)
+            (W.contents self.new.writer) self.old.taken.piece self.new.taken.piece }
         // beyond the trait's
         ensures counts { Counts result self.old.faults self.new.faults }
     {
@@ -198,9 +199,7 @@ impl<'a, C: TimeSource> StdClock<'a, C> {
 }
 
 impl<C: TimeSource> Clock for StdClock<'_, C> {
-    ghost readings = { λ _. None };
-
-    ghost faults = { λ s. s.faults };
+    ghost view = { λ s. record { left = None; faults = s.faults } };
 
     ghost later = { λ _ _. Unit {0} };
 
@@ -209,8 +208,8 @@ impl<C: TimeSource> Clock for StdClock<'_, C> {
     ghost later_trans = { λ _ _ _ _ _. tt };
 
     fn now(&mut self) -> u64
-        ensures reading { (told : List ℕ) → None ≡ Some told → ReadsClock told None result }
-        ensures cause { self.old.faults ≤ self.new.faults }
+        ensures reads { IsReading (record { left = None; faults = self.old.faults })
+            (record { left = None; faults = self.new.faults }) result }
         // beyond the trait's
         ensures answers { ReadsOrRepeats self.old.start self.old.faults self.new.faults self.old.last result }
         ensures last { self.new.last ≡ result }

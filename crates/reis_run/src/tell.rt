@@ -72,7 +72,8 @@ fn report_text(
     requests: &[EisRequest],
     last: &LastLine,
 ) -> Result<Vec<u8>, NoMemory>
-    ensures { IfOk result (λ text. text.items ≡ report_text (record { reply = reply.now; requests = requests.now; last = last.now })) }
+    ensures { IfOk result (λ text. text.items ≡
+        report_text (record { reply = reply.now; requests = requests.now; last = last.now })) }
 {
     let mut out = Vec::new(alloc);
     push_reply_line(alloc, &mut out, reply)?;
@@ -90,7 +91,8 @@ fn told_text(
     requests: &[EisRequest],
     last: &LastLine,
 ) -> Result<Vec<u8>, NoMemory>
-    ensures { IfOk result (λ text. text.items ≡ told_text form (record { reply = reply.now; requests = requests.now; last = last.now })) }
+    ensures { IfOk result (λ text. text.items ≡
+        told_text form (record { reply = reply.now; requests = requests.now; last = last.now })) }
 {
     let mut out = report_text(alloc, reply, requests, last)?;
     match form {
@@ -119,10 +121,10 @@ fn status_of(last: &LastLine) -> u8
 /// Writes the text. It answers the status, or why not all of the text was written.
 pub(crate) fn tell<O: Sink>(output: &mut O, text: &[u8], status: u8) -> u8
     requires unfailing { status ≡ 4 → ⊥ }
-    ensures told { (held : Piece) → O.taken output.old ≡ Some held →
-        Tells status text.now held result (O.taken output.new) }
+    ensures told { (held : Piece) → (O.view output.old).taken ≡ Some held →
+        Tells status text.now held result (O.view output.new).taken }
     ensures statuses { (result ≡ status) ⊎ ((result ≡ 4) ⊎ (result ≡ 5)) }
-    ensures output { LentSink O.faults O.later (result ≡ 4) output.old output.new }
+    ensures output { LentSink O.view O.later (result ≡ 4) output.old output.new }
 {
     match write_all(output, text) {
         Ok(()) => status,
@@ -140,10 +142,12 @@ pub(crate) fn tell_session<O: Sink>(
     requests: &[EisRequest],
     last: &LastLine,
 ) -> u8
-    ensures told { (held : Piece) → O.taken output.old ≡ Some held →
-        Tells (status_of last.now) (told_text form (record { reply = reply.now; requests = requests.now; last = last.now })) held result (O.taken output.new) }
+    ensures told { (held : Piece) → (O.view output.old).taken ≡ Some held →
+        Tells (status_of last.now) (told_text form
+        (record { reply = reply.now; requests = requests.now; last = last.now })) held result
+        (O.view output.new).taken }
     ensures statuses { (result ≡ status_of last.now) ⊎ ((result ≡ 4) ⊎ (result ≡ 5)) }
-    ensures output { LentSink O.faults O.later (result ≡ 4) output.old output.new }
+    ensures output { LentSink O.view O.later (result ≡ 4) output.old output.new }
 {
     match told_text(alloc, form, reply, requests, last) {
         Ok(text) => tell(output, &text, status_of(last)),

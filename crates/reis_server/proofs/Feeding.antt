@@ -19,7 +19,9 @@ use Rattle.ei_session.specs.Refusals.{Refusal as Cause}
 use Rattle.ei_session.specs.Served.{Answer, Outcome, Disconnect, End, UnexpectedEof, IdsExhausted, PieceLimit, HandleLimit, Refused, session, is_over}
 use Rattle.ei_session.specs.Served.{is_waiting, reading_of, accepted}
 use Rattle.ei_session.proofs.AllParts.{framed_readings, replies_prefix}
-use Rattle.ei_backend.specs.Outside.{SourceView, with_more}
+use Rattle.ei_backend.specs.Outside.{SourceView, SinkView, with_more}
+use Rattle.ei_backend.specs.declared.outside.LastAnswer.{LastAnswer}
+use Rattle.reis_server.specs.Lent.{lent_view, replies_view}
 use Rattle.ei_backend.specs.Incoming.{Hands}
 use Rattle.ei_request.specs.declared.event.EisRequest.{EisRequest}
 use Rattle.ei_standing.specs.Standing.{handed_as, request_in_code}
@@ -36,7 +38,8 @@ use Rattle.ei_serve.specs.Steps.{GivesOut, Replies, RepliesInPart, Goes, GoesInP
 use Rattle.ei_serve.specs.Taking.{with_next}
 use Rattle.ei_serve.specs.Refusing.{refusal_of, IsRefused}
 use Rattle.ei_serve.specs.Turning.{Closes, ClosesRefused, Finds, Stays, BreaksOff, Turns}
-use Rattle.ei_serve.specs.Serving.{AnswersAs, IsDecided}
+use Rattle.ei_serve.specs.Serving.{AnswersAs}
+use Rattle.ei_types.specs.Decided.{IsDecided}
 use Rattle.ei_serve.specs.Causes.{NoFault}
 use Rattle.ei_serve.proofs.Going.{versions_behind, gives_none, in_part_none}
 use Rattle.ei_serve.proofs.Histories.{GoesOn as GoingOn, going, front_same, accepted_front}
@@ -168,23 +171,23 @@ module _ (setup : Setup) (fed : List Fed) (sent : Piece) (given ready coming : L
     times_made = length-append times (replicate count time) ∙ ap (λ (n : ℕ). length times + n) (length-replicate {A = ℕ} count time) ∙ sym counted
 
   -- the replies to the messages reached
-  replies_to : (reached : List Raw) (new : Piece) → Replies setup before reached (Some unsent) (Some new) → behind_taken sent new ≡ bytes_alone (all_bytes (replies setup reached))
+  replies_to : (reached : List Raw) (new : Piece) → Replies setup before reached (replies_view unsent) (replies_view new) → behind_taken sent new ≡ bytes_alone (all_bytes (replies setup reached))
   replies_to reached new r =
-      let h = r unsent refl in
+      let h = r.told unsent refl in
       waits_more sent unsent new (all_bytes (replies setup before)) (all_bytes h.0) old_replies h.2
       ∙ ap bytes_alone (sym (joined_bytes (replies setup before) h.0) ∙ ap all_bytes (sym h.1))
 
-  replies_in_part : (reached : List Raw) (new : Piece) → RepliesInPart setup before reached (Some unsent) (Some new) → (n : ℕ) × (behind_taken sent new ≡ bytes_alone (take n (all_bytes (replies setup reached))))
+  replies_in_part : (reached : List Raw) (new : Piece) → RepliesInPart setup before reached (replies_view unsent) (replies_view new) → (n : ℕ) × (behind_taken sent new ≡ bytes_alone (take n (all_bytes (replies setup reached))))
   replies_in_part reached new r =
-      let h = r unsent refl in
+      let h = r.told unsent refl in
       let bytes = all_bytes (replies setup before) in
       let front : bytes ++ take h.1 (all_bytes h.0) ≡ take (length bytes + h.1) (all_bytes (replies setup reached)) =
       sym (take-append-add bytes (all_bytes h.0) h.1) ∙ ap (take (length bytes + h.1)) (sym (joined_bytes (replies setup before) h.0) ∙ ap all_bytes (sym h.2)) in
       (length bytes + h.1, waits_more sent unsent new bytes (take h.1 (all_bytes h.0)) old_replies h.3 ∙ ap bytes_alone front)
 
-  replies_at_least : (reached : List Raw) (new : Piece) → RepliesInPart setup before reached (Some unsent) (Some new) → (more : List ℕ) × (behind_taken sent new ≡ bytes_alone (all_bytes (replies setup (handled setup fed)) ++ more))
+  replies_at_least : (reached : List Raw) (new : Piece) → RepliesInPart setup before reached (replies_view unsent) (replies_view new) → (more : List ℕ) × (behind_taken sent new ≡ bytes_alone (all_bytes (replies setup (handled setup fed)) ++ more))
   replies_at_least reached new r =
-      let h = r unsent refl in
+      let h = r.told unsent refl in
       (take h.1 (all_bytes h.0), waits_more sent unsent new (all_bytes (replies setup (handled setup fed))) (take h.1 (all_bytes h.0)) on.gave.replies h.3)
 
   -- ---- over a piece that was lent
@@ -227,12 +230,12 @@ module _ (setup : Setup) (fed : List Fed) (sent : Piece) (given ready coming : L
     times_now : readings_of setup (f ∷ fed) ≡ times ++ replicate frames_in time
     times_now = readings_more setup fed f
 
-    module _ (t : Session) (new : Piece) (coming_new : List EisRequest) (had : List Piece) (source_new : SourceView) (readings_new : Option (List ℕ)) where
+    module _ (t : Session) (new : Piece) (coming_new : List EisRequest) (had : List Piece) (was : LastAnswer) (source_new : SourceView) (readings_new : Option (List ℕ)) where
       abbrev x : Around
-      x = around (record { left = Some (piece ∷ []); given = had }) coming (Some unsent) (Some (replicate k time))
+      x = around (lent_view (piece ∷ []) had was) coming (replies_view unsent) (Some (replicate k time))
 
       abbrev y : Around
-      y = around source_new coming_new (Some new) readings_new
+      y = around source_new coming_new (replies_view new) readings_new
 
       abbrev after : Option (Result Ended Error) → ServerView
       after answer = record { session = t; unsent = new; requests = ready ++ coming_new; answer = answer }
@@ -279,9 +282,11 @@ module _ (setup : Setup) (fed : List Fed) (sent : Piece) (given ready coming : L
         behind = ([], refl);
         ahead = (few_end.more, few_end.is);
         gives = subst (λ (o : List EisRequest). GivesOut setup before before times [] coming o) (sym h.out) (gives_none setup before before times coming (λ r. refl));
-        replies = subst (λ (o : Option Piece). RepliesInPart setup before before (Some unsent) o) (sym h.took) (in_part_none setup before (Some unsent));
+        replies = subst (λ (o : SinkView). RepliesInPart setup before before (replies_view unsent) o) (sym h.sink) (in_part_none setup before (replies_view unsent));
         drawn = λ told is. refl;
         leaves = λ told is. h.readings ∙ is;
+        least = omega arith;
+        most = omega arith;
       }
 
       -- the piece that came is the one that was lent
@@ -340,12 +345,12 @@ module _ (setup : Setup) (fed : List Fed) (sent : Piece) (given ready coming : L
 
   -- ---- at the end
 
-  module _ (t : Session) (new : Piece) (coming_new : List EisRequest) (had : List Piece) (source_new : SourceView) (readings_new : Option (List ℕ)) where
+  module _ (t : Session) (new : Piece) (coming_new : List EisRequest) (had : List Piece) (was : LastAnswer) (source_new : SourceView) (readings_new : Option (List ℕ)) where
     abbrev at : Around
-    at = around (record { left = Some []; given = had }) coming (Some unsent) (Some (replicate k time))
+    at = around (lent_view [] had was) coming (replies_view unsent) (Some (replicate k time))
 
     abbrev to : Around
-    to = around source_new coming_new (Some new) readings_new
+    to = around source_new coming_new (replies_view new) readings_new
 
     abbrev ended_so : Option (Result Ended Error) → ServerView
     ended_so answer = record { session = t; unsent = new; requests = ready ++ coming_new; answer = answer }
@@ -375,7 +380,7 @@ module _ (setup : Setup) (fed : List Fed) (sent : Piece) (given ready coming : L
     stopped_short : Stays at to → RanOut setup fed sent given (ended_so (Some (Err error.NoMemory)))
     stopped_short h =
         let owed = owed_before setup fed on.stands.goes_on in
-        let same : new ≡ unsent = (let told : Some new ≡ Some unsent = h.took in cc) in
+        let same : new ≡ unsent = (let told : Some new ≡ Some unsent = ap (λ (v : SinkView). v.taken) h.sink in cc) in
         let bytes = all_bytes (replies setup (handled setup fed)) in
         let front = replies_prefix setup owed.0 (handled setup (drop 1 fed)) in
         let waits : behind_taken sent new ≡ bytes_alone bytes = ap (behind_taken sent) same ∙ on.gave.replies in

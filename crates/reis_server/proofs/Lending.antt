@@ -7,6 +7,7 @@ use Rattle.ei_spec.specs.Piece.{Piece, stream}
 use Rattle.ei_session.specs.Setup.{Setup}
 use Rattle.ei_session.specs.Served.{reading_of, accepted}
 use Rattle.ei_backend.specs.Outside.{SourceView, Rose}
+use Rattle.ei_backend.specs.declared.outside.LastAnswer.{LastAnswer}
 use Rattle.ei_request.specs.declared.event.EisRequest.{EisRequest}
 use Rattle.ei_types.specs.declared.error.Error.{Error}
 use Rattle.ei_types.specs.declared.error.Error.TheVariants as error
@@ -19,7 +20,7 @@ use Rattle.ei_serve.specs.Standing.{Stands, StandsAt, IsOver}
 use Rattle.ei_serve.specs.declared.phase.Phase.{Phase}
 use Rattle.ei_serve.specs.declared.phase.Phase.TheVariants as phase
 use Rattle.ei_serve.specs.Turning.{Turns}
-use Rattle.reis_server.specs.Lent.{lent}
+use Rattle.reis_server.specs.Lent.{lent, lent_view, replies_view}
 use Rattle.ei_serve.specs.EndedBy.{ended_by}
 use Rattle.reis_server.specs.Fed.{Fed, pieces_of, readings_of}
 use Rattle.reis_server.specs.Queue.{queued}
@@ -38,22 +39,22 @@ no_fault (Err error.WriteFault) read write = write refl
 no_fault (Err e) read write = tt
 
 -- what a turn makes of the piece that was lent, or of none
-module _ (front coming : List EisRequest) (s : Session) (unsent : Piece) (k time : ℕ) (t : Session) (new : Piece) (coming_new : List EisRequest) (had : List Piece) (source_new : SourceView) (readings_new : Option (List ℕ))
+module _ (front coming : List EisRequest) (s : Session) (unsent : Piece) (k time : ℕ) (t : Session) (new : Piece) (coming_new : List EisRequest) (had : List Piece) (was : LastAnswer) (source_new : SourceView) (readings_new : Option (List ℕ))
     (turned : Result Turn Error) (enough : 4294967296 ≤ k) (ok : NoFault turned) (setup : Setup) (fed : List Fed) (sent : Piece) (given : List EisRequest)
     (on : GoesOn setup fed sent given (record { session = s; unsent = unsent; requests = queued front coming; answer = None })) where
   abbrev after : ServerView
   after = record { session = t; unsent = new; requests = queued front coming_new; answer = ended_by turned }
 
   abbrev TurnsOver : List Piece → Type 0
-  TurnsOver left = Turns setup (pieces_of fed) (readings_of setup fed) turned t (around (record { left = Some left; given = had }) coming (Some unsent) (Some (replicate k time))) (around source_new coming_new (Some new) readings_new)
+  TurnsOver left = Turns setup (pieces_of fed) (readings_of setup fed) turned t (around (lent_view left had was) coming (replies_view unsent) (Some (replicate k time))) (around source_new coming_new (replies_view new) readings_new)
 
   abbrev Takes : List Piece → Type 0
   Takes left = TakesLent setup fed sent given left time after × EndsLent left (ended_by turned)
 
   pub lent_taken : (bytes : List ℕ) (handles : List Handle) → length bytes ≤ 65536 → TurnsOver (lent bytes handles) → Takes (lent bytes handles)
-  lent_taken [] handles short h = took_none setup fed sent given (reverse front) coming s unsent on k time t new coming_new had source_new readings_new turned ok h
+  lent_taken [] handles short h = took_none setup fed sent given (reverse front) coming s unsent on k time t new coming_new had was source_new readings_new turned ok h
   lent_taken (b ∷ bytes) handles short h =
-      took_one setup fed sent given (reverse front) coming s unsent on k time (record { bytes = b ∷ bytes; handles = handles }) short enough t new coming_new had source_new readings_new turned ok h
+      took_one setup fed sent given (reverse front) coming s unsent on k time (record { bytes = b ∷ bytes; handles = handles }) short enough t new coming_new had was source_new readings_new turned ok h
 
 -- a session that stands for its pieces isn't over
 over_stands : (setup : Setup) (past : List Raw) (times rest : List ℕ) (handles : List Handle) (p : Phase) → p ≡ phase.Over → StandsAt setup past times rest handles p → ⊥
@@ -85,11 +86,11 @@ module _ (front coming : List EisRequest) (s : Session) (unsent : Piece) (old_an
       let w = subst HasServed view_is h in
       not_over w.setup (pieces_of w.fed) (readings_of w.setup w.fed) s (goes_on w.setup w.fed w.sent w.given w.serving).stands
 
-  module _ (k time_read time : ℕ) (time_is : time_read ≡ time) (t : Session) (new : Piece) (coming_new : List EisRequest) (had : List Piece) (source_new : SourceView) (readings_new : Option (List ℕ))
+  module _ (k time_read time : ℕ) (time_is : time_read ≡ time) (t : Session) (new : Piece) (coming_new : List EisRequest) (had : List Piece) (was : LastAnswer) (source_new : SourceView) (readings_new : Option (List ℕ))
       (turned : Result Turn Error) (answer : Option (Result Ended Error)) (answer_is : answer ≡ ended_by turned) (enough : 4294967296 ≤ k) (ok : NoFault turned)
       (bytes_lent bytes : List ℕ) (bytes_are : bytes_lent ≡ bytes) (handles_lent handles : List Handle) (handles_are : handles_lent ≡ handles) (short : length bytes ≤ 65536)
       (turns : (setup : Setup) (pieces : List Piece) (times : List ℕ) → Stands setup pieces times s →
-      Turns setup pieces times turned t (around (record { left = Some (lent bytes_lent handles_lent); given = had }) coming (Some unsent) (Some (replicate k time_read))) (around source_new coming_new (Some new) readings_new)) where
+      Turns setup pieces times turned t (around (lent_view (lent bytes_lent handles_lent) had was) coming (replies_view unsent) (Some (replicate k time_read))) (around source_new coming_new (replies_view new) readings_new)) where
     abbrev later : ServerView
     later = record { session = t; unsent = new; requests = queued front coming_new; answer = answer }
 
@@ -97,7 +98,7 @@ module _ (front coming : List EisRequest) (s : Session) (unsent : Piece) (old_an
     took_lent setup fed sent given h =
         let on = goes_on setup fed sent given h in
         let turn = turns setup (pieces_of fed) (readings_of setup fed) on.stands in
-        let x = lent_taken front coming s unsent k time_read t new coming_new had source_new readings_new turned enough ok setup fed sent given on bytes_lent handles_lent (subst (λ (b : List ℕ). length b ≤ 65536) (sym bytes_are) short) turn in
+        let x = lent_taken front coming s unsent k time_read t new coming_new had was source_new readings_new turned enough ok setup fed sent given on bytes_lent handles_lent (subst (λ (b : List ℕ). length b ≤ 65536) (sym bytes_are) short) turn in
         rw (answer_is, ← time_is, ← bytes_are, ← handles_are) x
 
     pub took : (setup : Setup) (fed : List Fed) (sent : Piece) (given : List EisRequest) → IsServing setup fed sent given v → TakesLent setup fed sent given (lent bytes handles) time later

@@ -18,6 +18,7 @@ use Rattle.ei_types.specs.declared.error.Error.{Error}
 use Rattle.ei_types.specs.declared.error.Error.TheVariants as error
 use Rattle.ei_serve.specs.declared.session.Session.{Session}
 use Rattle.ei_serve.specs.Causes.{Greeted, RefusesToStart}
+use Rattle.reis_server.specs.Lent.{replies_view}
 use Rattle.ei_serve.specs.Standing.{Stands}
 use Rattle.ei_serve.proofs.Histories.{going}
 use Rattle.ei_serve.proofs.Running.{nothing_read}
@@ -47,13 +48,13 @@ piece_so : (new held : Piece) (bytes : List ℕ) → Some new ≡ Some (with_mor
 piece_so new held bytes e = let same : new ≡ with_more bytes [] nothing = cc in ap (λ (p : Piece). with_more p.bytes p.handles nothing) same
 
 -- nothing was fed and nothing taken, and the greeting waits
-pub starts : (setup : Setup) (s : Session) (unsent : Piece) → Stands setup [] [] s → ((held : Piece) → Some nothing ≡ Some held → Greeted held (Some unsent)) →
+pub starts : (setup : Setup) (s : Session) (unsent : Piece) → Stands setup [] [] s → Greeted (replies_view nothing) (replies_view unsent) →
     IsServing setup [] nothing [] (record { session = s; unsent = unsent; requests = []; answer = None })
 starts setup s unsent stands h = record {
   stands = subst (λ (r : List ℕ). Stands setup [] r s) (sym (no_readings setup)) stands;
   gave = record {
     requests = sym (ap (λ (m : List Raw). map (request_in_code m) (framed setup (readings_of setup []) m)) (none_handled setup) ∙ ap (map (request_in_code [])) (no_requests setup (readings_of setup [])));
-    replies = piece_so unsent nothing (all_bytes (replies setup [])) (greeted setup (Some nothing) (Some unsent) h nothing refl) ∙ ap (λ (m : List Raw). bytes_alone (all_bytes (replies setup m))) (sym (none_handled setup));
+    replies = piece_so unsent nothing (all_bytes (replies setup [])) ((greeted setup (replies_view nothing) (replies_view unsent) h).told nothing refl) ∙ ap (λ (m : List Raw). bytes_alone (all_bytes (replies setup m))) (sym (none_handled setup));
     readings = ap length (no_readings setup) ∙ sym (ap (frames setup) (none_handled setup) ∙ no_frames setup);
   };
 }
@@ -65,9 +66,9 @@ only_memory error.NoMemory h n = refl
 only_memory e h n = absurd h
 
 -- with a queue that has none
-pub starts_queued : (setup : Setup) (s : Session) (old unsent : Piece) (front behind : List EisRequest) → old ≡ nothing → front ≡ [] → behind ≡ [] → Stands setup [] [] s → ((held : Piece) → Some old ≡ Some held → Greeted held (Some unsent)) →
+pub starts_queued : (setup : Setup) (s : Session) (old unsent : Piece) (front behind : List EisRequest) → old ≡ nothing → front ≡ [] → behind ≡ [] → Stands setup [] [] s → Greeted (replies_view old) (replies_view unsent) →
     IsServing setup [] nothing [] (record { session = s; unsent = unsent; requests = queued front behind; answer = None })
 starts_queued setup s old unsent front behind e f b stands h =
     let none : queued front behind ≡ [] = rw (f, b) refl in
     subst (λ (r : List EisRequest). GoesOn setup [] nothing [] (record { session = s; unsent = unsent; requests = r; answer = None })) (sym none)
-    (starts setup s unsent stands (subst (λ (p : Piece). (held : Piece) → Some p ≡ Some held → Greeted held (Some unsent)) e h))
+    (starts setup s unsent stands (subst (λ (p : Piece). Greeted (replies_view p) (replies_view unsent)) e h))

@@ -15,7 +15,8 @@ use Rattle.ei_types.specs.declared.error.Error.{Error}
 use Rattle.ei_types.specs.declared.error.Error.TheVariants as error
 use Rattle.ei_serve.specs.declared.session.Ended.{Ended}
 use Rattle.ei_serve.specs.declared.session.Ended.TheVariants as ended
-use Rattle.ei_serve.specs.Serving.{AnswersAs, IsDecided, IsSourceEnd}
+use Rattle.ei_serve.specs.Serving.{AnswersAs, IsSourceEnd}
+use Rattle.ei_types.specs.Decided.{IsDecided}
 use Rattle.ei_serve.specs.Standing.{Stands, connection_of}
 use Rattle.ei_spec.specs.declared.limits.TheConstants.{MOST_PIECE_BYTES, MOST_PIECE_HANDLES}
 use Rattle.reis_server.specs.declared.server.CallError.{CallError}

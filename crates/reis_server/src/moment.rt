@@ -1,7 +1,7 @@
 //! A clock that stands still.
 
 ghost use Rattle.std.specs.Prelude.{◌≡◌, ◌≤◌, ℕ, List, Some, replicate};
-ghost use Rattle.ei_backend.specs.Outside.{ReadsClock};
+ghost use Rattle.ei_backend.specs.Outside.{IsReading};
 
 use ei_backend::Clock;
 
@@ -29,9 +29,7 @@ impl Moment {
 }
 
 impl Clock for Moment {
-    ghost readings = { λ m. Some (replicate m.left m.time) };
-
-    ghost faults = { λ _. 0 };
+    ghost view = { λ m. record { left = Some (replicate m.left m.time); faults = 0 } };
 
     ghost later = { λ _ _. Unit {0} };
 

@@ -1,7 +1,7 @@
 //! A source of one piece.
 
 ghost use Rattle.std.specs.Prelude.{◌≡◌, ◌<◌, ◌≤◌, List, [], ◌∷◌, length, drop, Some, Ok, IfOk};
-ghost use Rattle.ei_backend.specs.Outside.{IsPieceSize, TakesTold, HasCause, last_of};
+ghost use Rattle.ei_backend.specs.Outside.{IsPieceSize, IsTake};
 ghost use Rattle.ei_spec.specs.declared.limits.TheConstants.{MOST_PIECE_BYTES, MOST_PIECE_HANDLES};
 
 use ei_backend::{Fault, GivenPieces, LastAnswer, Source, Taken};
@@ -37,15 +37,9 @@ impl<'a> OnePiece<'a> {
 }
 
 impl<'a> Source for OnePiece<'a> {
-    ghost use Rattle.reis_server.specs.Lent.{lent};
+    ghost use Rattle.reis_server.specs.Lent.{lent, lent_view};
 
-    ghost left = { λ s. Some (lent s.bytes.now s.handles.now) };
-
-    ghost given = { λ s. s.given.pieces };
-
-    ghost faults = { λ _. 0 };
-
-    ghost last = { λ s. s.last };
+    ghost view = { λ s. lent_view (lent s.bytes.now s.handles.now) s.given.pieces s.last };
 
     ghost later = { λ _ _. Unit {0} };
 

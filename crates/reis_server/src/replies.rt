@@ -1,7 +1,8 @@
 //! The replies that aren't taken yet.
 
-ghost use Rattle.std.specs.Prelude.{◌≡◌, ◌++◌, ◌≤◌, ◌*◌, [], length, take, drop, vec_len, Some, OnOk, OnErr, IfOk};
-ghost use Rattle.ei_backend.specs.Outside.{HasPutCause, HasPutWant, IsPutSize, Puts, with_more};
+ghost use Rattle.std.specs.Prelude.{◌≡◌, ◌++◌, ◌≤◌, ◌*◌, [], length, take, drop, vec_len, OnOk, OnErr, IfOk};
+ghost use Rattle.ei_backend.specs.Outside.{IsPut, IsPutSize, with_more};
+ghost use Rattle.reis_server.specs.Lent.{replies_view};
 
 use ei_backend::{PutError, Sink};
 use ei_spec::Handle;
@@ -110,11 +111,7 @@ fn extend_both(
 }
 
 impl Sink for Replies {
-    ghost taken = { λ r. Some r };
-
-    ghost faults = { λ _. 0 };
-
-    ghost wants = { λ _. 18446744073709551615 };
+    ghost view = { replies_view };
 
     ghost later = { λ _ _. Unit {0} };
 

@@ -116,7 +116,8 @@ impl Server {
     ) -> Result<Server, Error>
         requires lawful { bits_of capabilities ≤ all_bits }
         // nothing was fed to it, and nothing taken from it
-        ensures serves { IfOk result (λ server. IsServing (unlimited initial_serial capabilities) [] nothing [] server) }
+        ensures serves { IfOk result (λ server.
+            IsServing (unlimited initial_serial capabilities) [] nothing [] server) }
         ensures goes_on { IfOk result (λ server. server.answer ≡ None) }
         ensures only { IfErr result (λ e. e ≡ error.NoMemory) }
     {
@@ -140,7 +141,8 @@ impl Server {
         ensures answer { result ≡ feed_answer (is_some self.old.answer) (length bytes.now) (length handles.now) }
         ensures kept { OnErr result (self.new ≡ self.old) }
         // it stands for one piece more
-        ensures serves { (setup : Started) (fed : List Fed) (sent : Piece) (given : List Handed) → IsServing setup fed sent given self.old →
+        ensures serves { (setup : Started) (fed : List Fed) (sent : Piece) (given : List Handed) →
+            IsServing setup fed sent given self.old →
             OnOk result (IsServing setup (fed_of bytes.now handles.now time ∷ fed) sent given self.new) }
         // it doesn't end as if no more came
         ensures no_end { OnOk result (IsNoInputEnd self.new.answer) }
@@ -169,7 +171,8 @@ impl Server {
         ensures answer { result ≡ end_answer (is_some self.old.answer) }
         ensures kept { OnErr result (self.new ≡ self.old) }
         // it ended as the session over the pieces that were fed
-        ensures serves { (setup : Started) (fed : List Fed) (sent : Piece) (given : List Handed) → IsServing setup fed sent given self.old →
+        ensures serves { (setup : Started) (fed : List Fed) (sent : Piece) (given : List Handed) →
+            IsServing setup fed sent given self.old →
             OnOk result (IsServing setup fed sent given self.new) }
         ensures ends { OnOk result (IsInputEnd self.new.answer) }
     {
@@ -185,7 +188,8 @@ impl Server {
     pub fn connection(&self) -> Option<&Connection>
         ensures value { option_map (λ c. c.now) result ≡ connection_of_server self.now }
         // over the messages that were handled
-        ensures client { (setup : Started) (fed : List Fed) (sent : Piece) (given : List Handed) → IsServing setup fed sent given self.now →
+        ensures client { (setup : Started) (fed : List Fed) (sent : Piece) (given : List Handed) →
+            IsServing setup fed sent given self.now →
             self.now.answer ≡ None → IsClientAfter (handled setup fed) (option_map (λ c. c.now) result) }
     {
         match &self.answer {
@@ -215,10 +219,13 @@ impl Server {
     pub fn sent(&mut self, bytes: usize, handles: usize) -> Result<(), CallError>
         ensures answer { result ≡ sent_answer bytes handles self.old.unsent }
         ensures kept { OnErr result (self.new ≡ self.old) }
-        ensures dropped { OnOk result (self.new ≡ record self.old { unsent = unsent_after bytes handles self.old.unsent }) }
+        ensures dropped { OnOk result (self.new ≡
+            record self.old { unsent = unsent_after bytes handles self.old.unsent }) }
         // they were taken
-        ensures serves { (setup : Started) (fed : List Fed) (sent : Piece) (given : List Handed) → IsServing setup fed sent given self.old →
-            OnOk result (IsServing setup fed (with_more (take bytes self.old.unsent.bytes) (take handles self.old.unsent.handles) sent) given self.new) }
+        ensures serves { (setup : Started) (fed : List Fed) (sent : Piece) (given : List Handed) →
+            IsServing setup fed sent given self.old →
+            OnOk result (IsServing setup fed (with_more (take bytes self.old.unsent.bytes)
+            (take handles self.old.unsent.handles) sent) given self.new) }
     {
         if bytes > self.replies.bytes().len() || handles > self.replies.handles().len() {
             return Err(CallError::NotUnsent);
@@ -232,7 +239,8 @@ impl Server {
         ensures next { IsNext result self.old.requests self.new.requests }
         ensures kept { self.new ≡ record self.old { requests = self.new.requests } }
         // it was taken
-        ensures serves { (setup : Started) (fed : List Fed) (sent : Piece) (given : List Handed) → IsServing setup fed sent given self.old →
+        ensures serves { (setup : Started) (fed : List Fed) (sent : Piece) (given : List Handed) →
+            IsServing setup fed sent given self.old →
             IsServing setup fed sent (given ++ option_to_list result) self.new }
     {
         next_of(&mut self.ready, &mut self.coming)
@@ -257,7 +265,8 @@ impl Server {
         requires going { self.old.answer ≡ None }
         requires bytes { length bytes.now ≤ 65536 }
         requires handles { length handles.now ≤ 64 }
-        ensures serves { (setup : Started) (fed : List Fed) (sent : Piece) (given : List Handed) → IsServing setup fed sent given self.old →
+        ensures serves { (setup : Started) (fed : List Fed) (sent : Piece) (given : List Handed) →
+            IsServing setup fed sent given self.old →
             TakesLent setup fed sent given (lent bytes.now handles.now) time self.new }
         ensures ends { EndsLent (lent bytes.now handles.now) self.new.answer }
     {

@@ -17,7 +17,8 @@ ghost use Rattle.reis_trace.specs.Traced.{event_line, is_done, traced, traced_by
 pub fn traced_replies()
     ensures traced { (setup : Setup) (stream : List ℕ) → setup.serial < 2 ^ 32 → IsBytes stream →
         traced_bytes (all_bytes (replies setup (accepted setup stream))) ≡ traced setup (accepted setup stream) }
-    ensures done { (setup : Setup) (stream : List ℕ) (earlier : List Raw) (event : Raw) → IsReply setup stream earlier event →
+    ensures done { (setup : Setup) (stream : List ℕ) (earlier : List Raw) (event : Raw) →
+        IsReply setup stream earlier event →
         (is_done earlier event ≡ true) ↔ Calls setup (accepted setup stream) earlier event }
 {}
 

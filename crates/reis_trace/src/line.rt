@@ -26,7 +26,8 @@ pub fn trace_line(
     opcode: u32,
     args: &[Arg<'_>],
 ) -> Result<EiText, NoMemory>
-    ensures { IfOk result (λ line. line ≡ trace_text client incoming (option_map (λ o. bytes_of o.now.interface) object.entry)
+    ensures { IfOk result (λ line. line ≡ trace_text client incoming
+        (option_map (λ o. bytes_of o.now.interface) object.entry)
         object_id opcode (commas arg_text args.now)) }
 {
     let line = Line {
@@ -84,7 +85,8 @@ fn operation(
     interface: Option<&str>,
     opcode: u32,
 ) -> Option<&'static str>
-    ensures { option_map (λ name. name.now) result ≡ operation client incoming (option_map (λ name. name.now) interface.entry) opcode }
+    ensures { option_map (λ name. name.now) result ≡
+        operation client incoming (option_map (λ name. name.now) interface.entry) opcode }
 {
     op_name(client == incoming, interface?, opcode)
 }

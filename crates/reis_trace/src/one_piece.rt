@@ -30,16 +30,9 @@ impl<'a> OnePiece<'a> {
 }
 
 impl Source for OnePiece<'_> {
-    ghost use Rattle.std.specs.Prelude.{Some};
-    ghost use Rattle.reis_trace.specs.Pieces.{piece_left};
+    ghost use Rattle.reis_trace.specs.Pieces.{piece_view};
 
-    ghost left = { λ s. Some (piece_left s.bytes.now) };
-
-    ghost given = { λ s. s.given.pieces };
-
-    ghost faults = { λ _. 0 };
-
-    ghost last = { λ s. s.last };
+    ghost view = { λ s. piece_view s.bytes.now s.given.pieces s.last };
 
     ghost later = { λ _ _. Unit {0} };
 

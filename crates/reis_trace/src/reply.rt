@@ -115,7 +115,8 @@ fn push_shown(
 /// The line of an event and its newline.
 fn push_event(alloc: Global, event: &Event, lines: &mut Vec<u8>) -> Result<(), NoMemory>
     ensures { OnOk result (lines.new.items ≡ lines.old.items
-        ++ event_line (target_of event.now).interface (target_of event.now).id (opcode_of event.now) (values_of event.now)) }
+        ++ event_line (target_of event.now).interface (target_of event.now).id (opcode_of event.now)
+        (values_of event.now)) }
 {
     let args = event.args(alloc)?;
     let object = event.object();

@@ -1,8 +1,9 @@
-//! Callers: a server's loop over `Session`, a client by its proxies, several clients in one loop, and a record that is tested.
+//! Callers: a server's loop over `Session`, a client by its proxies, several clients in one loop, a record that is tested, and two
+//! endpoints over links.
 //! Nothing stands on this program.
 //!
 //! The client shakes hands and leaves, the server serves it, and the client reads what the server replied. All of it
-//! stands in memory. Begin with `server`, `client`, `clients` and `record`; `outside` has a source and a sink.
+//! stands in memory. Begin with `server`, `client`, `clients`, `record` and `world`; `outside` has a source and a sink.
 #![tactic(auto)]
 
 mod client;
@@ -11,12 +12,14 @@ mod outside;
 mod record;
 mod server;
 mod stop;
+mod world;
 
 use crate::client::{shake_hands, show_events};
 use crate::clients::serve_clients;
 use crate::outside::{Inbox, Outbox};
 use crate::server::serve_by_turns;
 use crate::stop::Stop;
+use crate::world::talk_over_links;
 use ei_client::Context;
 use std::io::Print;
 
@@ -43,5 +46,6 @@ fn talk<R: Print + AllocGlobal>(
     serve_by_turns(rt, &mut Inbox::new(&sent.bytes), replied)?;
     client.read(&mut Inbox::new(&replied.bytes))?;
     show_events(rt, client)?;
-    serve_clients(rt, &sent.bytes)
+    serve_clients(rt, &sent.bytes)?;
+    talk_over_links(rt)
 }

@@ -34,13 +34,14 @@ impl<'a> Inbox<'a> {
 }
 
 impl Source for Inbox<'_> {
-    ghost left = { λ _. None };
-
-    ghost given = { λ s. s.given.pieces };
-
-    ghost faults = { λ _. 0 };
-
-    ghost last = { λ s. s.last };
+    // its calls aren't counted: that count stands at its last value
+    ghost view = { λ s. record {
+      left = None;
+      given = s.given.pieces;
+      faults = 0;
+      asked = 18446744073709551615;
+      last = s.last;
+    } };
 
     ghost later = { λ _ _. Unit {0} };
 
@@ -82,11 +83,7 @@ impl Outbox {
 }
 
 impl Sink for Outbox {
-    ghost taken = { λ _. None };
-
-    ghost faults = { λ _. 0 };
-
-    ghost wants = { λ s. s.wants };
+    ghost view = { λ s. record { taken = None; puts = None; faults = 0; wants = s.wants } };
 
     ghost later = { λ _ _. Unit {0} };
 

@@ -2,6 +2,7 @@
 
 use ei_types::Error;
 use ei_wire::{FlushError, NoMemory, ReadError, SendError};
+use ei_world::WorldEnd;
 use std::alloc::AllocError;
 use std::io;
 
@@ -10,6 +11,8 @@ use std::io;
 pub(crate) enum Stop {
     /// An end can't go on.
     Session(Error),
+    /// Two endpoints end before their last step.
+    World(WorldEnd),
     /// Nothing more can be written to the standard output.
     Io,
 }
@@ -47,6 +50,12 @@ impl From<FlushError> for Stop {
 impl From<SendError> for Stop {
     fn from(e: SendError) -> Stop {
         Stop::Session(Error::from(e))
+    }
+}
+
+impl From<WorldEnd> for Stop {
+    fn from(e: WorldEnd) -> Stop {
+        Stop::World(e)
     }
 }
 

@@ -3,8 +3,8 @@
 use crate::arguments::argument;
 use crate::version::{endpoint_of, give, pending};
 use crate::words::{bytes, count, said};
-use crate::world::{World, new_sink};
-use ei_backend::{Backend, InterfaceName, Pieces};
+use crate::world::{World, new_sink, new_source};
+use ei_backend::{Backend, InterfaceName};
 use ei_spec::{Handle, KnownInterface};
 use ei_wire::{Arg, SendError};
 use std::alloc::Global;
@@ -22,11 +22,11 @@ use test_table::{Stop, first, number};
 pub(crate) fn answer(world: &mut World, name: &str, rest: &str) -> Result<String, Stop> {
     match name {
         "end" => world.backend = endpoint_of(world.alloc, rest)?,
-        "source" => world.pieces = Pieces::new(world.alloc),
+        "source" => world.source = new_source(world.alloc),
         "sink" => world.sink = new_sink(world.alloc),
         "carry" => carry(world)?,
         "piece" => piece(world, rest)?,
-        "take-fails" => world.pieces.fail_at(number(rest)?)?,
+        "take-fails" => world.source.pieces.fail_at(number(rest)?)?,
         "put-fails" => world.sink.tray.fail_at(number(rest)?)?,
         "narrow" => world.sink.most = count(rest)?,
         "close" => world.backend.close(),
@@ -59,7 +59,8 @@ fn told(world: &mut World, name: &str, rest: &str) -> Result<String, Stop> {
 /// What a call answers:
 /// - `unread`: how many bytes and handles are unread, and whether the endpoint is closed;
 /// - `unsent` and `waiting`: the bytes and handles that wait, and how many;
-/// - `sent`: the bytes and handles that the sink took.
+/// - `sent`: the bytes and handles that the sink took;
+/// - `calls`: how often the source was asked, the sink called, and the sink called with no byte.
 fn seen(world: &World, name: &str) -> Result<String, Stop> {
     let (alloc, backend, tray) = (world.alloc, &world.backend, &world.sink.tray);
     match name {
@@ -67,13 +68,14 @@ fn seen(world: &World, name: &str) -> Result<String, Stop> {
         "unsent" => both(alloc, backend.unsent(), backend.unsent_handles()),
         "waiting" => waiting(alloc, backend),
         "sent" => both(alloc, tray.bytes(), tray.handles()),
+        "calls" => calls(world),
         _ => Err(Stop::Line),
     }
 }
 
 /// Lets a piece come.
 fn read(world: &mut World) -> Result<String, Stop> {
-    let read = world.backend.read(&mut world.pieces);
+    let read = world.backend.read(&mut world.source);
     shown(world.alloc, &read)
 }
 
@@ -118,19 +120,25 @@ fn waiting(alloc: Global, backend: &Backend) -> Result<String, Stop> {
     Ok(format!(in alloc; "{bytes} {handles}")?)
 }
 
+/// How often the source was asked and the sink called, and how often with no byte.
+fn calls(world: &World) -> Result<String, Stop> {
+    let (asked, sink) = (world.source.calls, &world.sink);
+    Ok(format!(in world.alloc; "{asked} {} {}", sink.calls, sink.empty)?)
+}
+
 /// Puts a piece into the source.
 fn piece(world: &mut World, rest: &str) -> Result<(), Stop> {
     let (digits, handles) = first(rest);
     let bytes = bytes(world.alloc, digits)?;
     let all = [Handle(7), Handle(8), Handle(9)];
     let (handles, _) = all.split_at(count(handles)?.min(3));
-    give(&mut world.pieces, &bytes, handles)
+    give(&mut world.source.pieces, &bytes, handles)
 }
 
 /// Puts what the sink took into the source.
 fn carry(world: &mut World) -> Result<(), Stop> {
     give(
-        &mut world.pieces,
+        &mut world.source.pieces,
         world.sink.tray.bytes(),
         world.sink.tray.handles(),
     )
@@ -179,8 +187,8 @@ fn reserve(world: &mut World, rest: &str) -> Result<String, Stop> {
 /// Whether 64 handles come with each of 64 bytes.
 fn fills_with_handles(world: &mut World) -> Result<bool, Stop> {
     for _ in 0..64 {
-        give(&mut world.pieces, b"a", &[Handle(7); 64])?;
-        if world.backend.read(&mut world.pieces) != Ok(1) {
+        give(&mut world.source.pieces, b"a", &[Handle(7); 64])?;
+        if world.backend.read(&mut world.source) != Ok(1) {
             return Ok(false);
         }
     }

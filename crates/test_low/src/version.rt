@@ -54,6 +54,10 @@ impl MessageEnum for InterfaceVersion {
     }
 
     // No test here shows the arguments.
+    fn arguments(&self, _alloc: Global) -> Result<Vec<Arg<'_>>, NoMemory> {
+        Err(NoMemory)
+    }
+
     fn args(&self, _alloc: Global) -> Result<Vec<Arg<'_>>, NoMemory> {
         Err(NoMemory)
     }

@@ -30,11 +30,7 @@ impl Outlet {
 }
 
 impl Sink for Outlet {
-    ghost taken = { λ _. None };
-
-    ghost faults = { λ o. o.tray.failing.faults };
-
-    ghost wants = { λ o. o.wants };
+    ghost view = { λ o. record { taken = None; puts = None; faults = o.tray.failing.faults; wants = o.wants } };
 
     ghost later = { λ _ _. Unit {0} };
 

@@ -20,12 +20,12 @@ returns-in-Err-invalid_object-clause-converses g c = λ setup past times rest ha
 pub returns-in-Err-flush-clause-converses : goal.returns-in-Err-flush-clause-converses
 returns-in-Err-flush-clause-converses g c = λ setup past times rest handles stands.
     cut setup past times rest handles c.args.converter.now _ _ c.pending_request.new.self stands c.handle_mut.ensures.value c.context_mut.ensures.value c.in-Ok-Some-InvalidObject.field-0 c.in-Ok-Some-InvalidObject.field-0-0 c.in-Ok-Some-InvalidObject.field-0-is c.in-Ok-Some-InvalidObject.ensures.ok c.in-Ok-Some-InvalidObject.id c.in-Ok-Some-InvalidObject.field-0-0-is
-    _ refl _ c.handle_mut-handle.ensures.value _ _ _ c.in_default.ensures.sends.ok _ c.in-Err-flush.error c.refuse_flush.new.why Over _ _ (Err c.refuse_flush.new.why) refl c.refuse_flush.ensures c.in-Err-flush.ensures.took
+    _ refl _ c.handle_mut-handle.ensures.value _ _ _ c.in_default.ensures.sends.ok _ c.in-Err-flush.error c.refuse_flush.new.why Over _ _ (Err c.refuse_flush.new.why) refl c.refuse_flush.ensures c.in-Err-flush.ensures.flushes.went
 
 pub returns-in_default-flush-clause-converses : goal.returns-in_default-flush-clause-converses
 returns-in_default-flush-clause-converses g c = λ setup past times rest handles stands.
     tells setup past times rest handles c.args.converter.now _ _ c.pending_request.new.self stands c.handle_mut.ensures.value c.context_mut.ensures.value c.in-Ok-Some-InvalidObject.field-0 c.in-Ok-Some-InvalidObject.field-0-0 c.in-Ok-Some-InvalidObject.field-0-is c.in-Ok-Some-InvalidObject.ensures.ok c.in-Ok-Some-InvalidObject.id c.in-Ok-Some-InvalidObject.field-0-0-is
-    _ refl _ c.handle_mut-handle.ensures.value _ _ _ c.in_default.ensures.sends.ok _ c.in_default-flush.ensures.stops c.in_default-flush.ensures.kept _ _ c.in_default-flush.ensures.took _ refl
+    _ refl _ c.handle_mut-handle.ensures.value _ _ _ c.in_default.ensures.sends.ok _ c.in_default-flush.ensures.flushes.stops c.in_default-flush.ensures.kept _ _ c.in_default-flush.ensures.flushes.went _ refl
 
 pub returns-in-Err-clause-converses : goal.returns-in-Err-clause-converses
 returns-in-Err-clause-converses g c = λ setup past times rest handles stands.

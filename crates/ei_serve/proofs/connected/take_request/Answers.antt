@@ -29,9 +29,9 @@ returns-then-may_follow-clause-takes g c = λ setup past times rest handles a.
 pub returns-in-Err-flush-clause-takes : goal.returns-in-Err-flush-clause-takes
 returns-in-Err-flush-clause-takes g c = λ setup past times rest handles a.
     unflushed setup past times rest handles c.args.request c.args.converter.now a c.handle_request.new.self _ _ c.in_default.ensures.handles _ _ c.in-Ok.ensures.hands_out Nothing (sym (c.in-Ok.ensures.nothing c.if-may_follow.false)) _ c.in-Ok.ensures.queue _ c.handle_mut-handle.ensures.value
-    (none_lacks c.args.converter.now.handle) _ refl refl c.in-Err-flush.error c.refuse_flush.new.why Over _ _ _ (Err c.refuse_flush.new.why) refl c.refuse_flush.ensures c.in-Err-flush.ensures.took
+    (none_lacks c.args.converter.now.handle) _ refl refl c.in-Err-flush.error c.refuse_flush.new.why Over _ _ _ (Err c.refuse_flush.new.why) refl c.refuse_flush.ensures c.in-Err-flush.ensures.flushes.went
 
 pub returns-clause-takes : goal.returns-clause-takes
 returns-clause-takes g c = λ setup past times rest handles a.
     answers_on setup past times rest handles c.args.request c.args.converter.now a c.handle_request.new.self _ _ c.in_default.ensures.handles _ _ c.in-Ok.ensures.hands_out Nothing (sym (c.in-Ok.ensures.nothing c.if-may_follow.false)) _ c.in-Ok.ensures.queue _ c.handle_mut-handle.ensures.value
-    (none_lacks c.args.converter.now.handle) _ refl refl c.flush.new.self c.in_default-flush.ensures.stops c.in_default-flush.ensures.kept _ _ c.in_default-flush.ensures.took _ refl _ refl (λ e. absurd cc)
+    (none_lacks c.args.converter.now.handle) _ refl refl c.flush.new.self c.in_default-flush.ensures.flushes.stops c.in_default-flush.ensures.kept _ _ c.in_default-flush.ensures.flushes.went _ refl _ refl (λ e. absurd cc)

@@ -10,50 +10,20 @@ use Rattle.ei_serve.proofs.AsTold.{unasked, nothing_given}
 use Rattle.ei_serve.proofs.serve_loop.serve.Goals as goal
 
 -- the session isn't started
+pub returns-in_err-session-clause-serves : goal.returns-in_err-session-clause-serves
+returns-in_err-session-clause-serves g c = λ told left are.
+    let p = err_from_is_err_and c.from_residual.result c.from_residual.ensures.1 in
+    not_started (setup_of c.args.setup) told _ left c.args.out.now.items _ _ _ _ _ (p.1 ∙ ap (λ (e : Error). Err e) p.2) c.in_err-session.ensures.only (unasked _ _ told left are) (greeted_in_part (setup_of c.args.setup) _ _ c.in_err-session.ensures.greeted_in_part)
+
 pub returns-in_err-session-clause-answer : goal.returns-in_err-session-clause-answer
 returns-in_err-session-clause-answer g c = λ told left are.
     let p = err_from_is_err_and c.from_residual.result c.from_residual.ensures.1 in
-    (not_started (setup_of c.args.setup) told no_source left c.args.out.now.items _ _ (g.C.Clock.readings c.args.clock.now) _ _ (p.1 ∙ ap (λ (e : Error). Err e) p.2) c.in_err-session.ensures.only (unasked _ _ told left are) (greeted_in_part (setup_of c.args.setup) _ _ c.in_err-session.ensures.greeted_in_part)).answer
-
-pub returns-in_err-session-clause-requests : goal.returns-in_err-session-clause-requests
-returns-in_err-session-clause-requests g c = λ told left are.
-    let p = err_from_is_err_and c.from_residual.result c.from_residual.ensures.1 in
-    (not_started (setup_of c.args.setup) told no_source left c.args.out.now.items _ _ (g.C.Clock.readings c.args.clock.now) _ _ (p.1 ∙ ap (λ (e : Error). Err e) p.2) c.in_err-session.ensures.only (unasked _ _ told left are) (greeted_in_part (setup_of c.args.setup) _ _ c.in_err-session.ensures.greeted_in_part)).requests
-
-pub returns-in_err-session-clause-replies : goal.returns-in_err-session-clause-replies
-returns-in_err-session-clause-replies g c = λ told left are.
-    let p = err_from_is_err_and c.from_residual.result c.from_residual.ensures.1 in
-    (not_started (setup_of c.args.setup) told no_source left c.args.out.now.items _ _ (g.C.Clock.readings c.args.clock.now) _ _ (p.1 ∙ ap (λ (e : Error). Err e) p.2) c.in_err-session.ensures.only (unasked _ _ told left are) (greeted_in_part (setup_of c.args.setup) _ _ c.in_err-session.ensures.greeted_in_part)).replies
-
-pub returns-in_err-session-clause-readings : goal.returns-in_err-session-clause-readings
-returns-in_err-session-clause-readings g c = λ told left are.
-    let p = err_from_is_err_and c.from_residual.result c.from_residual.ensures.1 in
-    (not_started (setup_of c.args.setup) told no_source left c.args.out.now.items _ _ (g.C.Clock.readings c.args.clock.now) _ _ (p.1 ∙ ap (λ (e : Error). Err e) p.2) c.in_err-session.ensures.only (unasked _ _ told left are) (greeted_in_part (setup_of c.args.setup) _ _ c.in_err-session.ensures.greeted_in_part)).readings
-
-pub returns-in_err-session-clause-taken : goal.returns-in_err-session-clause-taken
-returns-in_err-session-clause-taken g c = λ told left are.
-    let p = err_from_is_err_and c.from_residual.result c.from_residual.ensures.1 in
-    (not_started (setup_of c.args.setup) told no_source left c.args.out.now.items _ _ (g.C.Clock.readings c.args.clock.now) _ _ (p.1 ∙ ap (λ (e : Error). Err e) p.2) c.in_err-session.ensures.only (unasked _ _ told left are) (greeted_in_part (setup_of c.args.setup) _ _ c.in_err-session.ensures.greeted_in_part)).taken
-
-pub returns-in_err-session-clause-pieces : goal.returns-in_err-session-clause-pieces
-returns-in_err-session-clause-pieces g c = λ told left are.
-    let p = err_from_is_err_and c.from_residual.result c.from_residual.ensures.1 in
-    (not_started (setup_of c.args.setup) told no_source left c.args.out.now.items _ _ (g.C.Clock.readings c.args.clock.now) _ _ (p.1 ∙ ap (λ (e : Error). Err e) p.2) c.in_err-session.ensures.only (unasked _ _ told left are) (greeted_in_part (setup_of c.args.setup) _ _ c.in_err-session.ensures.greeted_in_part)).pieces
-
-pub returns-in_err-session-clause-handled : goal.returns-in_err-session-clause-handled
-returns-in_err-session-clause-handled g c = λ told left are.
-    let p = err_from_is_err_and c.from_residual.result c.from_residual.ensures.1 in
-    (not_started (setup_of c.args.setup) told no_source left c.args.out.now.items _ _ (g.C.Clock.readings c.args.clock.now) _ _ (p.1 ∙ ap (λ (e : Error). Err e) p.2) c.in_err-session.ensures.only (unasked _ _ told left are) (greeted_in_part (setup_of c.args.setup) _ _ c.in_err-session.ensures.greeted_in_part)).handled
-
-pub returns-in_err-session-clause-cut_short : goal.returns-in_err-session-clause-cut_short
-returns-in_err-session-clause-cut_short g c = λ told left are.
-    let p = err_from_is_err_and c.from_residual.result c.from_residual.ensures.1 in
-    (not_started (setup_of c.args.setup) told no_source left c.args.out.now.items _ _ (g.C.Clock.readings c.args.clock.now) _ _ (p.1 ∙ ap (λ (e : Error). Err e) p.2) c.in_err-session.ensures.only (unasked _ _ told left are) (greeted_in_part (setup_of c.args.setup) _ _ c.in_err-session.ensures.greeted_in_part)).cut_short
+    (not_started (setup_of c.args.setup) told no_source left c.args.out.now.items _ _ (g.C.Clock.view c.args.clock.now).left _ _ (p.1 ∙ ap (λ (e : Error). Err e) p.2) c.in_err-session.ensures.only (unasked _ _ told left are) (greeted_in_part (setup_of c.args.setup) _ _ c.in_err-session.ensures.greeted_in_part)).answer
 
 pub returns-in_err-session-clause-complete : goal.returns-in_err-session-clause-complete
 returns-in_err-session-clause-complete g c = λ told left are complete no_read no_write.
     let p = err_from_is_err_and c.from_residual.result c.from_residual.ensures.1 in
-    let s = not_started (setup_of c.args.setup) told no_source left c.args.out.now.items _ _ (g.C.Clock.readings c.args.clock.now) _ _ (p.1 ∙ ap (λ (e : Error). Err e) p.2) c.in_err-session.ensures.only (unasked _ _ told left are) (greeted_in_part (setup_of c.args.setup) _ _ c.in_err-session.ensures.greeted_in_part) in
+    let s = not_started (setup_of c.args.setup) told no_source left c.args.out.now.items _ _ (g.C.Clock.view c.args.clock.now).left _ _ (p.1 ∙ ap (λ (e : Error). Err e) p.2) c.in_err-session.ensures.only (unasked _ _ told left are) (greeted_in_part (setup_of c.args.setup) _ _ c.in_err-session.ensures.greeted_in_part) in
     sure (setup_of c.args.setup) told left _ _ _ _ (p.1 ∙ ap (λ (e : Error). Err e) p.2) complete s (no_start_read _ c.in_err-session.ensures.only)
     (λ q. no_write (c.in_err-session.ensures.sink.write_fault (ap (λ (e : Error). Err e) q)))
 
@@ -78,36 +48,15 @@ returns-in_err-session-clause-only g c =
     start_is_of_session _ _ (p.1 ∙ ap (λ (e : Error). Err e) p.2) c.in_err-session.ensures.only
 
 -- the turns were taken
+pub returns-clause-serves : goal.returns-clause-serves
+returns-clause-serves g c = c.take_turns.ensures.serves (g.K.Sink.view c.args.sink.now) (greeted (setup_of c.args.setup) _ _ c.in_ok-session.ensures.greeted)
+
 pub returns-clause-answer : goal.returns-clause-answer
-returns-clause-answer g c = λ told left are. (c.take_turns.ensures.serves (g.K.Sink.taken c.args.sink.now) (greeted (setup_of c.args.setup) _ _ c.in_ok-session.ensures.greeted) told left are).answer
-
-pub returns-clause-requests : goal.returns-clause-requests
-returns-clause-requests g c = λ told left are. (c.take_turns.ensures.serves (g.K.Sink.taken c.args.sink.now) (greeted (setup_of c.args.setup) _ _ c.in_ok-session.ensures.greeted) told left are).requests
-
-pub returns-clause-replies : goal.returns-clause-replies
-returns-clause-replies g c = λ told left are. (c.take_turns.ensures.serves (g.K.Sink.taken c.args.sink.now) (greeted (setup_of c.args.setup) _ _ c.in_ok-session.ensures.greeted) told left are).replies
-
-pub returns-clause-readings : goal.returns-clause-readings
-returns-clause-readings g c = λ told left are. (c.take_turns.ensures.serves (g.K.Sink.taken c.args.sink.now) (greeted (setup_of c.args.setup) _ _ c.in_ok-session.ensures.greeted) told left are).readings
-
-pub returns-clause-valid : goal.returns-clause-valid
-returns-clause-valid g c = λ told left are. (c.take_turns.ensures.serves (g.K.Sink.taken c.args.sink.now) (greeted (setup_of c.args.setup) _ _ c.in_ok-session.ensures.greeted) told left are).valid
-
-pub returns-clause-taken : goal.returns-clause-taken
-returns-clause-taken g c = λ told left are. (c.take_turns.ensures.serves (g.K.Sink.taken c.args.sink.now) (greeted (setup_of c.args.setup) _ _ c.in_ok-session.ensures.greeted) told left are).taken
-
-pub returns-clause-pieces : goal.returns-clause-pieces
-returns-clause-pieces g c = λ told left are. (c.take_turns.ensures.serves (g.K.Sink.taken c.args.sink.now) (greeted (setup_of c.args.setup) _ _ c.in_ok-session.ensures.greeted) told left are).pieces
-
-pub returns-clause-handled : goal.returns-clause-handled
-returns-clause-handled g c = λ told left are. (c.take_turns.ensures.serves (g.K.Sink.taken c.args.sink.now) (greeted (setup_of c.args.setup) _ _ c.in_ok-session.ensures.greeted) told left are).handled
-
-pub returns-clause-cut_short : goal.returns-clause-cut_short
-returns-clause-cut_short g c = λ told left are. (c.take_turns.ensures.serves (g.K.Sink.taken c.args.sink.now) (greeted (setup_of c.args.setup) _ _ c.in_ok-session.ensures.greeted) told left are).cut_short
+returns-clause-answer g c = λ told left are. (c.take_turns.ensures.serves (g.K.Sink.view c.args.sink.now) (greeted (setup_of c.args.setup) _ _ c.in_ok-session.ensures.greeted) told left are).answer
 
 pub returns-clause-complete : goal.returns-clause-complete
 returns-clause-complete g c = λ told left are complete no_read no_write.
-    sure_of (setup_of c.args.setup) told left _ _ _ complete (c.take_turns.ensures.serves (g.K.Sink.taken c.args.sink.now) (greeted (setup_of c.args.setup) _ _ c.in_ok-session.ensures.greeted) told left are)
+    sure_of (setup_of c.args.setup) told left _ _ _ complete (c.take_turns.ensures.serves (g.K.Sink.view c.args.sink.now) (greeted (setup_of c.args.setup) _ _ c.in_ok-session.ensures.greeted) told left are)
     (λ q. no_read (c.take_turns.ensures.source.read_fault q))
     (λ q. no_write (rose_since _ _ _ c.in_ok-session.ensures.sink.write_faults (c.take_turns.ensures.sink.write_fault q)))
 

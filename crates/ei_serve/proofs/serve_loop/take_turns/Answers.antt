@@ -1,8 +1,7 @@
-use Rattle.std.proofs.Common.{◌∙◌, [], ap, Err, None, arith}
+use Rattle.std.proofs.Common.{◌∙◌, [], ap, Err, arith}
 use Rattle.std.proofs.lemmas.Result.{err_from_is_err_and}
 use Rattle.ei_backend.proofs.Lending.{untouched_source, source_as, source_twice, untouched_sink, sink_twice, untouched_clock, clock_twice}
 use Rattle.ei_types.specs.declared.error.Error.{Error}
-use Rattle.ei_backend.specs.Outside.{source_view}
 use Rattle.ei_serve.specs.Around.{around}
 use Rattle.ei_serve.specs.Standing.{setup_of}
 use Rattle.ei_serve.proofs.Causes.{err_as, no_risen}
@@ -23,7 +22,7 @@ loop-turn-init g c = record {
 
 pub turn-requires : goal.turn-requires
 turn-requires g c =
-    let r = c.loop-turn.invariant.running None (untold_replied (setup_of c.args.setup) [] _) in
+    let r = c.loop-turn.invariant.running _ (untold_replied (setup_of c.args.setup) [] _) in
     record { going = not_over (setup_of c.args.setup) r.pieces r.times c.loop-turn.session r.stands }
 
 pub loop-turn-preserved : goal.loop-turn-preserved
@@ -46,15 +45,15 @@ returns-in_err-turn-clause-serves g c = λ before replied told left are.
 
 pub returns-in_err-turn-clause-gave : goal.returns-in_err-turn-clause-gave
 returns-in_err-turn-clause-gave g c =
-    let r = c.loop-turn.invariant.running None (untold_replied (setup_of c.args.setup) [] _) in
+    let r = c.loop-turn.invariant.running _ (untold_replied (setup_of c.args.setup) [] _) in
     all_gave (setup_of c.args.setup) _ _ c.turn.new.self c.turn.result _ _
-    (around (source_view g.S.Source.left g.S.Source.given c.turn.new.source) c.turn.new.out.items (g.K.Sink.taken c.turn.new.sink) (g.C.Clock.readings c.turn.new.clock))
+    (around (g.S.Source.view c.turn.new.source) c.turn.new.out.items (g.K.Sink.view c.turn.new.sink) (g.C.Clock.view c.turn.new.clock).left)
     r (c.turn.ensures.turns (setup_of c.args.setup) r.pieces r.times r.stands)
 
 pub returns-in_err-turn-clause-only : goal.returns-in_err-turn-clause-only
 returns-in_err-turn-clause-only g c =
     let p = err_from_is_err_and c.from_residual.result c.from_residual.ensures.1 in
-    let r = c.loop-turn.invariant.running None (untold_replied (setup_of c.args.setup) [] _) in
+    let r = c.loop-turn.invariant.running _ (untold_replied (setup_of c.args.setup) [] _) in
     turn_is_of_session (setup_of c.args.setup) r.pieces r.times _ _ _ _ _ (p.1 ∙ ap (λ (e : Error). Err e) p.2) (c.in_err-turn.ensures.turns (setup_of c.args.setup) r.pieces r.times r.stands)
 
 pub returns-in_err-turn-clause-source : goal.returns-in_err-turn-clause-source
@@ -80,9 +79,9 @@ returns-in-Disconnect-clause-serves g c = λ before replied told left are.
 
 pub returns-in-Disconnect-clause-gave : goal.returns-in-Disconnect-clause-gave
 returns-in-Disconnect-clause-gave g c =
-    let r = c.loop-turn.invariant.running None (untold_replied (setup_of c.args.setup) [] _) in
+    let r = c.loop-turn.invariant.running _ (untold_replied (setup_of c.args.setup) [] _) in
     all_gave (setup_of c.args.setup) _ _ c.turn.new.self c.turn.result _ _
-    (around (source_view g.S.Source.left g.S.Source.given c.turn.new.source) c.turn.new.out.items (g.K.Sink.taken c.turn.new.sink) (g.C.Clock.readings c.turn.new.clock))
+    (around (g.S.Source.view c.turn.new.source) c.turn.new.out.items (g.K.Sink.view c.turn.new.sink) (g.C.Clock.view c.turn.new.clock).left)
     r (c.turn.ensures.turns (setup_of c.args.setup) r.pieces r.times r.stands)
 
 pub returns-in-Disconnect-clause-source : goal.returns-in-Disconnect-clause-source
@@ -103,9 +102,9 @@ returns-in-End-clause-serves g c = λ before replied told left are.
 
 pub returns-in-End-clause-gave : goal.returns-in-End-clause-gave
 returns-in-End-clause-gave g c =
-    let r = c.loop-turn.invariant.running None (untold_replied (setup_of c.args.setup) [] _) in
+    let r = c.loop-turn.invariant.running _ (untold_replied (setup_of c.args.setup) [] _) in
     all_gave (setup_of c.args.setup) _ _ c.turn.new.self c.turn.result _ _
-    (around (source_view g.S.Source.left g.S.Source.given c.turn.new.source) c.turn.new.out.items (g.K.Sink.taken c.turn.new.sink) (g.C.Clock.readings c.turn.new.clock))
+    (around (g.S.Source.view c.turn.new.source) c.turn.new.out.items (g.K.Sink.view c.turn.new.sink) (g.C.Clock.view c.turn.new.clock).left)
     r (c.turn.ensures.turns (setup_of c.args.setup) r.pieces r.times r.stands)
 
 pub returns-in-End-clause-source : goal.returns-in-End-clause-source
@@ -119,13 +118,13 @@ returns-in-End-clause-clock g c = clock_twice g.met.C.Clock.later_trans c.loop-t
 
 -- there are no more turns than that
 pub returns-clause-serves : goal.returns-clause-serves
-returns-clause-serves g c = absurd (too_many_turns (setup_of c.args.setup) _ _ _ _ (c.loop-turn.invariant.running None (untold_replied (setup_of c.args.setup) [] _)) (omega (arith, c.loop-turn-test.false, c.from-turn-end.ensures)))
+returns-clause-serves g c = absurd (too_many_turns (setup_of c.args.setup) _ _ _ _ (c.loop-turn.invariant.running _ (untold_replied (setup_of c.args.setup) [] _)) (omega (arith, c.loop-turn-test.false, c.from-turn-end.ensures)))
 
 pub returns-clause-gave : goal.returns-clause-gave
-returns-clause-gave g c = absurd (too_many_turns (setup_of c.args.setup) _ _ _ _ (c.loop-turn.invariant.running None (untold_replied (setup_of c.args.setup) [] _)) (omega (arith, c.loop-turn-test.false, c.from-turn-end.ensures)))
+returns-clause-gave g c = absurd (too_many_turns (setup_of c.args.setup) _ _ _ _ (c.loop-turn.invariant.running _ (untold_replied (setup_of c.args.setup) [] _)) (omega (arith, c.loop-turn-test.false, c.from-turn-end.ensures)))
 
 pub returns-clause-source : goal.returns-clause-source
-returns-clause-source g c = absurd (too_many_turns (setup_of c.args.setup) _ _ _ _ (c.loop-turn.invariant.running None (untold_replied (setup_of c.args.setup) [] _)) (omega (arith, c.loop-turn-test.false, c.from-turn-end.ensures)))
+returns-clause-source g c = absurd (too_many_turns (setup_of c.args.setup) _ _ _ _ (c.loop-turn.invariant.running _ (untold_replied (setup_of c.args.setup) [] _)) (omega (arith, c.loop-turn-test.false, c.from-turn-end.ensures)))
 
 pub returns-clause-sink : goal.returns-clause-sink
-returns-clause-sink g c = absurd (too_many_turns (setup_of c.args.setup) _ _ _ _ (c.loop-turn.invariant.running None (untold_replied (setup_of c.args.setup) [] _)) (omega (arith, c.loop-turn-test.false, c.from-turn-end.ensures)))
+returns-clause-sink g c = absurd (too_many_turns (setup_of c.args.setup) _ _ _ _ (c.loop-turn.invariant.running _ (untold_replied (setup_of c.args.setup) [] _)) (omega (arith, c.loop-turn-test.false, c.from-turn-end.ensures)))

@@ -1,5 +1,5 @@
-use Rattle.std.proofs.Common.{Option, []}
-use Rattle.ei_backend.specs.Outside.{Piece, source_view}
+use Rattle.std.proofs.Common.{[]}
+use Rattle.ei_backend.specs.Outside.{SinkView}
 use Rattle.ei_backend.specs.Lent.{LentSource, LentSink, LentClock}
 use Rattle.ei_serve.specs.Around.{around}
 use Rattle.ei_serve.specs.Serving.{Replied}
@@ -9,9 +9,9 @@ use Rattle.ei_serve.proofs.serve_loop.take_turns.Given as goal
 
 abbrev pub invariant-loop-turn : goal.invariant-loop-turn
 invariant-loop-turn g l = record {
-  running : (before : Option Piece) → Replied (setup_of l.fn.setup) [] before (g.K.Sink.taken l.fn.sink) →
-      Running (setup_of l.fn.setup) l._turn l.session (around (source_view g.S.Source.left g.S.Source.given l.fn.source) l.fn.out.items before (g.C.Clock.readings l.fn.clock)) (around (source_view g.S.Source.left g.S.Source.given l.source) l.out.items (g.K.Sink.taken l.sink) (g.C.Clock.readings l.clock));
-  source : LentSource g.S.Source.faults g.S.Source.last g.S.Source.later ⊥ ⊥ l.fn.source l.source;
-  sink : LentSink g.K.Sink.faults g.K.Sink.later ⊥ l.fn.sink l.sink;
+  running : (before : SinkView) → Replied (setup_of l.fn.setup) [] before (g.K.Sink.view l.fn.sink) →
+      Running (setup_of l.fn.setup) l._turn l.session (around (g.S.Source.view l.fn.source) l.fn.out.items before (g.C.Clock.view l.fn.clock).left) (around (g.S.Source.view l.source) l.out.items (g.K.Sink.view l.sink) (g.C.Clock.view l.clock).left);
+  source : LentSource g.S.Source.view g.S.Source.later ⊥ ⊥ l.fn.source l.source;
+  sink : LentSink g.K.Sink.view g.K.Sink.later ⊥ l.fn.sink l.sink;
   clock : LentClock g.C.Clock.later l.fn.clock l.clock;
 }

@@ -1,9 +1,12 @@
 use Rattle.std.proofs.Common.{◌≡◌, ℕ, List, length, ap, arith, lit<}
 use Rattle.ei_spec.specs.Piece.{stream}
-use Rattle.reis_demo.specs.Generated.{generated, generated_bytes}
+use Rattle.reis_demo.specs.Generated.{generated, generated_bytes, demo_setup}
+use Rattle.reis_demo.specs.Summary.{demo_session}
 use Rattle.reis_demo.proofs.CutLaws.{joined_again}
 use Rattle.reis_demo.proofs.StreamLength.{stream_short}
 use Rattle.reis_demo.proofs.Disconnecting.{ends_by_disconnect}
+use Rattle.reis_demo.proofs.Counting.{same_number}
+use Rattle.reis_demo.proofs.FewRequests.{few_requests}
 use Rattle.reis_demo.proofs.laws.generated_streams.Goals as goal
 
 pub returns : goal.returns
@@ -14,4 +17,6 @@ returns c = record {
       let short = stream_short groups start in
       omega (arith, same, short);
   disconnects = ends_by_disconnect;
+  requests = few_requests;
+  any_readings = λ groups start readings. same_number demo_setup readings (demo_session groups start).handled;
 }

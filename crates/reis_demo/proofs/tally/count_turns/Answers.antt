@@ -1,4 +1,4 @@
-use Rattle.std.proofs.Common.{◌∙◌, [], ◌++◌, ap, Err, None, arith}
+use Rattle.std.proofs.Common.{◌≡◌, ◌∙◌, [], ◌++◌, ap, Err, arith}
 use Rattle.std.proofs.lemmas.Result.{err_from_is_err_and}
 use Rattle.ei_backend.proofs.Lending.{untouched_source, source_as, source_twice, untouched_sink, sink_twice, untouched_clock, clock_twice}
 use Rattle.ei_types.specs.declared.error.Error.{Error}
@@ -28,7 +28,7 @@ loop-turn-init g c = record {
 
 pub count_turn-requires : goal.count_turn-requires
 count_turn-requires g c =
-    let r = (c.loop-turn.invariant.counting None (untold_replied (setup_of c.args.setup) [] _)).running in
+    let r = (c.loop-turn.invariant.counting _ (untold_replied (setup_of c.args.setup) [] _)).running in
     record {
       going = not_over (setup_of c.args.setup) r.pieces r.times c.loop-turn.session r.stands;
       none = c.loop-turn.invariant.none;
@@ -90,4 +90,4 @@ returns-in-End-clause-serves g c = λ before replied told left are.
 
 -- there are no more turns than that
 pub returns-clause-serves : goal.returns-clause-serves
-returns-clause-serves g c = absurd (too_many_turns (setup_of c.args.setup) _ _ _ _ (c.loop-turn.invariant.counting None (untold_replied (setup_of c.args.setup) [] _)).running (omega (arith, c.loop-turn-test.false, c.from-turn-end.ensures)))
+returns-clause-serves g c = absurd (too_many_turns (setup_of c.args.setup) _ _ _ _ (c.loop-turn.invariant.counting _ (untold_replied (setup_of c.args.setup) [] _)).running (omega (arith, c.loop-turn-test.false, c.from-turn-end.ensures)))

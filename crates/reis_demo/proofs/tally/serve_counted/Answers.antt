@@ -28,7 +28,7 @@ returns-in_err-session-clause-sink g c =
 
 -- the turns were taken
 pub returns-clause-serves : goal.returns-clause-serves
-returns-clause-serves g c = λ decided told left are. c.count_turns.ensures.serves (g.K.Sink.taken c.args.sink.now) (greeted (setup_of c.args.setup) _ _ c.in_ok-session.ensures.greeted) told left are
+returns-clause-serves g c = λ decided told left are. c.count_turns.ensures.serves (g.K.Sink.view c.args.sink.now) (greeted (setup_of c.args.setup) _ _ c.in_ok-session.ensures.greeted) told left are
 
 pub returns-clause-sink : goal.returns-clause-sink
 returns-clause-sink g c = sink_twice g.met.K.Sink.later_trans (λ f. f) (sink_unfailed _ _ c.in_ok-session.ensures.sink) c.count_turns.ensures.sink

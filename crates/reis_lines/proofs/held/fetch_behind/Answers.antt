@@ -4,10 +4,10 @@ use Rattle.reis_lines.proofs.HeldLaws.{fetched}
 use Rattle.reis_lines.proofs.held.fetch_behind.Goals as goal
 
 pub returns-clause-text : goal.returns-clause-text
-returns-clause-text g c = λ text told. fetched _ _ c.fetch.result c.args.room.now c.fetch.new.bytes _ text c.args.end (omega arith) c.fetch.ensures.size c.fetch.ensures.text told
+returns-clause-text g c = λ text told. fetched _ _ c.fetch.result c.args.room.now c.fetch.new.bytes _ text c.args.end (omega arith) c.fetch.ensures.size c.fetch.ensures.fetches.text told
 
 pub returns-clause-given : goal.returns-clause-given
-returns-clause-given g c = fetched_gave c.fetch.result c.args.room.now c.fetch.new.bytes _ _ _ c.args.end (omega arith) c.fetch.ensures.size c.fetch.ensures.given
+returns-clause-given g c = fetched_gave c.fetch.result c.args.room.now c.fetch.new.bytes _ _ _ c.args.end (omega arith) c.fetch.ensures.size c.fetch.ensures.fetches.given
 
 pub returns-clause-none_given : goal.returns-clause-none_given
-returns-clause-none_given g c = fetched_none c.fetch.result _ _ _ c.fetch.ensures.given
+returns-clause-none_given g c = fetched_none c.fetch.result _ _ _ c.fetch.ensures.fetches.given

@@ -10,7 +10,7 @@ loop-done-preserved g c =
     record {
       within = omega (arith, length-drop done text, c.in_ok-done.ensures.size.at_most);
       written = λ held told.
-          put_on held text _ done _ _ _ (c.loop-done.invariant.written held told) (take_all _ (drop done text) (omega (arith, length-drop done text))) c.in_ok-done.ensures.taken;
-      kept = c.in_ok-done.ensures.cause.kept ∙ c.loop-done.invariant.kept;
+          put_on held text _ done _ _ _ (c.loop-done.invariant.written held told) (take_all _ (drop done text) (omega (arith, length-drop done text))) c.in_ok-done.ensures.puts.taken;
+      kept = c.in_ok-done.ensures.puts.cause.kept ∙ c.loop-done.invariant.kept;
       later = g.met.O.Sink.later_trans _ _ _ c.loop-done.invariant.later c.in_ok-done.ensures.later;
     }

@@ -6,8 +6,8 @@ use Rattle.reis_report.proofs.report.write_all.Given as goal
 abbrev pub invariant-loop-done : goal.invariant-loop-done
 invariant-loop-done g l = record {
   within : l.done ≤ length l.text;
-  written : (held : Piece) → g.O.Sink.taken l.fn.output ≡ Some held → Holds held (take l.done l.text) (g.O.Sink.taken l.output);
-  kept : g.O.Sink.faults l.output ≡ g.O.Sink.faults l.fn.output;
+  written : (held : Piece) → (g.O.Sink.view l.fn.output).taken ≡ Some held → Holds held (take l.done l.text) (g.O.Sink.view l.output).taken;
+  kept : (g.O.Sink.view l.output).faults ≡ (g.O.Sink.view l.fn.output).faults;
   later : g.O.Sink.later l.fn.output l.output;
 }
 

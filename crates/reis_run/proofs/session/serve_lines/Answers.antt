@@ -1,4 +1,4 @@
-use Rattle.std.proofs.Common.{sym, ◌∙◌, subst}
+use Rattle.std.proofs.Common.{sym, ◌∙◌, subst, arith}
 use Rattle.ei_serve.specs.Standing.{setup_of}
 use Rattle.reis_lines.proofs.TextBegins.{unread_text}
 use Rattle.reis_run.specs.Session.{end_of, EndsAs, IsDecidedLine, TellsFault, TookLines, TookAllAs}
@@ -9,169 +9,47 @@ use Rattle.reis_run.proofs.SessionLaws.{went, went_input, served, line_ends, lin
 use Rattle.reis_run.proofs.SessionLaws.{line_cut, line_took, line_fault, line_last, line_risen, line_met, line_given, given_none, nothing_handled}
 use Rattle.reis_run.proofs.session.serve_lines.Goals as goal
 
-pub returns-clause-ends : goal.returns-clause-ends
-returns-clause-ends g c = λ text left is.
+pub returns-clause-serves : goal.returns-clause-serves
+returns-clause-serves g c = λ text left is.
     let one_input = sym c.over-source.ensures.same_reference ∙ c.serve-answer.ensures.source.later_source.same_reference ∙ sym c.close-input.ensures.same_reference in
     let w =
-    went g.I.Input.text g.I.Input.given g.I.Input.last g.I.Input.faults g.I.Input.later _ c.input-1.given.0 c.over-source.result c.serve-answer.new.source c.serve-answer.result
+    went g.I.Input.view g.I.Input.later _ c.input-1.given.0 c.over-source.result c.serve-answer.new.source c.serve-answer.result
     c.over-source.ensures.fresh c.over-source.ensures.unasked c.serve-answer.ensures.source (c.input-1.given.1 one_input ∙ c.close-input.ensures.same) in
-    let says = c.serve-answer.ensures in
+    let says = c.serve-answer.ensures.serves in
     let s =
-    served g.I.Input.text g.I.Input.given g.I.Input.last g.I.Input.faults g.I.Input.later _ _ c.over-source.result c.serve-answer.new.source (setup_of c.args.setup) text left _ _ c.serve-answer.result _ _ _ _ c.over-source.ensures.fresh w is
+    served g.I.Input.view g.I.Input.later _ _ c.over-source.result c.serve-answer.new.source (setup_of c.args.setup) text left _ _ c.serve-answer.result _ _ _ _ c.over-source.ensures.fresh w is
     (λ pieces rest are. record {
-      answers = says.answer pieces rest are;
-      gives = says.requests pieces rest are;
-      replied = says.replies pieces rest are;
-      clock = says.readings pieces rest are;
-      handled = says.handled pieces rest are;
-      taken = says.taken pieces rest are;
-      cut = says.cut_short pieces rest are;
+      answers = (says pieces rest are).answer;
+      gives = (says pieces rest are).requests;
+      replied = (says pieces rest are).replies;
+      clock = (says pieces rest are).readings;
+      handled = (says pieces rest are).handled;
+      taken = (says pieces rest are).taken;
+      cut = (says pieces rest are).cut_short;
     }) in
-    subst (λ (l : LastLine). IsDecidedLine l → EndsAs (end_of (setup_of c.args.setup) text) l) (sym c.last_line.ensures)
-    (line_ends s c.bad_line-bad.result c.bad_line-bad.ensures)
-
-pub returns-clause-requests : goal.returns-clause-requests
-returns-clause-requests g c = λ text left is d.
-    let one_input = sym c.over-source.ensures.same_reference ∙ c.serve-answer.ensures.source.later_source.same_reference ∙ sym c.close-input.ensures.same_reference in
-    let w =
-    went g.I.Input.text g.I.Input.given g.I.Input.last g.I.Input.faults g.I.Input.later _ c.input-1.given.0 c.over-source.result c.serve-answer.new.source c.serve-answer.result
-    c.over-source.ensures.fresh c.over-source.ensures.unasked c.serve-answer.ensures.source (c.input-1.given.1 one_input ∙ c.close-input.ensures.same) in
-    let says = c.serve-answer.ensures in
-    let s =
-    served g.I.Input.text g.I.Input.given g.I.Input.last g.I.Input.faults g.I.Input.later _ _ c.over-source.result c.serve-answer.new.source (setup_of c.args.setup) text left _ _ c.serve-answer.result _ _ _ _ c.over-source.ensures.fresh w is
-    (λ pieces rest are. record {
-      answers = says.answer pieces rest are;
-      gives = says.requests pieces rest are;
-      replied = says.replies pieces rest are;
-      clock = says.readings pieces rest are;
-      handled = says.handled pieces rest are;
-      taken = says.taken pieces rest are;
-      cut = says.cut_short pieces rest are;
-    }) in
-    (line_handles s c.bad_line-bad.result c.bad_line-bad.ensures (rw c.last_line.ensures at d)).0
-
-pub returns-clause-replies : goal.returns-clause-replies
-returns-clause-replies g c = λ text left is d.
-    let one_input = sym c.over-source.ensures.same_reference ∙ c.serve-answer.ensures.source.later_source.same_reference ∙ sym c.close-input.ensures.same_reference in
-    let w =
-    went g.I.Input.text g.I.Input.given g.I.Input.last g.I.Input.faults g.I.Input.later _ c.input-1.given.0 c.over-source.result c.serve-answer.new.source c.serve-answer.result
-    c.over-source.ensures.fresh c.over-source.ensures.unasked c.serve-answer.ensures.source (c.input-1.given.1 one_input ∙ c.close-input.ensures.same) in
-    let says = c.serve-answer.ensures in
-    let s =
-    served g.I.Input.text g.I.Input.given g.I.Input.last g.I.Input.faults g.I.Input.later _ _ c.over-source.result c.serve-answer.new.source (setup_of c.args.setup) text left _ _ c.serve-answer.result _ _ _ _ c.over-source.ensures.fresh w is
-    (λ pieces rest are. record {
-      answers = says.answer pieces rest are;
-      gives = says.requests pieces rest are;
-      replied = says.replies pieces rest are;
-      clock = says.readings pieces rest are;
-      handled = says.handled pieces rest are;
-      taken = says.taken pieces rest are;
-      cut = says.cut_short pieces rest are;
-    }) in
-    (line_handles s c.bad_line-bad.result c.bad_line-bad.ensures (rw c.last_line.ensures at d)).1
-
-pub returns-clause-readings : goal.returns-clause-readings
-returns-clause-readings g c = λ text left is d.
-    let one_input = sym c.over-source.ensures.same_reference ∙ c.serve-answer.ensures.source.later_source.same_reference ∙ sym c.close-input.ensures.same_reference in
-    let w =
-    went g.I.Input.text g.I.Input.given g.I.Input.last g.I.Input.faults g.I.Input.later _ c.input-1.given.0 c.over-source.result c.serve-answer.new.source c.serve-answer.result
-    c.over-source.ensures.fresh c.over-source.ensures.unasked c.serve-answer.ensures.source (c.input-1.given.1 one_input ∙ c.close-input.ensures.same) in
-    let says = c.serve-answer.ensures in
-    let s =
-    served g.I.Input.text g.I.Input.given g.I.Input.last g.I.Input.faults g.I.Input.later _ _ c.over-source.result c.serve-answer.new.source (setup_of c.args.setup) text left _ _ c.serve-answer.result _ _ _ _ c.over-source.ensures.fresh w is
-    (λ pieces rest are. record {
-      answers = says.answer pieces rest are;
-      gives = says.requests pieces rest are;
-      replied = says.replies pieces rest are;
-      clock = says.readings pieces rest are;
-      handled = says.handled pieces rest are;
-      taken = says.taken pieces rest are;
-      cut = says.cut_short pieces rest are;
-    }) in
-    line_clock s c.bad_line-bad.result (rw c.last_line.ensures at d)
-
-pub returns-clause-cut_short : goal.returns-clause-cut_short
-returns-clause-cut_short g c = λ text left is d.
-    let one_input = sym c.over-source.ensures.same_reference ∙ c.serve-answer.ensures.source.later_source.same_reference ∙ sym c.close-input.ensures.same_reference in
-    let w =
-    went g.I.Input.text g.I.Input.given g.I.Input.last g.I.Input.faults g.I.Input.later _ c.input-1.given.0 c.over-source.result c.serve-answer.new.source c.serve-answer.result
-    c.over-source.ensures.fresh c.over-source.ensures.unasked c.serve-answer.ensures.source (c.input-1.given.1 one_input ∙ c.close-input.ensures.same) in
-    let says = c.serve-answer.ensures in
-    let s =
-    served g.I.Input.text g.I.Input.given g.I.Input.last g.I.Input.faults g.I.Input.later _ _ c.over-source.result c.serve-answer.new.source (setup_of c.args.setup) text left _ _ c.serve-answer.result _ _ _ _ c.over-source.ensures.fresh w is
-    (λ pieces rest are. record {
-      answers = says.answer pieces rest are;
-      gives = says.requests pieces rest are;
-      replied = says.replies pieces rest are;
-      clock = says.readings pieces rest are;
-      handled = says.handled pieces rest are;
-      taken = says.taken pieces rest are;
-      cut = says.cut_short pieces rest are;
-    }) in
-    line_cut s c.bad_line-bad.result (rw c.last_line.ensures at d)
-
-pub returns-clause-given : goal.returns-clause-given
-returns-clause-given g c = λ text left is d.
-    let one_input = sym c.over-source.ensures.same_reference ∙ c.serve-answer.ensures.source.later_source.same_reference ∙ sym c.close-input.ensures.same_reference in
-    let w =
-    went g.I.Input.text g.I.Input.given g.I.Input.last g.I.Input.faults g.I.Input.later _ c.input-1.given.0 c.over-source.result c.serve-answer.new.source c.serve-answer.result
-    c.over-source.ensures.fresh c.over-source.ensures.unasked c.serve-answer.ensures.source (c.input-1.given.1 one_input ∙ c.close-input.ensures.same) in
-    let says = c.serve-answer.ensures in
-    let s =
-    served g.I.Input.text g.I.Input.given g.I.Input.last g.I.Input.faults g.I.Input.later _ _ c.over-source.result c.serve-answer.new.source (setup_of c.args.setup) text left _ _ c.serve-answer.result _ _ _ _ c.over-source.ensures.fresh w is
-    (λ pieces rest are. record {
-      answers = says.answer pieces rest are;
-      gives = says.requests pieces rest are;
-      replied = says.replies pieces rest are;
-      clock = says.readings pieces rest are;
-      handled = says.handled pieces rest are;
-      taken = says.taken pieces rest are;
-      cut = says.cut_short pieces rest are;
-    }) in
-    line_given s c.bad_line-bad.result c.bad_line-bad.ensures (sym c.last_line.ensures ∙ d)
-
-pub returns-clause-taken : goal.returns-clause-taken
-returns-clause-taken g c = λ text left is d.
-    let one_input = sym c.over-source.ensures.same_reference ∙ c.serve-answer.ensures.source.later_source.same_reference ∙ sym c.close-input.ensures.same_reference in
-    let w =
-    went g.I.Input.text g.I.Input.given g.I.Input.last g.I.Input.faults g.I.Input.later _ c.input-1.given.0 c.over-source.result c.serve-answer.new.source c.serve-answer.result
-    c.over-source.ensures.fresh c.over-source.ensures.unasked c.serve-answer.ensures.source (c.input-1.given.1 one_input ∙ c.close-input.ensures.same) in
-    let says = c.serve-answer.ensures in
-    let s =
-    served g.I.Input.text g.I.Input.given g.I.Input.last g.I.Input.faults g.I.Input.later _ _ c.over-source.result c.serve-answer.new.source (setup_of c.args.setup) text left _ _ c.serve-answer.result _ _ _ _ c.over-source.ensures.fresh w is
-    (λ pieces rest are. record {
-      answers = says.answer pieces rest are;
-      gives = says.requests pieces rest are;
-      replied = says.replies pieces rest are;
-      clock = says.readings pieces rest are;
-      handled = says.handled pieces rest are;
-      taken = says.taken pieces rest are;
-      cut = says.cut_short pieces rest are;
-    }) in
-    subst (λ (l : LastLine). TookLines text (given_since g.I.Input.given c.args.input.now c.input-1.given.0) left (TookAllAs (setup_of c.args.setup) (pieces_of text) l)) (sym c.last_line.ensures)
-    (line_took s c.bad_line-bad.result c.bad_line-bad.ensures (rw c.last_line.ensures at d))
+    record {
+      ends = subst (λ (l : LastLine). IsDecidedLine l → EndsAs (end_of (setup_of c.args.setup) text) l) (sym c.last_line.ensures) (line_ends s c.bad_line-bad.result c.bad_line-bad.ensures);
+      requests = λ d. (line_handles s c.bad_line-bad.result c.bad_line-bad.ensures (rw c.last_line.ensures at d)).0;
+      replies = λ d. (line_handles s c.bad_line-bad.result c.bad_line-bad.ensures (rw c.last_line.ensures at d)).1;
+      readings = λ d. line_clock s c.bad_line-bad.result (rw c.last_line.ensures at d);
+      given = λ d. line_given s c.bad_line-bad.result c.bad_line-bad.ensures (sym c.last_line.ensures ∙ d);
+      cut_short = λ d. line_cut s c.bad_line-bad.result (rw c.last_line.ensures at d);
+      taken = λ d. subst (λ (l : LastLine). TookLines text (given_since g.I.Input.view c.args.input.now c.input-1.given.0) left (TookAllAs (setup_of c.args.setup) (pieces_of text) l)) (sym c.last_line.ensures) (line_took s c.bad_line-bad.result c.bad_line-bad.ensures (rw c.last_line.ensures at d));
+    }
 
 pub returns-clause-fault : goal.returns-clause-fault
 returns-clause-fault g c = λ d.
     let one_input = sym c.over-source.ensures.same_reference ∙ c.serve-answer.ensures.source.later_source.same_reference ∙ sym c.close-input.ensures.same_reference in
     let w =
-    went g.I.Input.text g.I.Input.given g.I.Input.last g.I.Input.faults g.I.Input.later _ c.input-1.given.0 c.over-source.result c.serve-answer.new.source c.serve-answer.result
+    went g.I.Input.view g.I.Input.later _ c.input-1.given.0 c.over-source.result c.serve-answer.new.source c.serve-answer.result
     c.over-source.ensures.fresh c.over-source.ensures.unasked c.serve-answer.ensures.source (c.input-1.given.1 one_input ∙ c.close-input.ensures.same) in
-    line_fault w c.bad_line-bad.result c.bad_line-bad.ensures (sym c.last_line.ensures ∙ d)
-
-pub returns-clause-fault_last : goal.returns-clause-fault_last
-returns-clause-fault_last g c = λ d.
-    let one_input = sym c.over-source.ensures.same_reference ∙ c.serve-answer.ensures.source.later_source.same_reference ∙ sym c.close-input.ensures.same_reference in
-    let w =
-    went g.I.Input.text g.I.Input.given g.I.Input.last g.I.Input.faults g.I.Input.later _ c.input-1.given.0 c.over-source.result c.serve-answer.new.source c.serve-answer.result
-    c.over-source.ensures.fresh c.over-source.ensures.unasked c.serve-answer.ensures.source (c.input-1.given.1 one_input ∙ c.close-input.ensures.same) in
-    line_last w c.bad_line-bad.result c.bad_line-bad.ensures (sym c.last_line.ensures ∙ d)
+    record { fault = line_fault w c.bad_line-bad.result c.bad_line-bad.ensures (sym c.last_line.ensures ∙ d); last = line_last w c.bad_line-bad.result c.bad_line-bad.ensures (sym c.last_line.ensures ∙ d) }
 
 pub returns-clause-risen : goal.returns-clause-risen
 returns-clause-risen g c = λ d.
     let one_input = sym c.over-source.ensures.same_reference ∙ c.serve-answer.ensures.source.later_source.same_reference ∙ sym c.close-input.ensures.same_reference in
     let w =
-    went g.I.Input.text g.I.Input.given g.I.Input.last g.I.Input.faults g.I.Input.later _ c.input-1.given.0 c.over-source.result c.serve-answer.new.source c.serve-answer.result
+    went g.I.Input.view g.I.Input.later _ c.input-1.given.0 c.over-source.result c.serve-answer.new.source c.serve-answer.result
     c.over-source.ensures.fresh c.over-source.ensures.unasked c.serve-answer.ensures.source (c.input-1.given.1 one_input ∙ c.close-input.ensures.same) in
     subst TellsFault (sym c.last_line.ensures) (line_risen w c.bad_line-bad.result c.bad_line-bad.ensures d)
 
@@ -179,18 +57,25 @@ pub returns-clause-bad_line : goal.returns-clause-bad_line
 returns-clause-bad_line g c = λ n d.
     let one_input = sym c.over-source.ensures.same_reference ∙ c.serve-answer.ensures.source.later_source.same_reference ∙ sym c.close-input.ensures.same_reference in
     let w =
-    went g.I.Input.text g.I.Input.given g.I.Input.last g.I.Input.faults g.I.Input.later _ c.input-1.given.0 c.over-source.result c.serve-answer.new.source c.serve-answer.result
+    went g.I.Input.view g.I.Input.later _ c.input-1.given.0 c.over-source.result c.serve-answer.new.source c.serve-answer.result
     c.over-source.ensures.fresh c.over-source.ensures.unasked c.serve-answer.ensures.source (c.input-1.given.1 one_input ∙ c.close-input.ensures.same) in
     line_met w c.bad_line-bad.result n c.bad_line-bad.ensures (sym c.last_line.ensures ∙ d)
 
 pub returns-clause-input : goal.returns-clause-input
-returns-clause-input g c =
-    let one_input = sym c.over-source.ensures.same_reference ∙ c.serve-answer.ensures.source.later_source.same_reference ∙ sym c.close-input.ensures.same_reference in
+returns-clause-input g c = let one_input = sym c.over-source.ensures.same_reference ∙ c.serve-answer.ensures.source.later_source.same_reference ∙ sym c.close-input.ensures.same_reference in
     let w =
-    went g.I.Input.text g.I.Input.given g.I.Input.last g.I.Input.faults g.I.Input.later _ c.input-1.given.0 c.over-source.result c.serve-answer.new.source c.serve-answer.result
+    went g.I.Input.view g.I.Input.later _ c.input-1.given.0 c.over-source.result c.serve-answer.new.source c.serve-answer.result
     c.over-source.ensures.fresh c.over-source.ensures.unasked c.serve-answer.ensures.source (c.input-1.given.1 one_input ∙ c.close-input.ensures.same) in
     went_input w
 
-pub returns-in-Err-clause-cut_short : goal.returns-in-Err-clause-cut_short
-returns-in-Err-clause-cut_short g c = λ text left is e.
-    nothing_handled _ text _ left _ _ _ (given_none g.I.Input.given _) (unread_text g.I.Input.text g.I.Input.given g.I.Input.last _ text left is)
+pub returns-in-Err-clause-serves : goal.returns-in-Err-clause-serves
+returns-in-Err-clause-serves g c = λ text left is.
+    record {
+      ends = elim [ ];
+      requests = elim [ ];
+      replies = elim [ ];
+      readings = elim [ ];
+      given = λ e. grind arith;
+      cut_short = λ e. nothing_handled _ text _ left _ _ _ (given_none g.I.Input.view _) (unread_text g.I.Input.view _ text left is);
+      taken = elim [ ];
+    }

@@ -4,4 +4,4 @@ use Rattle.ei_handshake.proofs.versions.Versions.new.Goals as goal
 
 pub returns : goal.returns
 unfolding map_of
-returns c = refl
+returns c = rw c.new.ensures.empty refl

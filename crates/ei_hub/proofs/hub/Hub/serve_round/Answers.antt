@@ -10,8 +10,8 @@ loop-at-init g c = record {
   same = record { count = refl; setup = refl };
   most = search rules;
   done = λ k lt. absurd (omega (arith, lt));
-  rest = λ k le. starts g.S.Source.left g.S.Source.given g.S.Source.faults g.S.Source.last g.S.Source.later g.K.Sink.taken g.K.Sink.faults g.K.Sink.later
-      g.met.S.Source.later_refl g.met.K.Sink.later_refl g.met.S.Source.later_trans g.met.K.Sink.later_trans (g.C.Clock.readings c.args.clock.now) c.args.self.now.clients.items k;
+  rest = λ k le. starts g.S.Source.view g.S.Source.later g.K.Sink.view g.K.Sink.later
+      g.met.S.Source.later_refl g.met.K.Sink.later_refl g.met.S.Source.later_trans g.met.K.Sink.later_trans (g.C.Clock.view c.args.clock.now).left c.args.self.now.clients.items k;
   clock = untouched_clock (g.met.C.Clock.later_refl _);
   gave = gave_nothing _;
   ended = λ off k lt. absurd (omega (arith, lt));
@@ -23,11 +23,11 @@ loop-at-preserved g c =
     record {
       same = record { count = c.serve_at.ensures.same.count ∙ c.loop-at.invariant.same.count; setup = c.serve_at.ensures.same.setup ∙ c.loop-at.invariant.same.setup };
       most = c.loop-at.invariant.most ∙ sym c.serve_at.ensures.same.count;
-      done = done_more g.S.Source.left g.S.Source.given g.S.Source.faults g.S.Source.last g.S.Source.later g.K.Sink.taken g.K.Sink.faults g.K.Sink.later
+      done = done_more g.S.Source.view g.S.Source.later g.K.Sink.view g.K.Sink.later
           g.met.S.Source.later_refl g.met.K.Sink.later_refl g.met.S.Source.later_trans g.met.K.Sink.later_trans _ _ _
           c.args.self.now.clients.items c.loop-at.self.clients.items c.serve_at.new.self.clients.items c.loop-at.at c.serve_at.ensures.gave c.serve_at.ensures.others
           lt c.loop-at.invariant.done (c.loop-at.invariant.rest c.loop-at.at (omega arith)) c.serve_at.ensures.since;
-      rest = rest_less g.S.Source.left g.S.Source.given g.S.Source.faults g.S.Source.last g.S.Source.later g.K.Sink.taken g.K.Sink.faults g.K.Sink.later
+      rest = rest_less g.S.Source.view g.S.Source.later g.K.Sink.view g.K.Sink.later
           g.met.S.Source.later_refl g.met.K.Sink.later_refl g.met.S.Source.later_trans g.met.K.Sink.later_trans _ _ _
           c.args.self.now.clients.items c.loop-at.self.clients.items c.serve_at.new.self.clients.items c.loop-at.at c.serve_at.ensures.gave c.serve_at.ensures.others
           c.loop-at.invariant.rest;

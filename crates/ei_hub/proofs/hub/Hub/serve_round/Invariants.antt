@@ -10,11 +10,9 @@ abbrev pub invariant-loop-at : goal.invariant-loop-at
 invariant-loop-at g l = record {
   same : SameHub l.fn.self l.self;
   most : l.at-end ≡ count_of l.self;
-  done : (k : ℕ) → k < l.at → ForBoth k l.fn.self l.self (λ c d. Since g.S.Source.left g.S.Source.given g.S.Source.faults g.S.Source.last g.S.Source.later
-      g.K.Sink.taken g.K.Sink.faults g.K.Sink.later 1 (g.C.Clock.readings l.fn.clock) (g.C.Clock.readings l.clock) c d);
-  rest : (k : ℕ) → l.at ≤ k → ForBoth k l.fn.self l.self (λ c d. Since g.S.Source.left g.S.Source.given g.S.Source.faults g.S.Source.last g.S.Source.later
-      g.K.Sink.taken g.K.Sink.faults g.K.Sink.later 0 (g.C.Clock.readings l.fn.clock) (g.C.Clock.readings l.clock) c d);
+  done : (k : ℕ) → k < l.at → ForBoth k l.fn.self l.self (λ c d. Since g.S.Source.view g.S.Source.later g.K.Sink.view g.K.Sink.later 1 (g.C.Clock.view l.fn.clock).left (g.C.Clock.view l.clock).left c d);
+  rest : (k : ℕ) → l.at ≤ k → ForBoth k l.fn.self l.self (λ c d. Since g.S.Source.view g.S.Source.later g.K.Sink.view g.K.Sink.later 0 (g.C.Clock.view l.fn.clock).left (g.C.Clock.view l.clock).left c d);
   clock : LentClock g.C.Clock.later l.fn.clock l.clock;
-  gave : GaveReadings (g.C.Clock.readings l.fn.clock) (g.C.Clock.readings l.clock);
+  gave : GaveReadings (g.C.Clock.view l.fn.clock).left (g.C.Clock.view l.clock).left;
   ended : l.goes_on ≡ false → (k : ℕ) → k < l.at → ForClient k l.self (λ d. IsSome d.end);
 }

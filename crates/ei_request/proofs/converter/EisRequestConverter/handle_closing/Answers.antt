@@ -11,8 +11,8 @@ use Rattle.ei_request.proofs.converter.EisRequestConverter.handle_closing.Goals 
 pub returns-clause-handles : goal.returns-clause-handles
 returns-clause-handles g c =
     let view : ConverterView = record { handle = c.self.inside.handle; queue = c.self.inside.queue.items } in
-    let before : Option (List ℕ) = g.C.Clock.readings c.args.clock.now in
-    let after : Option (List ℕ) = g.C.Clock.readings c.made_time-time.new.clock in
+    let before : Option (List ℕ) = (g.C.Clock.view c.args.clock.now).left in
+    let after : Option (List ℕ) = (g.C.Clock.view c.made_time-time.new.clock).left in
     let request : EisRequest = queued_of c.args.request c.in-Some.held.now.device in
     let found : device_in view c.args.id ≡ Some c.in-Some.held.now = sym c.find_device.ensures ∙ ap option_copied c.in-Some.is in
     let times : Times true (is_some_waiting (device_in view c.args.id)) c.made_time-time.result before after =

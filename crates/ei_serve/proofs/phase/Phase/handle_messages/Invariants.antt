@@ -10,7 +10,7 @@ use Rattle.ei_serve.proofs.phase.Phase.handle_messages.Given as goal
 abbrev pub invariant-loop-message : goal.invariant-loop-message
 invariant-loop-message g l = record {
   handling : (past : List Raw) (times rest : List ℕ) (handles : List Handle) → StandsAt (terms_of l.start.terms) past times rest handles l.fn.self →
-      Handling (terms_of l.start.terms) past times rest handles l._message l.self (around no_source l.fn.out.items (g.K.Sink.taken l.fn.sink) (g.C.Clock.readings l.fn.clock)) (around no_source l.out.items (g.K.Sink.taken l.sink) (g.C.Clock.readings l.clock));
-  sink : LentSink g.K.Sink.faults g.K.Sink.later ⊥ l.fn.sink l.sink;
+      Handling (terms_of l.start.terms) past times rest handles l._message l.self (around no_source l.fn.out.items (g.K.Sink.view l.fn.sink) (g.C.Clock.view l.fn.clock).left) (around no_source l.out.items (g.K.Sink.view l.sink) (g.C.Clock.view l.clock).left);
+  sink : LentSink g.K.Sink.view g.K.Sink.later ⊥ l.fn.sink l.sink;
   clock : LentClock g.C.Clock.later l.fn.clock l.clock;
 }

@@ -1,4 +1,5 @@
 use Rattle.std.proofs.Common.{◌≡◌, ℕ, ◌<◌, ◌^◌, ap, sym, subst, ◌∙◌}
+use Rattle.ei_backend.specs.Backend.{BackendView}
 use Rattle.ei_ends.specs.Sent.{new_of}
 use Rattle.ei_world.specs.declared.record.Record.{Record}
 use Rattle.ei_world.specs.Stored.{StoredEnd, sent_view}
@@ -7,9 +8,9 @@ use Rattle.ei_world.proofs.Sending.{asked_next, asked_sendable, same_sends, on_o
 use Rattle.ei_world.proofs.half.Half.ask.Goals as goal
 
 pub send-requires : goal.send-requires
-send-requires c =
+send-requires g c =
     let own : ℕ = c.args.self.now.backend.table.next_own in
-    let e : c.next_id-next.result ≡ own = c.next_id-next.ensures ∙ ap (λ (x : StoredEnd). x.backend.table.next_own) c.self.view_is in
+    let e : c.next_id-next.result ≡ own = c.next_id-next.ensures ∙ ap (λ (b : BackendView). b.table.next_own) c.backend.ensures ∙ ap (λ (x : StoredEnd). x.backend.table.next_own) c.self.view_is in
     let wanted : ℕ → Record = λ i. asked i c.args.target.id c.args.target.interface c.args.target.version c.args.opcode c.args.values.now in
     let same : c.in_ok-message.message ≡ wanted own = c.in_ok-message.ensures.asked ∙ ap wanted e in
     let lt : own < 2 ^ 64 = subst (λ (i : ℕ). i < 2 ^ 64) e c.in_ok-message.ensures.fits.0 in
@@ -19,16 +20,16 @@ send-requires c =
     }
 
 pub returns-clause-sends : goal.returns-clause-sends
-returns-clause-sends c =
+returns-clause-sends g c =
     let own : ℕ = c.args.self.now.backend.table.next_own in
-    let e : c.next_id-next.result ≡ own = c.next_id-next.ensures ∙ ap (λ (x : StoredEnd). x.backend.table.next_own) c.self.view_is in
+    let e : c.next_id-next.result ≡ own = c.next_id-next.ensures ∙ ap (λ (b : BackendView). b.table.next_own) c.backend.ensures ∙ ap (λ (x : StoredEnd). x.backend.table.next_own) c.self.view_is in
     let wanted : ℕ → Record = λ i. asked i c.args.target.id c.args.target.interface c.args.target.version c.args.opcode c.args.values.now in
     same_sends c.args.events c.in_ok-message.message (wanted own) c.send.result c.args.self.now c.send.new.self (c.in_ok-message.ensures.asked ∙ ap wanted e) c.send.ensures
 
 pub returns-clause-sendable : goal.returns-clause-sendable
-returns-clause-sendable c =
+returns-clause-sendable g c =
     let own : ℕ = c.args.self.now.backend.table.next_own in
-    let e : c.next_id-next.result ≡ own = c.next_id-next.ensures ∙ ap (λ (x : StoredEnd). x.backend.table.next_own) c.self.view_is in
+    let e : c.next_id-next.result ≡ own = c.next_id-next.ensures ∙ ap (λ (b : BackendView). b.table.next_own) c.backend.ensures ∙ ap (λ (x : StoredEnd). x.backend.table.next_own) c.self.view_is in
     let fits = c.in_ok-message.ensures.fits in
     let lt : own < 2 ^ 64 = subst (λ (i : ℕ). i < 2 ^ 64) e fits.0 in
     on_ok c.send.result _

@@ -38,7 +38,7 @@ returns-then-is_some-clause-given g c = gave_on _ _ _ _ _ _ _ c.lines.invariant.
 
 pub returns-then-is_some-clause-asked : goal.returns-then-is_some-clause-asked
 returns-then-is_some-clause-asked g c =
-    asked_found g.I.Input.last _ _ c.newline-found.result _
+    asked_found g.I.Input.view _ _ c.newline-found.result _
     (elim c.then-is_some.branch [
       | then-is_some-via-then-is_some w ↦ inl (sym c.is_some.ensures ∙ w.if-is_some.true)
       | then-is_some-via-else-is_some+then-len-ge-TOO_LONG w ↦ inr (omega (arith, w.len.ensures, w.if-len-ge-TOO_LONG.true))

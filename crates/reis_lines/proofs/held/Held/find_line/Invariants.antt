@@ -7,12 +7,12 @@ use Rattle.reis_lines.proofs.held.Held.find_line.Given as goal
 
 abbrev pub invariant-lines : goal.invariant-lines
 invariant-lines g l = record {
-  text : (text : List ℕ) → g.I.Input.text l.fn.input ≡ Some text → Moves l.fn.self text l.self (g.I.Input.text l.input);
-  given : GaveBehind (g.I.Input.given l.fn.input) (g.I.Input.given l.input) l.fn.self l.self;
-  asked : (l.input ≡ l.fn.input) ⊎ (is_end (g.I.Input.last l.input) ≡ false);
+  text : (text : List ℕ) → (g.I.Input.view l.fn.input).left ≡ Some text → Moves l.fn.self text l.self (g.I.Input.view l.input).left;
+  given : GaveBehind (g.I.Input.view l.fn.input).given (g.I.Input.view l.input).given l.fn.self l.self;
+  asked : (l.input ≡ l.fn.input) ⊎ (is_end (g.I.Input.view l.input).last ≡ false);
   unasked : has_newline l.fn.self ≡ true → l.input ≡ l.fn.input;
   kept : has_newline l.fn.self ≡ true → l.self ≡ l.fn.self;
-  kept_count : g.I.Input.faults l.input ≡ g.I.Input.faults l.fn.input;
+  kept_count : (g.I.Input.view l.input).faults ≡ (g.I.Input.view l.fn.input).faults;
   later : g.I.Input.later l.fn.input l.input;
 }
 

@@ -33,7 +33,7 @@ pub returns-in_err-found-clause-later : goal.returns-in_err-found-clause-later
 unfolding LaterLines-none
 returns-in_err-found-clause-later g c =
     let is = c.in_err-found.ensures in
-    unmet_later g.I.Input.text g.I.Input.given g.I.Input.last g.I.Input.faults g.I.Input.later _ _ (none_if_not_some _ (sym c.is_some.ensures ∙ c.if-is_some.false)) is.same_bad
+    unmet_later g.I.Input.view g.I.Input.later _ _ (none_if_not_some _ (sym c.is_some.ensures ∙ c.if-is_some.false)) is.same_bad
     is.same_faults
     (record {
       input = is.later;
@@ -53,7 +53,7 @@ pub returns-then-count-eq0-clause-later : goal.returns-then-count-eq0-clause-lat
 unfolding LaterLines-none
 returns-then-count-eq0-clause-later g c =
     let is = c.in_ok-found.ensures in
-    unmet_later g.I.Input.text g.I.Input.given g.I.Input.last g.I.Input.faults g.I.Input.later _ _ (none_if_not_some _ (sym c.is_some.ensures ∙ c.if-is_some.false)) is.same_bad
+    unmet_later g.I.Input.view g.I.Input.later _ _ (none_if_not_some _ (sym c.is_some.ensures ∙ c.if-is_some.false)) is.same_bad
     is.same_faults
     (record {
       input = is.later;
@@ -99,7 +99,7 @@ unfolding handed_out
 returns-in-Some-clause-later g c =
     let found = c.in_ok-found.found in
     let is = c.in_ok-found.ensures in
-    unmet_later g.I.Input.text g.I.Input.given g.I.Input.last g.I.Input.faults g.I.Input.later _ _ (none_if_not_some _ (sym c.is_some.ensures ∙ c.if-is_some.false)) is.same_bad
+    unmet_later g.I.Input.view g.I.Input.later _ _ (none_if_not_some _ (sym c.is_some.ensures ∙ c.if-is_some.false)) is.same_bad
     is.same_faults
     (record {
       input = is.later;

@@ -1,22 +1,40 @@
-use Rattle.std.proofs.Common.{ap, sym, Ok, refl}
+use Rattle.std.proofs.Common.{ap, sym, Ok, refl, rules}
 use Rattle.reis_lines.specs.HexSource.{text_reading, unread}
 use Rattle.reis_lines.proofs.SourceLaws.{take_hands, take_keeps, told_at_end}
 use Rattle.reis_lines.proofs.hex_source.HexSourceSource.take.Goals as goal
 
-pub returns-in-Ok-eq0-clause-pieces : goal.returns-in-Ok-eq0-clause-pieces
-returns-in-Ok-eq0-clause-pieces g c = λ pieces told.
-    take_hands (unread g.I.Input.text (text_reading c.args.self.now)) (unread g.I.Input.text (text_reading c.next_piece.new.self)) c.args.self.now.held c.next_piece.new.self.held pieces 0 _ _ told
-    (λ t is. rw c.in-Ok-eq0.field-0-test at (c.in-Ok-eq0.ensures.pieces t is))
+pub returns-in-Ok-eq0-clause-takes : goal.returns-in-Ok-eq0-clause-takes
+returns-in-Ok-eq0-clause-takes g c = record {
+  pieces = λ pieces told.
+      take_hands (unread g.I.Input.view (text_reading c.args.self.now)) (unread g.I.Input.view (text_reading c.next_piece.new.self)) c.args.self.now.held c.next_piece.new.self.held pieces 0 _ _ told
+      (λ t is. rw c.in-Ok-eq0.field-0-test at (c.in-Ok-eq0.ensures.pieces t is));
+  given = search rules;
+  cause = search rules;
+  asked = search rules;
+  last = search rules;
+}
 
-pub returns-in-Ok-clause-pieces : goal.returns-in-Ok-clause-pieces
-returns-in-Ok-clause-pieces g c = λ pieces told.
-    take_hands (unread g.I.Input.text (text_reading c.args.self.now)) (unread g.I.Input.text (text_reading c.next_piece.new.self)) c.args.self.now.held c.next_piece.new.self.held pieces _ _ _ told
-    (λ t is. c.in-Ok.ensures.pieces t is)
+pub returns-in-Ok-clause-takes : goal.returns-in-Ok-clause-takes
+returns-in-Ok-clause-takes g c = record {
+  pieces = λ pieces told.
+      take_hands (unread g.I.Input.view (text_reading c.args.self.now)) (unread g.I.Input.view (text_reading c.next_piece.new.self)) c.args.self.now.held c.next_piece.new.self.held pieces _ _ _ told
+      (λ t is. c.in-Ok.ensures.pieces t is);
+  given = search rules;
+  cause = search rules;
+  asked = search rules;
+  last = search rules;
+}
 
-pub returns-in-Err-clause-pieces : goal.returns-in-Err-clause-pieces
-returns-in-Err-clause-pieces g c = λ pieces told.
-    take_keeps (unread g.I.Input.text (text_reading c.args.self.now)) (unread g.I.Input.text (text_reading c.next_piece.new.self)) c.args.self.now.held c.next_piece.new.self.held pieces told
-    (λ t is. c.in-Err.ensures.pieces t is)
+pub returns-in-Err-clause-takes : goal.returns-in-Err-clause-takes
+returns-in-Err-clause-takes g c = record {
+  pieces = λ pieces told.
+      take_keeps (unread g.I.Input.view (text_reading c.args.self.now)) (unread g.I.Input.view (text_reading c.next_piece.new.self)) c.args.self.now.held c.next_piece.new.self.held pieces told
+      (λ t is. c.in-Err.ensures.pieces t is);
+  given = search rules;
+  cause = search rules;
+  asked = search rules;
+  last = search rules;
+}
 
 pub returns-in-Ok-eq0-clause-later : goal.returns-in-Ok-eq0-clause-later
 returns-in-Ok-eq0-clause-later g c = record {

@@ -1,0 +1,16 @@
+pub mod AnyMemory
+pub mod Fronts
+pub mod Typed
+pub mod Kept
+pub mod Accepting
+pub mod Connecting
+pub mod Refusing
+pub mod MoreHandles
+pub mod Sending
+pub mod GivenPieces
+pub mod Opens
+pub mod Turning
+pub mod Stepping
+pub mod Running
+pub mod Lent
+pub mod Beginning
