@@ -3,17 +3,29 @@
 //! There is no handshake here and no loop. Begin with `EiEvent`, what a user is given.
 #![tactic(auto)]
 
+mod connection;
+mod converter;
 mod device;
+mod ending;
 mod event;
 pub mod heard;
+mod items;
+mod kept;
+mod kept_device;
+mod kept_interface;
+mod kept_seat;
 mod keymap;
 mod region;
 mod seat;
+mod taking;
 mod traits;
 
+pub use connection::Connection;
+pub use converter::EiEventConverter;
 pub use device::Device;
-pub use ei_handler::{Handler, Receipt, Run};
+pub use ei_handler::{Call, Handler, Receipt, Run};
 pub use ei_input::{DeviceEvent, EventTime};
+pub use ending::Ending;
 pub use event::{
     Button, DeviceAdded, DevicePaused, DeviceRemoved, DeviceResumed, DeviceStartEmulating,
     DeviceStopEmulating, Disconnected, EiEvent, Frame, GesturePinch, GestureSwipe, KeyboardKey,

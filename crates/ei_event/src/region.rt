@@ -2,8 +2,8 @@
 
 use ei_wire::{EiText, RawFloat};
 
-/// A region in which a virtual device moves: its corner and its size in logical pixels, and the scale by which the client is
-/// to multiply distances.
+/// A region in which a virtual device moves: its corner and its size in logical pixels, and the scale by which the
+/// client is to multiply distances.
 #[derive(Debug, Drop)]
 pub struct Region {
     pub x: u32,

@@ -1,1 +1,6 @@
+pub mod Ahead
+pub mod Lets
+pub mod Noted
 pub mod SiftedRight
+pub mod Sifting
+pub mod Told

@@ -1,8 +1,8 @@
 -- What passes of a record that can be played back can be played back.
-use Rattle.std.proofs.Common.{◌≡◌, ℕ, ◌+◌, ◌≤◌, Bool, true, false, cond, not, ◌&&◌, ◌||◌, eqb, List, [], ◌∷◌, ◌++◌, length, Option, Some, None, refl, sym, ap, subst, ◌∙◌, arith}
-use Rattle.std.specs.Prelude.{is_some, unwrap_or, nat_eq, nat_le, slice_get, slice_index}
+use Rattle.std.proofs.Common.{◌≡◌, ℕ, ◌+◌, ◌≤◌, Bool, true, false, cond, not, ◌&&◌, ◌||◌, eqb, List, [], ◌∷◌, length, Option, Some, None, refl, sym, ap, subst, ◌∙◌, arith}
+use Rattle.std.specs.Prelude.{unwrap_or, nat_eq, nat_le, slice_get, slice_index}
 use Rattle.std.specs.List.{filter, list_any, IsDistinct}
-use Rattle.std.proofs.lemmas.Bool.{eqb-true, leb-false}
+use Rattle.std.proofs.lemmas.Bool.{eqb-true}
 use Rattle.std.proofs.lemmas.Bool.Decides.{nat_tests}
 use Rattle.std.proofs.lemmas.Cmp.{nat_eq_equiv}
 use Rattle.std.proofs.lemmas.Map.Made.{is_member-filter}
@@ -15,11 +15,11 @@ use Rattle.ei_session.specs.Setup.{Setup}
 use Rattle.ei_session.specs.Devices.{not_empty, ids_of}
 use Rattle.ei_session.specs.Touches.{said_by}
 use Rattle.ei_session.specs.Requests.{Request, Plain, DeviceClosed}
-use Rattle.ei_session.proofs.Choices.{or_none, or_true, and_true, and_false, turned, not_both}
-use Rattle.ei_record.specs.Replayable.{disconnects, mask_of, if_it, takes_ids, gives_mask, next_device, mask_before, closes_device, is_there, says_touch, touch_is_down, touches_before, asks_badly, names_none, device_of, lacks, goes_with, is_input_of, touches_badly, writes_badly, stands_badly, is_wrong, wrong_from, IsReplayable}
+use Rattle.ei_session.proofs.Choices.{or_none, or_true, and_true, and_false, not_both}
+use Rattle.ei_record.specs.Replayable.{disconnects, mask_of, if_it, takes_ids, gives_mask, next_device, mask_before, closes_device, is_there, says_touch, touch_is_down, touches_before, asks_badly, names_none, device_of, lacks, goes_with, is_input_of, touches_badly, stands_badly, is_wrong, wrong_from, IsReplayable}
 use Rattle.ei_record.proofs.Lists.{right, was_right}
 use Rattle.ei_record.proofs.TouchesBefore.{down_one, down_members, down_distinct, down_count, distinct_filter}
-use Rattle.ei_filter.specs.Sifted.{Test, is_let, is_framed, begins, passes_with, begun_of, input_passes, some_passes, passes, timed_by, count_frame, kept, counted, sifted_from, sifted}
+use Rattle.ei_filter.specs.Sifted.{Test, is_let, is_framed, begins, passes_with, begun_of, input_passes, some_passes, passes, timed_by, kept, counted, sifted_from, sifted}
 
 abbrev or_else : {A : Type 0} → Option A → Option A → Option A
 or_else o p = elim o [ Some a ↦ Some a | None ↦ p ]

@@ -1,5 +1,5 @@
 -- What passes a filter.
-use Rattle.std.specs.Prelude.{ℕ, ◌+◌, Bool, true, false, not, ◌&&◌, ◌||◌, List, [], ◌∷◌, ◌==◌, if◌then◌else◌, slice_index}
+use Rattle.std.specs.Prelude.{ℕ, ◌+◌, Bool, true, false, ◌&&◌, ◌||◌, List, [], ◌∷◌, ◌==◌, if◌then◌else◌, slice_index}
 use Rattle.std.specs.List.{list_all}
 use Rattle.ei_spec.specs.Groups.{Timed, Framed, Plain as Given}
 use Rattle.ei_input.specs.declared.input_event.InputEvent.{InputEvent}

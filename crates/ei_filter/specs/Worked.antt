@@ -1,8 +1,7 @@
 -- The rows: what passes where touch 4 may not begin, where all may, and at half the time.
-use Rattle.std.specs.Prelude.{◌≡◌, ℕ, Bool, true, not, ◌==◌, List, [], ◌∷◌}
-use Rattle.ei_spec.specs.Groups.{Timed, Framed, Plain as Given}
+use Rattle.std.specs.Prelude.{◌≡◌, ℕ, true, not, ◌==◌, List, [], ◌∷◌}
+use Rattle.ei_spec.specs.Groups.{Timed, Framed}
 use Rattle.ei_types.specs.declared.enums.ButtonState.TheVariants as button_state
-use Rattle.ei_input.specs.declared.input_event.InputEvent.{InputEvent}
 use Rattle.ei_input.specs.declared.input_event.InputEvent.TheVariants as input_event
 use Rattle.ei_input.specs.Inputs.{float}
 use Rattle.ei_session.specs.Requests.{Request}

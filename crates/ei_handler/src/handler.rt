@@ -1,11 +1,22 @@
 //! What is called at the end of a callback.
 
-ghost use Rattle.std.specs.Prelude.{◌≡◌};
+ghost use Rattle.std.specs.Prelude.{◌≡◌, ℕ};
 
-/// What a caller made: it is given the number that ends the callback, and answers another.
+/// What can be called at the end of a callback, once: it is given the number that ends the callback, and answers
+/// another.
+pub trait Call: Drop {
+    /// Whether it may answer a number by this one.
+    ghost may_answer: { Self → ℕ → ℕ → Type 0 };
+
+    /// Calls it.
+    fn call(self, value: u64) -> u64
+        ensures { may_answer self value result };
+}
+
+/// What a caller made: a closure in a box.
 pub type Run = Box<dyn FnOnce(u64) -> u64>;
 
-/// What is called at the end of a callback, once.
+/// A handler around a caller's box. It answers as the closure in it promises.
 #[derive(Drop)]
 pub struct Handler {
     pub run: Run,
@@ -20,11 +31,12 @@ impl Handler {
     {
         Handler { run }
     }
+}
 
-    /// Calls it.
-    pub(crate) fn call(self, value: u64) -> u64
-        ensures { Run.post self.run value result }
-    {
+impl Call for Handler {
+    ghost may_answer = { λ handler. Run.post handler.run };
+
+    fn call(self, value: u64) -> u64 {
         (self.run)(value)
     }
 }

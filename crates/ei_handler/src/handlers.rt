@@ -1,72 +1,71 @@
 //! The handlers that wait, and the receipts of those that were called.
 
-ghost use Rattle.std.specs.Prelude.{◌≡◌, true};
-ghost use Rattle.ei_handler.specs.Apart.{is_apart};
+ghost use Rattle.std.specs.Prelude.{◌≡◌, [], OnOk, OnErr};
+ghost use Rattle.std.specs.FinMap as finite;
+ghost use Rattle.ei_handler.specs.Handlers.{Keeps};
 
-use crate::handler::{Handler, Run};
-use ei_keyed::Keyed;
+use crate::handler::Call;
+use crate::receipt::Receipt;
+use ei_by_id::ById;
 use std::alloc::{AllocError, Global};
-
-/// A handler was called: at the end of this callback, with this value, and it gave this answer.
-#[derive(Clone, Copy, Debug, PartialEq, Eq)]
-pub struct Receipt {
-    pub callback: u64,
-    pub value: u64,
-    pub answer: u64,
-}
+use std::marker::Model;
 
 /// The handlers that wait, by the ids of their callbacks, and the receipts of those that were called.
 #[derive(Drop)]
-pub struct Handlers {
-    waiting: Keyed<Handler>,
+pub struct Handlers<H> {
+    waiting: ById<H>,
     receipts: Vec<Receipt>,
-    ghost apart: { is_apart waiting.items ≡ true },
 }
 
-impl Handlers {
-    ghost use Rattle.std.specs.Prelude.{◌≡◌, ℕ, [], Some, None, OnOk, OnErr, ◌==◌, if◌then◌else◌};
-    ghost use Rattle.ei_handler.specs.Handlers.{Keeps, handler_of, receipts_of};
+impl<H> Model for Handlers<H> {
+    ghost use Rattle.ei_handler.specs.Handlers.{HandlersView, handlers_code};
 
+    ghost Value = { HandlersView H };
+
+    ghost coded = { handlers_code H.code };
+
+    ghost view = { λ h. record { waiting = h.waiting; receipts = h.receipts.items } };
+}
+
+impl<H> Handlers<H> {
     /// None.
-    pub fn new(alloc: Global) -> Handlers
-        ensures waiting { (k : ℕ) → handler_of result k ≡ None }
-        ensures receipts { receipts_of result ≡ [] }
+    pub fn new(alloc: Global) -> Handlers<H>
+        ensures { result ≡ record { waiting = finite.empty; receipts = [] } }
     {
         Handlers {
-            waiting: Keyed::new(alloc),
+            waiting: ById::new(alloc),
             receipts: Vec::new(alloc),
         }
     }
 
     /// The receipts, in the order of the calls.
     pub fn receipts(&self) -> &[Receipt]
-        ensures { result.now ≡ receipts_of self.now }
+        ensures { result.now ≡ self.now.receipts }
     {
         &self.receipts
     }
+}
 
+impl<H: Call> Handlers<H> {
     /// Keeps a handler for the callback, in place of one that stood there, which is dropped unused.
-    pub fn add(&mut self, callback: u64, handler: Handler) -> Result<(), AllocError>
-        ensures ok { OnOk result ((k : ℕ) → handler_of self.new k ≡
-            (if k == callback then Some handler else handler_of self.old k)) }
-        ensures receipts { receipts_of self.new ≡ receipts_of self.old }
-        ensures err { OnErr result ((k : ℕ) → handler_of self.new k ≡ handler_of self.old k) }
+    ///
+    /// `AllocError`: nothing changes, and the handler is dropped.
+    pub fn add(&mut self, callback: u64, handler: H) -> Result<(), AllocError>
+        ensures ok { OnOk result (self.new ≡
+            record self.old { waiting = finite.insert self.old.waiting callback handler }) }
+        ensures err { OnErr result (self.new ≡ self.old) }
     {
-        self.waiting.reserve(1)?;
-        self.waiting.take(callback);
-        self.waiting.push_reserved(callback, handler);
-        Ok(())
+        self.waiting.put(callback, handler)
     }
 
     /// The end of a callback: its handler, if it has one, is taken out and called, and a receipt is kept.
+    ///
+    /// `AllocError`: nothing changes, and nothing is called.
     pub fn done(&mut self, callback: u64, value: u64) -> Result<(), AllocError>
-        ensures receipt { OnOk result (Keeps (λ handler. Run.post handler.run)
-            (handler_of self.old callback) callback value
-            (receipts_of self.old) (receipts_of self.new)) }
-        ensures gone { OnOk result ((k : ℕ) → handler_of self.new k ≡
-            (if k == callback then None else handler_of self.old k)) }
-        ensures err_receipts { OnErr result (receipts_of self.new ≡ receipts_of self.old) }
-        ensures err_waiting { OnErr result ((k : ℕ) → handler_of self.new k ≡ handler_of self.old k) }
+        ensures receipt { OnOk result (Keeps H.may_answer (finite.get self.old.waiting callback) callback value
+            self.old.receipts self.new.receipts) }
+        ensures gone { OnOk result (self.new.waiting ≡ finite.remove self.old.waiting callback) }
+        ensures err { OnErr result (self.new ≡ self.old) }
     {
         if self.waiting.get(callback).is_none() {
             return Ok(());

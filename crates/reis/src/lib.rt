@@ -8,6 +8,7 @@
 pub mod ei;
 pub mod eis;
 pub mod event;
+pub mod filter;
 pub mod handshake;
 pub mod hub;
 pub mod outside;

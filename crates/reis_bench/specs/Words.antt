@@ -8,5 +8,6 @@ abbrev pub IsWithin : Row → Type 0
 IsWithin (rows.Parse piece groups) = (0 < piece) × (piece ≤ 65536)
 IsWithin (rows.Send messages) = Unit {0}
 IsWithin (rows.Client messages) = Unit {0}
+IsWithin (rows.Events groups) = Unit {0}
 IsWithin (rows.Handshake messages) = Unit {0}
 IsWithin (rows.Session doing) = Unit {0}

@@ -1,16 +1,25 @@
-//! What a server announces of a device of all seven capabilities.
+//! What a server announces of a device of seven capabilities.
 
 use ei_server::{
     Button, Connection, Context, Device, Keyboard, Pointer, PointerAbsolute, Scroll, Seat, Text,
     Touchscreen,
 };
-use ei_types::{Error, HandshakeError};
+use ei_types::{DeviceType, Error, HandshakeError};
 
-/// Announces the connection, a seat, a device and its seven interfaces, as a session does, with the ids from
-/// 0xff00000000000000 on. It answers the pointer.
+/// The mask that the seat announces for its one capability.
+const MASK: u64 = 1;
+
+/// A device that was announced, with its pointer.
+#[derive(Drop)]
+pub(crate) struct Announced {
+    pub(crate) device: Device,
+    pub(crate) pointer: Pointer,
+}
+
+/// Announces the connection, a seat, a device and its seven interfaces, each whole, with the ids from 0xff00000000000000 on.
 ///
 /// `MissingInterface` where the handshake is gone already.
-pub(crate) fn announce(context: &mut Context) -> Result<Pointer, Error> {
+pub(crate) fn announce(context: &mut Context) -> Result<Announced, Error> {
     let Some(handshake) = context.handshake() else {
         return Err(Error::Handshake(HandshakeError::MissingInterface));
     };
@@ -19,17 +28,21 @@ pub(crate) fn announce(context: &mut Context) -> Result<Pointer, Error> {
 }
 
 /// Announces a seat, and its device.
-fn announce_seat(context: &mut Context, connection: &Connection) -> Result<Pointer, Error> {
+fn announce_seat(context: &mut Context, connection: &Connection) -> Result<Announced, Error> {
     let seat = connection.seat(context, 2)?;
+    seat.capability(context, MASK, "ei_pointer")?;
+    seat.done(context)?;
     announce_device(context, &seat)
 }
 
 /// Announces a device, and its interfaces.
-fn announce_device(context: &mut Context, seat: &Seat) -> Result<Pointer, Error> {
+fn announce_device(context: &mut Context, seat: &Seat) -> Result<Announced, Error> {
     let device = seat.device(context, 3)?;
+    device.device_type(context, DeviceType::Virtual)?;
     let pointer = device.interface::<Pointer>(context, 1)?;
     announce_others(context, &device)?;
-    Ok(pointer)
+    device.done(context)?;
+    Ok(Announced { device, pointer })
 }
 
 /// Announces the interfaces of a device behind its pointer.

@@ -36,7 +36,7 @@ fn parse_bytes(alloc: Global, bytes: &[u8], piece: usize) -> Result<Outcome, Err
 fn parse_source(context: &mut Context, source: &mut Cut<'_>) -> Result<Outcome, Error> {
     let mut tally = Tally::new();
     shake_hands(context, source, &mut tally)?;
-    let _pointer = announce(context)?;
+    let _announced = announce(context)?;
     parse_stream(context, source, &mut tally)?;
     Ok(Outcome::Read(tally))
 }

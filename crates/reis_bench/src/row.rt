@@ -4,7 +4,7 @@ ghost use Rattle.reis_bench.specs.Words.{IsWithin};
 
 use crate::tally::Tally;
 use crate::words::Row;
-use crate::{client, handshake, parse, send, session};
+use crate::{client, events, handshake, parse, send, session};
 use ei_types::Error;
 use std::alloc::Global;
 
@@ -27,6 +27,7 @@ pub(crate) fn run(alloc: Global, row: Row) -> Result<Outcome, Error>
         Row::Parse(piece, groups) => parse::row(alloc, piece as usize, groups),
         Row::Send(messages) => send::row(alloc, messages),
         Row::Client(messages) => client::row(alloc, messages),
+        Row::Events(groups) => events::row(alloc, groups),
         Row::Handshake(messages) => handshake::row(alloc, messages),
         Row::Session(doing) => session::row(alloc, doing),
     }

@@ -1,6 +1,6 @@
 //! The row `send`: a server sends motions of a pointer.
 
-use crate::announcing::announce;
+use crate::announcing::{Announced, announce};
 use crate::outside::Dropped;
 use crate::row::Outcome;
 use ei_backend::Sink;
@@ -25,11 +25,11 @@ pub(crate) fn row(alloc: Global, messages: u32) -> Result<Outcome, Error> {
 
 /// Announces a device, and sends so many motions of its pointer. The bytes that go out behind the announcing count.
 fn send_behind_announcing(context: &mut Context, count: u32) -> Result<Outcome, Error> {
-    let mut announced = Dropped { bytes: 0 };
+    let mut opening = Dropped { bytes: 0 };
     let mut sink = Dropped { bytes: 0 };
-    let pointer = announce(context)?;
-    context.flush(&mut announced)?;
-    send_motions(context, &pointer, count, &mut sink)?;
+    let announced = announce(context)?;
+    context.flush(&mut opening)?;
+    send_motions(context, &announced.pointer, count, &mut sink)?;
     Ok(Outcome::Sent(count, sink.bytes))
 }
 
@@ -53,6 +53,23 @@ pub(crate) fn push_motions<K: Sink>(
 ) -> Result<(), Error> {
     for place in 0..count {
         pointer.motion_relative(context, X, Y)?;
+        if place % FLUSHED == FLUSHED - 1 {
+            context.flush(sink)?;
+        }
+    }
+    Ok(context.flush(sink)?)
+}
+
+/// Sends so many groups, each of a motion and a frame, and flushes behind each hundred of them and behind the last.
+pub(crate) fn push_groups<K: Sink>(
+    context: &mut Context,
+    announced: &Announced,
+    count: u32,
+    sink: &mut K,
+) -> Result<(), Error> {
+    for place in 0..count {
+        announced.pointer.motion_relative(context, X, Y)?;
+        announced.device.frame(context, 1, u64::from(place))?;
         if place % FLUSHED == FLUSHED - 1 {
             context.flush(sink)?;
         }

@@ -4,7 +4,7 @@ ghost use Rattle.std.specs.Prelude.{◌≡◌, ◌≤◌, length, vec_len, IfOk}
 ghost use Rattle.ei_spec.specs.declared.limits.TheConstants.{MOST_PIECE_BYTES, MOST_PIECE_HANDLES};
 
 use crate::announcing::announce;
-use crate::send::push_motions;
+use crate::send::{push_groups, push_motions};
 use ei_backend::{Source, Tray};
 use ei_client as client;
 use ei_server::Context;
@@ -91,8 +91,27 @@ fn say_motions(alloc: Global, count: u32, said: &mut Tray) -> Result<(), Error> 
 
 /// Announces a device, and sends so many motions of its pointer.
 fn push_announced(context: &mut Context, count: u32, said: &mut Tray) -> Result<(), Error> {
-    let pointer = announce(context)?;
-    push_motions(context, &pointer, count, said)
+    let announced = announce(context)?;
+    push_motions(context, &announced.pointer, count, said)
+}
+
+/// What a server says that announces a device and sends so many groups, each of a motion and a frame.
+pub(crate) fn groups(alloc: Global, count: u32) -> Result<Tray, Error> {
+    let mut said = Tray::new(alloc);
+    say_groups(alloc, count, &mut said)?;
+    Ok(said)
+}
+
+/// Says what such a server says.
+fn say_groups(alloc: Global, count: u32, said: &mut Tray) -> Result<(), Error> {
+    let mut context = Context::new(alloc)?;
+    push_announced_groups(&mut context, count, said)
+}
+
+/// Announces a device, and sends so many groups.
+fn push_announced_groups(context: &mut Context, count: u32, said: &mut Tray) -> Result<(), Error> {
+    let announced = announce(context)?;
+    push_groups(context, &announced, count, said)
 }
 
 /// What a client says that tells so many versions of twelve interfaces, one after another, and ends the handshake.

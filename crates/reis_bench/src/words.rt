@@ -7,7 +7,7 @@ use crate::session::Doing;
 
 /// What is written where the words are refused.
 pub(crate) const USAGE: &str =
-    "usage: reis_bench parse <piece> <groups> | send <messages> | client <messages> | handshake <messages> | session <devices> <released> <descriptors> <groups>";
+    "usage: reis_bench parse <piece> <groups> | send <messages> | client <messages> | events <groups> | handshake <messages> | session <devices> <released> <descriptors> <groups>";
 
 /// The most bytes of a piece.
 const PIECE: u32 = 65536;
@@ -30,6 +30,8 @@ pub(crate) enum Row {
     Send(u32),
     /// A client reads so many motions.
     Client(u32),
+    /// A client converts so many groups of a motion and a frame.
+    Events(u32),
     /// A session over a handshake of so many versions of interfaces.
     Handshake(u32),
     /// A session over a client that asks for devices, releases the first of them, and sends input to the last.
@@ -85,6 +87,9 @@ impl Row {
             }
             [row, messages] if row.as_str() == "client" => {
                 Some(Row::Client(number(messages.as_str(), MESSAGES)?))
+            }
+            [row, groups] if row.as_str() == "events" => {
+                Some(Row::Events(number(groups.as_str(), MESSAGES)?))
             }
             [row, messages] if row.as_str() == "handshake" => {
                 Some(Row::Handshake(number(messages.as_str(), MESSAGES)?))

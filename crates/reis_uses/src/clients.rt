@@ -2,6 +2,7 @@
 
 use crate::outside::{Inbox, Outbox};
 use crate::record::show_record;
+use crate::sifted::show_sifted;
 use crate::stop::Stop;
 use ei_backend::Readings;
 use ei_hub::Hub;
@@ -37,7 +38,8 @@ fn join<'a, R: Print + AllocGlobal>(
     Ok(())
 }
 
-/// Shows how much each client asked for, what its source has left, and whether what it asked for can be played back.
+/// Shows how much each client asked for, what its source has left, whether what it asked for can be played back, and how much
+/// of it is no text.
 fn show_clients<R: Print + AllocGlobal>(
     rt: &R,
     hub: &Hub<Inbox<'_>, Outbox>,
@@ -50,6 +52,7 @@ fn show_clients<R: Print + AllocGlobal>(
             hub.source(client).left()
         )?;
         show_record(rt, setup, hub.requests(client))?;
+        show_sifted(rt, hub.requests(client))?;
     }
     Ok(())
 }

@@ -1,21 +1,25 @@
-//! Callers: a server's loop over `Session`, a client by its proxies, several clients in one loop, a record that is tested, and two
-//! endpoints over links.
+//! Callers: a server's loop over `Session`, a client by its proxies, one by its converter, several clients in one loop, a record
+//! that is tested and sifted, and two endpoints over links.
 //! Nothing stands on this program.
 //!
 //! The client shakes hands and leaves, the server serves it, and the client reads what the server replied. All of it
-//! stands in memory. Begin with `server`, `client`, `clients`, `record` and `world`; `outside` has a source and a sink.
+//! stands in memory. Begin with `server`, `client`, `converting`, `clients`, `record`, `sifted` and `world`; `outside` has
+//! a source and a sink.
 #![tactic(auto)]
 
 mod client;
 mod clients;
+mod converting;
 mod outside;
 mod record;
 mod server;
+mod sifted;
 mod stop;
 mod world;
 
 use crate::client::{shake_hands, show_events};
 use crate::clients::serve_clients;
+use crate::converting::show_told;
 use crate::outside::{Inbox, Outbox};
 use crate::server::serve_by_turns;
 use crate::stop::Stop;
@@ -46,6 +50,7 @@ fn talk<R: Print + AllocGlobal>(
     serve_by_turns(rt, &mut Inbox::new(&sent.bytes), replied)?;
     client.read(&mut Inbox::new(&replied.bytes))?;
     show_events(rt, client)?;
+    show_told(rt, &replied.bytes, &mut Outbox::new(rt.alloc()))?;
     serve_clients(rt, &sent.bytes)?;
     talk_over_links(rt)
 }

@@ -1,0 +1,6 @@
+mod Seen
+mod Reports
+mod Arms
+mod Events
+mod First
+mod Refused

@@ -1,0 +1,10 @@
+pub mod Places
+pub mod Asking
+pub mod Sizes
+pub mod ItemLaws
+pub mod Early
+pub mod Wants
+pub mod Keeping
+pub mod Groups
+pub mod Steps
+pub mod Law

@@ -1,0 +1,114 @@
+//! The row `events`: a client converts motions of a pointer, each with a frame.
+
+use crate::outside::Cut;
+use crate::row::Outcome;
+use crate::stream::groups;
+use crate::tally::Tally;
+use ei_backend::{PendingRequestResult, Readings};
+use ei_client::{Context, Event};
+use ei_event::{EiEvent, EiEventConverter};
+use ei_handshake::{EiHandshaker, HandshakeResp, request_result};
+use ei_types::{ContextType, Error, HandshakeError};
+use std::alloc::Global;
+
+/// The bytes of a piece.
+const PIECE: usize = 4096;
+
+/// Converts what a server says that announces a device and sends so many groups, each of a motion and a frame.
+pub(crate) fn row(alloc: Global, count: u32) -> Result<Outcome, Error> {
+    let said = groups(alloc, count)?;
+    convert_bytes(alloc, said.bytes())
+}
+
+/// Converts these bytes.
+fn convert_bytes(alloc: Global, bytes: &[u8]) -> Result<Outcome, Error> {
+    let mut source = Cut::new(bytes, PIECE);
+    let mut context = Context::new(alloc)?;
+    let _count = context.read(&mut source)?;
+    let resp = connected(alloc, &mut context)?;
+    let mut converter = EiEventConverter::new(alloc, resp);
+    let mut clock = Readings::new(alloc, &[])?;
+    let mut told = Vec::new(alloc);
+    let mut tally = Tally::new();
+    convert_events(
+        &mut converter,
+        &mut context,
+        &mut source,
+        &mut clock,
+        &mut told,
+        &mut tally,
+    )?;
+    Ok(Outcome::Read(tally))
+}
+
+/// What the handshake answers, which is at its end with the first message.
+fn connected(alloc: Global, context: &mut Context) -> Result<HandshakeResp, Error> {
+    let mut handshaker = EiHandshaker::new(alloc, "demo", ContextType::Receiver)?;
+    shaken(&mut handshaker, context)
+}
+
+/// What the first message ends the handshake with.
+fn shaken(handshaker: &mut EiHandshaker, context: &mut Context) -> Result<HandshakeResp, Error> {
+    let Some(pending) = context.pending_event()? else {
+        return Err(Error::UnexpectedEof);
+    };
+    let event = request_result(pending)?;
+    match handshaker.handle_event(context, event)? {
+        Some(resp) => Ok(resp),
+        None => Err(Error::Handshake(HandshakeError::MissingInterface)),
+    }
+}
+
+/// Converts all messages that are unread, and then those of each piece. This is what is counted.
+#[inline(never)]
+fn convert_events(
+    converter: &mut EiEventConverter,
+    context: &mut Context,
+    source: &mut Cut<'_>,
+    clock: &mut Readings,
+    told: &mut Vec<EiEvent>,
+    tally: &mut Tally,
+) -> Result<(), Error> {
+    convert_unread(converter, context, clock, told, tally)?;
+    for _piece in 0..source.left() {
+        if source.left() == 0 {
+            break;
+        }
+        let _count = context.read(source)?;
+        convert_unread(converter, context, clock, told, tally)?;
+    }
+    Ok(())
+}
+
+/// Converts all messages that are whole, and drops what the client is told.
+fn convert_unread(
+    converter: &mut EiEventConverter,
+    context: &mut Context,
+    clock: &mut Readings,
+    told: &mut Vec<EiEvent>,
+    tally: &mut Tally,
+) -> Result<(), Error> {
+    for _message in 0..context.unread_len() {
+        let Some(read) = context.pending_event()? else {
+            break;
+        };
+        tally.count(&read);
+        convert_one(converter, context, clock, read)?;
+    }
+    converter.drain_into(told)?;
+    told.clear();
+    Ok(())
+}
+
+/// Converts a message, if it was read.
+fn convert_one(
+    converter: &mut EiEventConverter,
+    context: &mut Context,
+    clock: &mut Readings,
+    read: PendingRequestResult<Event>,
+) -> Result<(), Error> {
+    let PendingRequestResult::Request(event) = read else {
+        return Ok(());
+    };
+    converter.handle_event(context, clock, event)
+}
