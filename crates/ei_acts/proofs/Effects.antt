@@ -17,8 +17,8 @@ use Rattle.ei_ends.specs.Steps.{called, after_call, after_calls, table_after, ta
 use Rattle.ei_request.specs.Connection.{ConnectionView, next_serial}
 use Rattle.ei_request.specs.Sending as sending
 use Rattle.ei_acts.specs.Events as event
-use Rattle.ei_acts.specs.Acts.{destroyed_all}
-use Rattle.ei_acts.specs.Holding.{Sends, is_destroyed, is_destroyed_as, may_go, AllMayGo}
+use Rattle.ei_acts.specs.Acts.{gone_as, destroyed_all}
+use Rattle.ei_acts.specs.Holding.{Sends, is_destroyed, is_destroyed_as, may_go, AllGoAs, AllMayGo}
 
 -- ---- an end's endpoint, by its backend alone
 
@@ -26,7 +26,7 @@ abbrev pub called_all : List Sent → BackendView → BackendView
 called_all [] b = b
 called_all (m ∷ ms) b = called_all ms (called true m b)
 
-after_backend : (ms : List Sent) (x : End) → (after_calls true ms x).backend ≡ called_all ms x.backend
+pub after_backend : (ms : List Sent) (x : End) → (after_calls true ms x).backend ≡ called_all ms x.backend
 after_backend [] x = refl
 after_backend (m ∷ ms) x = after_backend ms (after_call true m x)
 
@@ -39,7 +39,7 @@ sends_by ms old new h x e = h ∙ sym (ap endpoint_of (after_backend ms x ∙ ap
 abbrev pub Effect : List Sent → (Endpoint → Endpoint) → Type 0
 Effect ms f = (b : BackendView) → endpoint_of (called_all ms b) ≡ f (endpoint_of b)
 
-called_both : (ms more : List Sent) (b : BackendView) → called_all (ms ++ more) b ≡ called_all more (called_all ms b)
+pub called_both : (ms more : List Sent) (b : BackendView) → called_all (ms ++ more) b ≡ called_all more (called_all ms b)
 called_both [] more b = refl
 called_both (m ∷ ms) more b = called_both ms more (called true m b)
 
@@ -107,8 +107,11 @@ goes (Some o) id serial b g = by o.interface refl g
     by (Known k) e h = ap (λ (i : Interface). endpoint_of (called true (event.event_to (event.known_as i) o.version id (codes "destroyed") (Word serial ∷ [])) b)) e ∙ goes_as k o.version id serial b h
     by (Other name) e h = absurd cc
 
+pub all_go_as : (objects : ℕ → Option ObjectView) (serial : ℕ) (ids : List ℕ) → AllGoAs objects ids → Effect (gone_as objects serial ids) (λ e. sending.destroys_all e serial ids)
+all_go_as objects serial [] h b = refl
+all_go_as objects serial (id ∷ ids) h b =
+    all_go_as objects (next_serial serial) ids h.1 (called true (event.destroyed_as (objects id) id (next_serial serial)) b)
+    ∙ ap (λ (e : Endpoint). sending.destroys_all e (next_serial serial) ids) (goes (objects id) id (next_serial serial) b h.0)
+
 pub all_go : (t : TableView) (serial : ℕ) (ids : List ℕ) → AllMayGo t ids → Effect (destroyed_all t serial ids) (λ e. sending.destroys_all e serial ids)
-all_go t serial [] h b = refl
-all_go t serial (id ∷ ids) h b =
-    all_go t (next_serial serial) ids h.1 (called true (event.destroyed t id (next_serial serial)) b)
-    ∙ ap (λ (e : Endpoint). sending.destroys_all e (next_serial serial) ids) (goes (found t id) id (next_serial serial) b h.0)
+all_go t serial ids h = all_go_as (found t) serial ids h

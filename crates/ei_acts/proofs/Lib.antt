@@ -1,2 +1,25 @@
-mod Effects
-mod Sending
+pub mod Effects
+pub mod Sending
+pub mod Describing
+pub mod Parts
+pub mod Holds
+pub mod Staying
+pub mod Steadying
+pub mod Inputting
+pub mod DeviceSteady
+pub mod Splitting
+pub mod GoingSteady
+pub mod SeatSteady
+pub mod MaySend
+pub mod SeatMay
+pub mod DeviceMay
+pub mod EndMay
+pub mod AnnouncedThere
+pub mod Acting
+pub mod MayAct
+pub mod Joining
+pub mod Fresh
+pub mod AsAnnounced
+pub mod Quiet
+pub mod HeldAnnounced
+pub mod Serving

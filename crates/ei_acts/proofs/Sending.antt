@@ -34,10 +34,11 @@ pub resumed_sends : (old : ConnectionView) (device : ObjectView) → Sends (resu
 unfolding row_of
 resumed_sends old device = sends_by (resumed old device) old (sending.tells old (resumed_event device.id)) (one_plain (event.to_device device.version device.id (codes "resumed") (Word (next_serial old.last_serial) ∷ [])) old.ctx refl refl refl)
 
-pub paused_sends : (old : ConnectionView) (key : DeviceKey) → Sends (paused old key.proxy) old (record (sending.tells old (sending.paused_event key.proxy.id)) { devices = changed_first (is_of_key key) untouched old.devices })
+pub paused_sends : (old : ConnectionView) (key : DeviceKey) (device : ObjectView) → device.id ≡ key.proxy.id → Sends (paused old device) old (record (sending.tells old (sending.paused_event key.proxy.id)) { devices = changed_first (is_of_key key) untouched old.devices })
 unfolding row_of
-paused_sends old key = sends_by (paused old key.proxy) old (record (sending.tells old (sending.paused_event key.proxy.id)) { devices = changed_first (is_of_key key) untouched old.devices })
-    (one_plain (event.to_device key.proxy.version key.proxy.id (codes "paused") (Word (next_serial old.last_serial) ∷ [])) old.ctx refl refl refl)
+paused_sends old key device same = sends_by (paused old device) old (record (sending.tells old (sending.paused_event key.proxy.id)) { devices = changed_first (is_of_key key) untouched old.devices })
+    (ap (λ (id : ℕ). endpoint_of (sending.says old.ctx (sending.paused_event id (next_serial old.last_serial)))) (sym same)
+    ∙ one_plain (event.to_device device.version device.id (codes "paused") (Word (next_serial old.last_serial) ∷ [])) old.ctx refl refl refl)
 
 pub start_sends : (old : ConnectionView) (device : ObjectView) (sequence : ℕ) → Sends (start_emulating old device sequence) old (sending.tells old (λ serial. sending.start_emulating_event device.id serial sequence))
 unfolding row_of

@@ -11,7 +11,7 @@ use Rattle.ei_types.specs.Enums.{device_type_number, keymap_type_number}
 use Rattle.ei_types.specs.declared.capability.DeviceCapabilities.{DeviceCapabilities}
 use Rattle.ei_types.specs.declared.enums.DeviceType.{DeviceType}
 use Rattle.ei_session.specs.Meaning.{Meaning, Syncs, ReleasesSeat, Releases}
-use Rattle.ei_backend.specs.Table.{TableView}
+use Rattle.ei_backend.specs.Table.{TableView, found}
 use Rattle.ei_backend.specs.Endpoint.{endpoint_of}
 use Rattle.ei_ends.specs.Sent.{Sent}
 use Rattle.ei_request.specs.declared.making.DeviceSetup.{DeviceSetup}
@@ -50,10 +50,14 @@ invalid_object c id = event.no_object c.proxy c.last_serial id ∷ []
 
 -- ---- objects go
 
--- one after another, with the serials that follow
+-- one after another, each as the object that it is looked up as, with the serials that follow
+abbrev pub gone_as : (ℕ → Option ObjectView) → ℕ → List ℕ → List Sent
+gone_as objects serial [] = []
+gone_as objects serial (id ∷ ids) = event.destroyed_as (objects id) id (next_serial serial) ∷ gone_as objects (next_serial serial) ids
+
+-- as what is in a table
 abbrev pub destroyed_all : TableView → ℕ → List ℕ → List Sent
-destroyed_all t serial [] = []
-destroyed_all t serial (id ∷ ids) = event.destroyed t id (next_serial serial) ∷ destroyed_all t (next_serial serial) ids
+destroyed_all t serial ids = gone_as (found t) serial ids
 
 -- the same of a connection's objects
 abbrev pub gone : ConnectionView → List ℕ → List Sent
@@ -71,6 +75,12 @@ remove_seat c id = gone c (gone_with_seat c.devices (find (is_seat id) c.seats))
 abbrev pub disconnected : ConnectionView → ℕ → Option (List ℕ) → List Sent
 disconnected c reason text =
     gone c (all_seat_ids c.devices c.seats)
+    ++ (event.disconnected c.proxy (serial_after c.last_serial (all_seat_ids c.devices c.seats)) reason text ∷ [])
+
+-- the same, where what goes is looked up otherwise
+abbrev pub disconnected_as : (ℕ → Option ObjectView) → ConnectionView → ℕ → Option (List ℕ) → List Sent
+disconnected_as objects c reason text =
+    gone_as objects c.last_serial (all_seat_ids c.devices c.seats)
     ++ (event.disconnected c.proxy (serial_after c.last_serial (all_seat_ids c.devices c.seats)) reason text ∷ [])
 
 -- ---- a request is answered

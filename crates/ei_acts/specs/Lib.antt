@@ -1,3 +1,9 @@
 pub mod Events
 pub mod Acts
+pub mod There
 pub mod Holding
+pub mod Input
+pub mod Sendable
+pub mod Acting
+pub mod Allowed
+pub mod Serving

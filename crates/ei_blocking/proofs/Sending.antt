@@ -69,6 +69,12 @@ same_count a i j hi hj e =
 joined_bytes : (a b : List Raw) → all_bytes (a ++ b) ≡ all_bytes a ++ all_bytes b
 joined_bytes a b = flat_map-append bytes_of a b
 
+-- a front of it went out without the last byte: some is left
+pub some_left : (n : ℕ) (waiting left : Piece) → n < length waiting.bytes → left ≡ unsent_after n waiting → 0 < length left.bytes
+some_left n waiting left less is =
+    let same : length left.bytes ≡ length (drop n waiting.bytes) = ap (λ (p : Piece). length p.bytes) is in
+    omega (arith, same, less, length-drop n waiting.bytes)
+
 module _ (g : Greeter) (b : BackendView) where
   -- ---- what is to be sent
 

@@ -37,11 +37,11 @@ use Rattle.ei_blocking.specs.declared.messages.Shaken.TheVariants as shaken
 use Rattle.ei_blocking.specs.Still.{still}
 use Rattle.ei_blocking.specs.Sending.{sent_at, SentAll, sent_bytes}
 use Rattle.ei_blocking.specs.Blocking.{HandsOver, StandsAfter, parse_trouble, trouble_of}
-use Rattle.ei_blocking.specs.Steps.{Shakes, Waits, Connects, Refuses, Breaks, Steps}
+use Rattle.ei_blocking.specs.Steps.{Shakes, Waits, Connects, Refuses, Breaks, Fails, Steps}
 use Rattle.ei_blocking.proofs.Accepting.{GoesOn, goes_behind, stays_behind}
 use Rattle.ei_blocking.proofs.Connecting.{Finishes, finishes}
 use Rattle.ei_blocking.proofs.Refusing.{StopsRefused, waits_at, unread_at, gone_at, said_at}
-use Rattle.ei_blocking.proofs.Sending.{all_front, sent_then, sent_in_part}
+use Rattle.ei_blocking.proofs.Sending.{some_left, all_front, sent_then, sent_in_part}
 use Rattle.ei_blocking.proofs.Opens.{read_grows}
 use Rattle.ei_blocking.proofs.Typed.{shake_in, says}
 
@@ -303,21 +303,27 @@ module _ (g : Greeter) (b : BackendView) (past : List Raw) (h : ClientView) (x :
         Steps g b past (Ok (shaken.Connected resp)) h' x (view z) new
     handled_last resp q f kept = (q.message, flushed_connects (q.message ∷ past) resp sent new kept q.goes_so, sent_then g b {later = later} past q.message x y z (unsent_of sent) (unsent_of new) q.unsent now new sends_so f refl)
 
-    cut_off : (answer : Option HandshakeResp) (fault : FlushError) → HandledOne g b past h x (view y) now mid s sends_so answer h' sent → Flushes view later (Err fault) (unsent_of sent) (unsent_of new) y z → new ≡ with_unsent (unsent_of new) sent → Breaks g b past x (view z) new
-    cut_off answer fault q f kept =
+    fails_here : (answer : Option HandshakeResp) (fault : FlushError) → HandledOne g b past h x (view y) now mid s sends_so answer h' sent → Flushes view later (Err fault) (unsent_of sent) (unsent_of new) y z → new ≡ with_unsent (unsent_of new) sent → Fails g b past x (view z) new
+    fails_here answer fault q f kept =
         let part = sent_in_part g b {later = later} past q.message x y z (unsent_of sent) (unsent_of new) q.unsent fault now new sends_so f refl in
         record {
-          behind = q.message ∷ [];
+          newest = q.message;
           reaches = record { more = q.reaches.0; handled = q.reaches.1 };
           n = sent_bytes g b past + part.0;
           sends = part.1;
           least = omega arith;
+          unsent = some_left f.stops.0 (unsent_of sent) (unsent_of new) f.stops.1 f.stops.2;
           stands = flushed_stands (q.message ∷ past) sent new kept q.stands;
         }
 
+    cut_off : (answer : Option HandshakeResp) (fault : FlushError) → HandledOne g b past h x (view y) now mid s sends_so answer h' sent → Flushes view later (Err fault) (unsent_of sent) (unsent_of new) y z → new ≡ with_unsent (unsent_of new) sent → Breaks g b past x (view z) new
+    cut_off answer fault q f kept =
+        let c = fails_here answer fault q f kept in
+        record { behind = c.newest ∷ []; reaches = c.reaches; n = c.n; sends = c.sends; least = c.least; stands = c.stands }
+
     pub cuts : (answer : Option HandshakeResp) (fault : FlushError) (e : Error) → HandledOne g b past h x (view y) now mid s sends_so answer h' sent → Flushes view later (Err fault) (unsent_of sent) (unsent_of new) y z → new ≡ with_unsent (unsent_of new) sent →
         error_of_flush fault ≡ e → Steps g b past (Err e) h' x (view z) new
-    cuts answer flush_error.WriteFault e q f kept same = subst (λ (w : Error). Steps g b past (Err w) h' x (view z) new) same (cut_off answer flush_error.WriteFault q f kept)
+    cuts answer flush_error.WriteFault e q f kept same = subst (λ (w : Error). Steps g b past (Err w) h' x (view z) new) same (fails_here answer flush_error.WriteFault q f kept)
     cuts answer flush_error.NoMemory e q f kept same = subst (λ (w : Error). Steps g b past (Err w) h' x (view z) new) same (cut_off answer flush_error.NoMemory q f kept)
 
 -- ---- what the function saw

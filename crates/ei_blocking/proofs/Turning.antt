@@ -25,8 +25,8 @@ use Rattle.ei_handshake.specs.Client.{ClientView}
 use Rattle.ei_handshake.specs.declared.client.HandshakeResp.{HandshakeResp}
 use Rattle.ei_blocking.specs.Still.{still}
 use Rattle.ei_blocking.specs.Sending.{SentAll, SentFront, sent_bytes}
-use Rattle.ei_blocking.specs.Blocking.{EndsAs, IsTrouble, StandsAfter, trouble_of, with_pieces, handled_of, around, CutShort, Opens}
-use Rattle.ei_blocking.specs.Steps.{Shakes, Waits, Connects, Refuses, Breaks}
+use Rattle.ei_blocking.specs.Blocking.{EndsAs, IsTrouble, StandsAfter, trouble_of, with_pieces, handled_of, around, CutShort, FailsToSend, Opens}
+use Rattle.ei_blocking.specs.Steps.{Shakes, Waits, Connects, Refuses, Breaks, Fails}
 use Rattle.ei_blocking.proofs.MoreHandles.{versions_more, sends_more, front_more, bytes_more}
 use Rattle.ei_blocking.proofs.Sending.{all_front}
 use Rattle.ei_blocking.proofs.GivenPieces.{Parts, took, firsts, firsts_before}
@@ -187,6 +187,7 @@ module _ (g : Greeter) (b : BackendView) (most : ℕ) (pieces : List Piece) (h :
       pieces = (length pieces, few, took_so);
       read_fault = λ f. absurd (not_read f);
       cut_short = λ s. absurd (not_short s);
+      write_fault = λ w. absurd (not_short (subst (λ (q : Result HandshakeResp Error). IsCutShort q) (sym w) tt));
     }
 
     -- a message is refused
@@ -251,11 +252,15 @@ module _ (g : Greeter) (b : BackendView) (most : ℕ) (pieces : List Piece) (h :
             sends = subst (λ (l : List Raw). SentAll g b l old new last) (sym (ap (λ (r : Reading Trouble). r.past) read_is)) (at_entry past new last sends);
           };
           cut_short = λ s. absurd s;
+          write_fault = λ w. absurd cc;
         }
 
     -- ---- cut short
 
-    cut : (reached : List Raw) (n : ℕ) (new : SinkView) (last : BackendView) → ((more : List Raw) × ((reading_of g (found t.c.table) t.c).past ≡ more ++ reached)) → (0 < length pieces → (done : List Raw) × (reached ≡ done ++ t.past)) →
+    last_handled : 0 < length pieces → t.past ≡ handled_of g (with_pieces b (take (length pieces - 1) told))
+    last_handled some = t.before some ∙ ap (λ (l : List Piece). handled_of g (with_pieces b l)) (sym (firsts_before told left pieces p (length pieces - 1) (omega arith)))
+
+    abbrev cut : (reached : List Raw) (n : ℕ) (new : SinkView) (last : BackendView) → ((more : List Raw) × ((reading_of g (found t.c.table) t.c).past ≡ more ++ reached)) → (0 < length pieces → (done : List Raw) × (reached ≡ done ++ t.past)) →
         SentFront g t.c reached n old new last → sent_bytes g t.c t.past ≤ n → StandsAfter t.c reached last → CutShort g most told left (around b old) (around last new)
     cut reached n new last ahead behind front least stands = record {
       k = length pieces;
@@ -270,13 +275,10 @@ module _ (g : Greeter) (b : BackendView) (most : ℕ) (pieces : List Piece) (h :
       least = λ some. subst (λ (l : List Raw). sent_bytes g b l ≤ n) (last_handled some) (omega (arith, least, bytes_at_entry t.past));
       stands = subst (λ (x : BackendView). StandsAfter x reached last) c_is stands;
     }
-      where
-        last_handled : 0 < length pieces → t.past ≡ handled_of g (with_pieces b (take (length pieces - 1) told))
-        last_handled some = t.before some ∙ ap (λ (l : List Piece). handled_of g (with_pieces b l)) (sym (firsts_before told left pieces p (length pieces - 1) (omega arith)))
 
     cuts_off : (r : Result HandshakeResp Error) (new : SinkView) (last : BackendView) → EndsAs (opening g most b told).ending r → (IsDecided r → ⊥) → (r ≡ Err error.ReadFault → ⊥) → CutShort g most told left (around b old) (around last new) →
-        Opens g most told left r (around b old) (around last new)
-    cuts_off r new last answer undecided not_read c = record {
+        (r ≡ Err error.WriteFault → FailsToSend g most told left (around b old) (around last new)) → Opens g most told left r (around b old) (around last new)
+    cuts_off r new last answer undecided not_read c fails = record {
       answer = answer;
       stands = λ d. absurd (undecided d);
       sends = λ d. absurd (undecided d);
@@ -284,6 +286,7 @@ module _ (g : Greeter) (b : BackendView) (most : ℕ) (pieces : List Piece) (h :
       pieces = (length pieces, few, took_so);
       read_fault = λ f. absurd (not_read f);
       cut_short = λ s. c;
+      write_fault = fails;
     }
 
     -- in the middle of the messages
@@ -291,17 +294,28 @@ module _ (g : Greeter) (b : BackendView) (most : ℕ) (pieces : List Piece) (h :
     broken behind past new last is x grown = cut (x.behind ++ past) x.n new last (x.reaches.more, x.reaches.handled)
         (λ some. (x.behind ++ behind, ap (λ (l : List Raw). x.behind ++ l) is ∙ sym (append_assoc x.behind behind t.past))) x.sends (omega (arith, x.least, grown)) x.stands
 
-    pub breaks_write : (behind : List Raw) (past : List Raw) (new : SinkView) (last : BackendView) → past ≡ behind ++ t.past → sent_bytes g t.c t.past ≤ sent_bytes g t.c past → Breaks g t.c past old new last → Opens g most told left (Err error.WriteFault) (around b old) (around last new)
-    breaks_write behind past new last is grown x = cuts_off (Err error.WriteFault) new last tt (λ d. d) (λ f. absurd cc) (broken behind past new last is x grown)
+    pub breaks_write : (behind : List Raw) (past : List Raw) (new : SinkView) (last : BackendView) → past ≡ behind ++ t.past → sent_bytes g t.c t.past ≤ sent_bytes g t.c past → Fails g t.c past old new last → Opens g most told left (Err error.WriteFault) (around b old) (around last new)
+    breaks_write behind past new last is grown f =
+        let less : sent_bytes g t.c t.past ≤ f.n = omega (arith, f.least, grown) in
+        let owes : 0 < length pieces → (done : List Raw) × (f.newest ∷ past ≡ done ++ t.past) = λ some. (f.newest ∷ behind, ap (λ (l : List Raw). f.newest ∷ l) is) in
+        cuts_off (Err error.WriteFault) new last tt (λ d. d) (λ q. absurd cc) (cut (f.newest ∷ past) f.n new last (f.reaches.more, f.reaches.handled) owes f.sends less f.stands) (λ w. record {
+          short = cut (f.newest ∷ past) f.n new last (f.reaches.more, f.reaches.handled) owes f.sends less f.stands;
+          newest = f.newest;
+          before = past;
+          reached = refl;
+          owed = λ some. (behind, is ∙ ap (λ (l : List Raw). behind ++ l) (last_handled some));
+          least = omega (arith, f.least, bytes_at_entry past);
+          unsent = f.unsent;
+        })
 
     pub breaks_memory : (behind : List Raw) (past : List Raw) (new : SinkView) (last : BackendView) → past ≡ behind ++ t.past → sent_bytes g t.c t.past ≤ sent_bytes g t.c past → Breaks g t.c past old new last → Opens g most told left (Err error.NoMemory) (around b old) (around last new)
-    breaks_memory behind past new last is grown x = cuts_off (Err error.NoMemory) new last tt (λ d. d) (λ f. absurd cc) (broken behind past new last is x grown)
+    breaks_memory behind past new last is grown x = cuts_off (Err error.NoMemory) new last tt (λ d. d) (λ f. absurd cc) (broken behind past new last is x grown) (λ w. absurd cc)
 
     -- where memory for the ring runs out
     pub wants_ring : (behind : List Raw) (past : List Raw) (h' : ClientView) (new : SinkView) (last : BackendView) → past ≡ behind ++ t.past → sent_bytes g t.c t.past ≤ sent_bytes g t.c past → Waits g t.c past h' last → SentAll g t.c past old new last →
         Opens g most told left (Err error.NoMemory) (around b old) (around last new)
     wants_ring behind past h' new last is grown w sends = cuts_off (Err error.NoMemory) new last tt (λ d. d) (λ f. absurd cc)
-        (cut past (sent_bytes g t.c past) new last ([], ap (λ (r : Reading Trouble). r.past) w.stops) (λ some. (behind, is)) (all_front g t.c past old new last sends) grown (inl w.shakes.stands))
+        (cut past (sent_bytes g t.c past) new last ([], ap (λ (r : Reading Trouble). r.past) w.stops) (λ some. (behind, is)) (all_front g t.c past old new last sends) grown (inl w.shakes.stands)) (λ f. absurd cc)
 
   -- a piece with too many handles came
   pub overflows_at : (piece : Piece) (past : List Raw) (h' : ClientView) (new : SinkView) (mid_read last : BackendView) → length pieces < most → b.closed ≡ false → Parts told left (pieces ++ piece ∷ []) → Overflows mid_read.handles piece →
@@ -322,4 +336,5 @@ module _ (g : Greeter) (b : BackendView) (most : ℕ) (pieces : List Piece) (h :
         pieces = (length pieces + 1, omega (arith, more), taken);
         read_fault = λ f. absurd cc;
         cut_short = λ s. absurd s;
+        write_fault = λ w. absurd cc;
       }

@@ -1,5 +1,5 @@
 -- What a client's handshake that blocks answers, sends and leaves.
-use Rattle.std.specs.Prelude.{◌≡◌, ◌≤◌, ◌<◌, ◌⊎◌, ℕ, ◌-◌, List, [], ◌∷◌, ◌++◌, take, Option, Some, None, IsSome, Result, Ok, Err, IsErrOf}
+use Rattle.std.specs.Prelude.{◌≡◌, ◌≤◌, ◌<◌, ◌⊎◌, ℕ, ◌-◌, List, [], ◌∷◌, ◌++◌, take, length, Option, Some, None, IsSome, Result, Ok, Err, IsErrOf}
 use Rattle.ei_spec.specs.Message.{Raw}
 use Rattle.ei_spec.specs.Piece.{Piece}
 use Rattle.ei_spec.specs.Reading.{Fault}
@@ -106,6 +106,17 @@ pub record CutShort (g : Greeter) (most : ℕ) (told : List Piece) (left : Optio
   pub least : 0 < k → sent_bytes g old.endpoint (handled_of g (with_pieces old.endpoint (take (k - 1) told))) ≤ n
   pub stands : StandsAfter (with_pieces old.endpoint (take k told)) reached new.endpoint
 
+-- Where the sink failed it was asked behind a message that was handled just before: one of the last piece, or where none came one that
+-- was unread. All that answers the messages before it went out, and of what is to be sent some is unsent.
+pub record FailsToSend (g : Greeter) (most : ℕ) (told : List Piece) (left : Option (List Piece)) (old new : Around) : Type 0 where
+  pub short : CutShort g most told left old new
+  pub newest : Raw
+  pub before : List Raw
+  pub reached : short.reached ≡ newest ∷ before
+  pub owed : 0 < short.k → (done : List Raw) × (before ≡ done ++ handled_of g (with_pieces old.endpoint (take (short.k - 1) told)))
+  pub least : sent_bytes g old.endpoint before ≤ short.n
+  pub unsent : 0 < length new.endpoint.unsent
+
 -- Over these pieces, of which those are left, the handshake did what the definitions say.
 pub record Opens (g : Greeter) (most : ℕ) (told : List Piece) (left : Option (List Piece)) (result : Result HandshakeResp Error) (old new : Around) : Type 0 where
   pub answer : EndsAs (opening g most old.endpoint told).ending result
@@ -115,3 +126,4 @@ pub record Opens (g : Greeter) (most : ℕ) (told : List Piece) (left : Option (
   pub pieces : (k : ℕ) × (k ≤ most) × TookPieces told left k
   pub read_fault : IsErrOf result error.ReadFault → HandledAll g told left old new
   pub cut_short : IsCutShort result → CutShort g most told left old new
+  pub write_fault : IsErrOf result error.WriteFault → FailsToSend g most told left old new

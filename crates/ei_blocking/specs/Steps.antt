@@ -1,5 +1,5 @@
 -- What becomes of one message more of a handshake, and of all that are whole.
-use Rattle.std.specs.Prelude.{◌≡◌, ◌≤◌, ℕ, List, ◌∷◌, ◌++◌, Option, Some, None, IsSome, Result, Ok, Err}
+use Rattle.std.specs.Prelude.{◌≡◌, ◌≤◌, ◌<◌, ℕ, List, ◌∷◌, ◌++◌, length, Option, Some, None, IsSome, Result, Ok, Err}
 use Rattle.ei_spec.specs.Message.{Raw}
 use Rattle.ei_spec.specs.Reading.{HeaderLength as LengthFault}
 use Rattle.ei_spec.specs.Stream.{Stop, Waiting, Ended, HeaderLength, Refusal, reading, read}
@@ -66,12 +66,22 @@ pub record Breaks (g : Greeter) (b : BackendView) (past : List Raw) (old new : S
   pub least : sent_bytes g b past ≤ n
   pub stands : StandsAfter b (behind ++ past) now
 
+-- the sink failed: the message that follows these was handled, a front of what is to be sent was sent, with all before it, and some is unsent
+pub record Fails (g : Greeter) (b : BackendView) (past : List Raw) (old new : SinkView) (now : BackendView) : Type 0 where
+  pub newest : Raw
+  pub reaches : Reaches g b (newest ∷ past)
+  pub n : ℕ
+  pub sends : SentFront g b (newest ∷ past) n old new now
+  pub least : sent_bytes g b past ≤ n
+  pub unsent : 0 < length now.unsent
+  pub stands : StandsAfter b (newest ∷ past) now
+
 -- what became of the message at the front, where the sink said this when the handshake began
 abbrev pub Steps : Greeter → BackendView → List Raw → Result Shaken Error → ClientView → SinkView → SinkView → BackendView → Type 0
 Steps g b past (Ok shaken.Waiting) h old new now = Waits g b past h now × SentAll g b past old new now
 Steps g b past (Ok shaken.Handled) h old new now = (m : Raw) × Shakes g b (m ∷ past) h now × SentAll g b (m ∷ past) old new now
 Steps g b past (Ok (shaken.Connected resp)) h old new now = (m : Raw) × Connects g b (m ∷ past) resp now × SentAll g b (m ∷ past) old new now
-Steps g b past (Err error.WriteFault) h old new now = Breaks g b past old new now
+Steps g b past (Err error.WriteFault) h old new now = Fails g b past old new now
 Steps g b past (Err error.NoMemory) h old new now = Breaks g b past old new now
 Steps g b past (Err e) h old new now = Refuses g b past e now × SentAll g b past old new now
 
@@ -79,7 +89,7 @@ Steps g b past (Err e) h old new now = Refuses g b past e now × SentAll g b pas
 abbrev pub StepsOn : Greeter → BackendView → List Raw → Result (Option HandshakeResp) Error → ClientView → SinkView → SinkView → BackendView → Type 0
 StepsOn g b past (Ok None) h old new now = Waits g b past h now × SentAll g b past old new now
 StepsOn g b past (Ok (Some resp)) h old new now = Connects g b past resp now × SentAll g b past old new now
-StepsOn g b past (Err error.WriteFault) h old new now = Breaks g b past old new now
+StepsOn g b past (Err error.WriteFault) h old new now = Fails g b past old new now
 StepsOn g b past (Err error.NoMemory) h old new now = Breaks g b past old new now
 StepsOn g b past (Err e) h old new now = Refuses g b past e now × SentAll g b past old new now
 

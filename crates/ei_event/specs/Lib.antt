@@ -8,6 +8,7 @@ pub mod Core
 pub mod Handling
 pub mod Handles
 pub mod Converter
+pub mod Likely
 pub mod Items
 -- what the clauses cite of the crates below
 pub use Rattle.ei_spec.specs.Interface

@@ -10,6 +10,7 @@ ghost use Rattle.ei_event.specs.Keys.{same_device, same_device_equiv, device_tex
 use crate::seat::Seat;
 use ei_backend::Interface;
 use ei_client::Device as Proxy;
+use ei_spec::KnownInterface;
 use std::alloc::AllocError;
 use std::fmt;
 use std::hash::{Hash, Hasher};
@@ -41,12 +42,14 @@ impl Device {
     }
 
     /// The same key again.
+    #[inline(always)]
     pub(crate) fn copy(&self) -> Device
         ensures { result ≡ self.now }
     {
+        let proxy = self.proxy.as_object().copy_of(KnownInterface::Device);
         Device {
             seat: self.seat.copy(),
-            proxy: self.proxy.copy(),
+            proxy: Proxy::new_unchecked(proxy),
         }
     }
 

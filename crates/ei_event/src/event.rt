@@ -7,6 +7,7 @@ ghost use Rattle.std.specs.Option.{option_copied};
 ghost use Rattle.ei_event.specs.Event.{device_in, timed};
 
 use crate::device::Device;
+use crate::queue::Queue;
 use crate::seat::Seat;
 use ei_input::input_event::{self, InputEvent};
 use ei_input::push_timed;
@@ -201,9 +202,6 @@ pub enum EiEvent {
     GesturePinch(GesturePinch),
 }
 
-/// The events that wait to be handed out.
-pub(crate) type Queue = ei_input::Queue<EiEvent>;
-
 impl EiEvent {
     /// The device that the event is of; `None` where it is of a seat or the connection.
     pub fn device(&self) -> Option<&Device>
@@ -333,6 +331,7 @@ fn copy_text(text: &Option<EiText>, alloc: Global) -> Result<Option<EiText>, NoM
 }
 
 /// Queues the event that an input of the device becomes. There is room for it.
+#[inline(always)]
 pub(crate) fn queue_timed(input: InputEvent, queue: &mut Queue, device: &Device, time: u64)
     requires { 0 < queue.old.room }
     ensures items { queue.new.items ≡ queue.old.items ++ timed device.now time input ∷ [] }

@@ -26,15 +26,17 @@ ghost use Rattle.ei_event.specs.Items.{connection_of, seat_in, device_in, IsInte
 ghost use Rattle.ei_event.specs.Handling.{completes, frames, ends, ends_at, loses_device, hears_at};
 ghost use Rattle.ei_event.specs.Handles.{Ends, Times, Does, tells, waiting_on, loses_interface, holder_at};
 ghost use Rattle.ei_event.specs.Handles.{disconnected};
+ghost use Rattle.ei_event.specs.Likely.{Likely};
 
 use crate::connection::Connection;
 use crate::device::Device;
 use crate::ending::Ending;
-use crate::event::{DeviceAdded, Disconnected, EiEvent, Queue, SeatAdded};
+use crate::event::{DeviceAdded, Disconnected, EiEvent, SeatAdded};
 use crate::kept_device::{self, KeptDevice};
 use crate::kept_interface::{self, KeptInterface};
 use crate::kept_seat::{self, KeptSeat};
 use crate::keymap::Keymap;
+use crate::queue::Queue;
 use crate::region::Region;
 use crate::seat::Seat;
 use ei_backend::{Clock, Interface, Object};
@@ -346,8 +348,39 @@ impl Kept {
 
 // Groups of inputs.
 impl Kept {
-    /// An input of the added device that has the interface of that id waits.
+    /// An input of the added device that has the interface of that id waits, if there is room for it.
     #[inline(always)]
+    pub(crate) fn hear_likely(&mut self, id: u64, input: InputEvent) -> bool
+        ensures { Likely (refused (core_of self.old) (Inputs id input)) self.old
+            (hears_at self.old input (owner self.old id)) result self.new }
+    {
+        let Some(device) = kept_interface::owner(&self.interfaces, id) else {
+            return false;
+        };
+        let Some(device) = kept_device::added_mut(&mut self.devices, device) else {
+            return false;
+        };
+        device.hear_within(input)
+    }
+
+    /// The inputs that wait on the added device of that id belong together, if there is room for what they become.
+    #[inline(always)]
+    pub(crate) fn frame_likely(&mut self, id: u64, serial: u32, time: u64) -> bool
+        ensures { Likely (refused (core_of self.old) (DeviceTells id serial (Frame time))) self.old
+            (frames self.old id serial time (added_device (finite.get self.old.devices id))) result self.new }
+    {
+        let Some(device) = kept_device::added_mut(&mut self.devices, id) else {
+            return false;
+        };
+        if self.queue.reserve_group(device.waiting()).is_err() {
+            return false;
+        }
+        self.connection.keep(serial);
+        device.hand_out(&mut self.queue, serial, time);
+        true
+    }
+
+    /// An input of the added device that has the interface of that id waits.
     pub(crate) fn hear(&mut self, id: u64, input: InputEvent) -> Result<(), Error>
         ensures { Ends (refused (core_of self.old) (Inputs id input)) self.old
             (hears_at self.old input (owner self.old id)) result self.new }
@@ -365,7 +398,6 @@ impl Kept {
     }
 
     /// The inputs that wait on the added device of that id belong together.
-    #[inline(always)]
     pub(crate) fn frame(&mut self, id: u64, serial: u32, time: u64) -> Result<(), Error>
         ensures { Ends (refused (core_of self.old) (DeviceTells id serial (Frame time))) self.old
             (frames self.old id serial time (added_device (finite.get self.old.devices id))) result self.new }
@@ -374,7 +406,7 @@ impl Kept {
             Some(device) => {
                 self.queue.reserve_group(device.waiting())?;
                 self.connection.keep(serial);
-                device.hand_out(&mut self.queue, serial, time);
+                device.hand_out_apart(&mut self.queue, serial, time);
                 Ok(())
             }
             None => {
@@ -410,7 +442,7 @@ impl Kept {
                 self.queue.reserve_group(waiting)?;
                 let made = made_time(clock, waiting);
                 self.connection.keep(serial);
-                device.hand_out(&mut self.queue, serial, made);
+                device.hand_out_apart(&mut self.queue, serial, made);
                 let event = ending.of(serial, device.device().copy());
                 self.queue.push_reserved(event);
                 Ok(true)

@@ -1,18 +1,20 @@
 //! What the converter keeps of a device.
 
-ghost use Rattle.std.specs.Prelude.{◌≡◌, ◌≤◌, ◌<◌, ◌+◌, ◌++◌, ◌∷◌, [], OnOk, OnErr, is_some, length, vec_len};
+ghost use Rattle.std.specs.Prelude.{◌≡◌, ◌≤◌, ◌<◌, ◌+◌, ◌++◌, ◌∷◌, [], true, false, map, OnOk, OnErr, is_some, length, vec_len};
 ghost use Rattle.std.specs.Option.{option_copied, option_copied_mut, option_map};
 ghost use Rattle.std.specs.FinMap as finite;
 ghost use Rattle.std.specs.Borrow.{sem};
 ghost use Rattle.ei_event.specs.Kept.{new_device, named, typed, sized, mapped, with_region, keyed_by, whole};
 ghost use Rattle.ei_event.specs.Kept.{with_input, emptied};
 ghost use Rattle.ei_event.specs.Kept.{pending_device, added_device};
+ghost use Rattle.ei_event.specs.Event.{timed};
 ghost use Rattle.ei_event.specs.Handling.{group_events};
 ghost use Rattle.ei_event.specs.KeptLends.{lends_device};
 
 use crate::device::Device;
-use crate::event::{EiEvent, Frame, Queue, queue_timed};
+use crate::event::{EiEvent, Frame, queue_timed};
 use crate::keymap::Keymap;
+use crate::queue::Queue;
 use crate::region::Region;
 use ei_by_id::ById;
 use ei_input::input_event::InputEvent;
@@ -203,6 +205,30 @@ impl KeptDevice {
         Ok(())
     }
 
+    /// An input waits, if there is room for it.
+    #[inline(always)]
+    pub(crate) fn hear_within(&mut self, input: InputEvent) -> bool
+        ensures ok { result ≡ true → self.new ≡ with_input input self.old }
+        ensures not { result ≡ false → self.new ≡ self.old }
+    {
+        if self.waiting.len() == self.waiting.capacity() {
+            return false;
+        }
+        self.waiting.push_reserved(input);
+        true
+    }
+
+    /// The same, by a call of its own.
+    #[inline(never)]
+    pub(crate) fn hand_out_apart(&mut self, queue: &mut Queue, serial: u32, time: u64)
+        requires room { length self.old.waiting + 2 ≤ queue.old.room }
+        ensures queue { queue.new.items ≡ queue.old.items ++ group_events self.old.device self.old.waiting serial time }
+        ensures emptied { self.new ≡ emptied self.old }
+        ensures left { 0 < queue.new.room }
+    {
+        self.hand_out(queue, serial, time);
+    }
+
     /// Hands out what waits, each input with this time, and a frame of this serial behind them; nothing
     /// where nothing waits. There is room for it.
     #[inline(always)]
@@ -217,6 +243,8 @@ impl KeptDevice {
 }
 
 /// Hands out a group. There is room for it, and for one more event behind it.
+#[inline(never)]
+#[tactic(auto, using(crate::proofs::Groups::group_ends))]
 fn push_group(
     queue: &mut Queue,
     device: &Device,
@@ -229,9 +257,29 @@ fn push_group(
     ensures emptied { waiting.new.items ≡ [] }
     ensures left { 0 < queue.new.room }
 {
-    if waiting.is_empty() {
+    let Some(input) = waiting.pop() else {
         return;
+    };
+    if !waiting.is_empty() {
+        push_first(queue, device, waiting, time);
     }
+    let device = device.copy();
+    queue_timed(input, queue, &device, time);
+    queue.push_reserved(EiEvent::Frame(Frame {
+        device,
+        serial,
+        time,
+    }));
+}
+
+/// Hands out the inputs of a group before its last.
+#[inline(never)]
+fn push_first(queue: &mut Queue, device: &Device, waiting: &mut Vec<InputEvent>, time: u64)
+    requires room { vec_len waiting.old ≤ queue.old.room }
+    ensures queue { queue.new.items ≡ queue.old.items ++ map (timed device.now time) waiting.old.items }
+    ensures emptied { waiting.new.items ≡ [] }
+    ensures left { queue.new.room + vec_len waiting.old ≡ queue.old.room }
+{
     // The memory of what waited is kept.
     let alloc = *waiting.allocator();
     let mut inputs = VecDeque::from_vec(mem::replace(waiting, Vec::new(alloc)));
@@ -239,11 +287,6 @@ fn push_group(
         queue_timed(input, queue, device, time);
     }
     *waiting = inputs.into_vec();
-    queue.push_reserved(EiEvent::Frame(Frame {
-        device: device.copy(),
-        serial,
-        time,
-    }));
 }
 
 /// Whether the device of that id is pending.

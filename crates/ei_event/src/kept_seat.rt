@@ -9,7 +9,8 @@ ghost use Rattle.ei_event.specs.Handling.{seat_goodbye};
 ghost use Rattle.ei_event.specs.Items.{bound, united, mask_for};
 ghost use Rattle.ei_event.specs.KeptLends.{lends_seat};
 
-use crate::event::{EiEvent, Queue, SeatRemoved};
+use crate::event::{EiEvent, SeatRemoved};
+use crate::queue::Queue;
 use crate::seat::Seat;
 use ei_backend::Interface;
 use ei_by_id::ById;

@@ -15,6 +15,7 @@ mod kept_device;
 mod kept_interface;
 mod kept_seat;
 mod keymap;
+mod queue;
 mod region;
 mod seat;
 mod taking;

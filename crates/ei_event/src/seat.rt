@@ -9,6 +9,7 @@ ghost use Rattle.ei_event.specs.Keys.{same_seat, same_seat_equiv, seat_text};
 
 use ei_backend::Interface;
 use ei_client::Seat as Proxy;
+use ei_spec::KnownInterface;
 use std::alloc::AllocError;
 use std::fmt;
 use std::hash::{Hash, Hasher};
@@ -39,11 +40,13 @@ impl Seat {
     }
 
     /// The same key again.
+    #[inline(always)]
     pub(crate) fn copy(&self) -> Seat
         ensures { result ≡ self.now }
     {
+        let proxy = self.proxy.as_object().copy_of(KnownInterface::Seat);
         Seat {
-            proxy: self.proxy.copy(),
+            proxy: Proxy::new_unchecked(proxy),
         }
     }
 

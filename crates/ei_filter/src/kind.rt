@@ -6,11 +6,8 @@ ghost use Rattle.ei_filter.specs.Kinds.{kind_of, is_input_of, frame_time};
 ghost use Rattle.ei_filter.specs.Steps.{frame_ahead};
 ghost use Rattle.ei_filter.specs.declared.kind.Kind.TheVariants as kinds;
 
-use ei_backend::Interface;
+use ei_replay::device_id;
 use ei_request::{Device, EisRequest};
-
-/// The id of the one seat.
-const SEAT_ID: u64 = 0xff00000000000001;
 
 /// What an item is to a filter. Devices are named by their ids.
 #[derive(Clone, Copy)]
@@ -34,17 +31,6 @@ pub(crate) enum Touch {
     End(u32),
     /// The input is of no touch.
     Nothing,
-}
-
-/// The id of a device of the one seat; 0, which no device has, for a device of another seat.
-fn device_id(device: &Device) -> u64
-    ensures { result ≡ id_of device.now }
-{
-    if device.seat().eis_seat().as_object().id() == SEAT_ID {
-        device.device().as_object().id()
-    } else {
-        0
-    }
 }
 
 /// An input of the device.

@@ -1,5 +1,5 @@
 -- The loop of the test: what the items so far come to, and that the first wrong one is still to come.
-use Rattle.std.proofs.Common.{◌≡◌, ℕ, suc, zero, ◌+◌, ◌<◌, ◌≤◌, Bool, true, false, cond, List, [], ◌∷◌, ◌++◌, length, Option, Some, None, refl, sym, ap, subst, ◌∙◌, arith}
+use Rattle.std.proofs.Common.{◌≡◌, ℕ, suc, zero, ◌+◌, ◌<◌, ◌≤◌, Bool, true, false, cond, List, [], ◌∷◌, length, Option, Some, None, refl, sym, ap, ◌∙◌, arith}
 use Rattle.std.specs.Prelude.{map, drop, slice_get, get_or}
 use Rattle.std.proofs.lemmas.Option.{slice_get-map}
 use Rattle.std.specs.Option.{option_map}
@@ -11,7 +11,7 @@ use Rattle.ei_replay.specs.declared.played.Played.{Played}
 use Rattle.ei_replay.specs.Steps.{step_of, IsNamed}
 use Rattle.ei_replay.specs.Played.{wrong_at, Follows, Stands}
 use Rattle.ei_replay.proofs.Tells.{tells}
-use Rattle.ei_replay.proofs.Goes.{goes, none_stand}
+use Rattle.ei_replay.proofs.Goes.{goes}
 
 -- none of the first items is wrong, and this is what they come to
 pub record Checked (setup : Setup) (items : List Request) (at : ℕ) (p : Played) : Type 0 where
@@ -24,7 +24,7 @@ pub record Checked (setup : Setup) (items : List Request) (at : ℕ) (p : Played
 pub at_first : (setup : Setup) (items : List Request) (p : Played) → Stands [] p → bits_of p.capabilities ≡ setup.capabilities → Checked setup items 0 p
 at_first setup items p s same = record { before = []; stands = s; count = refl; rest = refl; same = same }
 
-dropped : {A : Type 0} (xs : List A) (i : ℕ) (x : A) → slice_get xs i ≡ Some x → drop i xs ≡ x ∷ drop (i + 1) xs
+pub dropped : {A : Type 0} (xs : List A) (i : ℕ) (x : A) → slice_get xs i ≡ Some x → drop i xs ≡ x ∷ drop (i + 1) xs
 dropped [] i x h = absurd cc
 dropped (y ∷ ys) zero x h = let same : y ≡ x = cc in ap (λ z. z ∷ ys) same
 dropped (y ∷ ys) (suc i) x h = let e : suc (i + 1) ≡ suc i + 1 = omega arith in dropped ys i x h ∙ ap (λ (n : ℕ). x ∷ drop n (y ∷ ys)) e
@@ -81,7 +81,7 @@ none_left setup before = refl
 pub at_end : (setup : Setup) (items : List Request) (at : ℕ) (p : Played) → Checked setup items at p → length items ≤ at → first_wrong setup items ≡ None
 at_end setup items at p c past = sym c.rest ∙ ap (wrong_from setup c.before) (drop_all items at past) ∙ none_left setup c.before
 
-got : {A : Type 0} (xs : List A) (i : ℕ) (x : A) → i < length xs → x ≡ get_or xs i x → slice_get xs i ≡ Some x
+pub got : {A : Type 0} (xs : List A) (i : ℕ) (x : A) → i < length xs → x ≡ get_or xs i x → slice_get xs i ≡ Some x
 got [] i x low e = absurd (omega (arith, low))
 got (y ∷ ys) zero x low e = ap (λ z. Some z) (sym e)
 got (y ∷ ys) (suc i) x low e = got ys i x (omega (arith, low)) e

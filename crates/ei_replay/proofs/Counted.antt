@@ -1,9 +1,9 @@
 -- How many interfaces a mask has: one for each of its capabilities.
-use Rattle.std.proofs.Common.{◌≡◌, ℕ, suc, Bool, true, false, cond, List, [], ◌∷◌, length, Option, Some, None, refl, ap}
+use Rattle.std.proofs.Common.{◌≡◌, ℕ, suc, Bool, true, false, cond, List, [], ◌∷◌, length, Some, None, refl, ap}
 use Rattle.std.specs.Prelude.{map}
 use Rattle.std.specs.List.{filter, filter_map}
 use Rattle.ei_spec.specs.declared.interface.KnownInterface.{KnownInterface}
-use Rattle.ei_types.specs.Capability.{bit_of, has_bit, interface_of, capability_list, capabilities}
+use Rattle.ei_types.specs.Capability.{bit_of, has_bit, interface_of, capability_list}
 use Rattle.ei_types.specs.declared.capability.DeviceCapability.{DeviceCapability}
 use Rattle.ei_session.specs.Devices.{interfaces_of}
 

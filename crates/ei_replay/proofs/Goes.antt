@@ -1,32 +1,24 @@
 -- What the items come to, once one more came that isn't wrong.
-use Rattle.std.proofs.Common.{◌≡◌, ℕ, ◌+◌, ◌<◌, ◌≤◌, ◌^◌, Bool, true, false, cond, not, ◌&&◌, ◌||◌, eqb, List, [], ◌∷◌, ◌++◌, length, Option, Some, None, refl, sym, ap, subst, ◌∙◌, arith, ltb}
-use Rattle.std.specs.Prelude.{is_some, unwrap_or, nat_eq, nat_lt, slice_get}
+use Rattle.std.proofs.Common.{◌≡◌, ℕ, ◌+◌, ◌<◌, ◌^◌, Bool, true, false, cond, not, ◌&&◌, eqb, List, [], ◌∷◌, ◌++◌, length, Option, Some, None, refl, sym, ap, subst, ◌∙◌, arith, ltb}
+use Rattle.std.specs.Prelude.{unwrap_or, nat_eq}
 use Rattle.std.specs.Option.{option_map}
-use Rattle.std.specs.List.{list_any, IsDistinct}
-use Rattle.std.proofs.lemmas.Bool.{eqb-true, ltb-true, ltb-false}
+use Rattle.std.specs.List.{IsDistinct}
+use Rattle.std.proofs.lemmas.Bool.{eqb-true, ltb-false}
 use Rattle.std.proofs.lemmas.Bool.Decides.{nat_tests}
-use Rattle.std.proofs.lemmas.Cmp.{nat_eq_equiv}
-use Rattle.std.proofs.lemmas.List.Folds.{list_any-append}
-use Rattle.std.proofs.lemmas.Map.Keys.{IsDistinct-push}
 use Rattle.ei_keyed.specs.Keyed.{keyed, with_value}
 use Rattle.ei_spec.specs.Groups.{Timed, Framed, Plain as Given}
 use Rattle.ei_spec.specs.History.{last_said, occurs, total}
-use Rattle.ei_types.specs.Capability.{bits_of}
 use Rattle.ei_input.specs.declared.input_event.InputEvent.{InputEvent}
-use Rattle.ei_input.specs.declared.input_event.InputEvent.TheVariants as input_event
 use Rattle.ei_session.specs.Setup.{Setup, seat_id}
 use Rattle.ei_session.specs.Devices.{not_empty, ids_of, interfaces_of}
 use Rattle.ei_session.specs.Touches.{said_by}
 use Rattle.ei_session.specs.Requests.{Request, Plain, Bind, RequestDevice, Ready, DeviceClosed, DeviceStartEmulating, DeviceStopEmulating, Disconnect}
-use Rattle.ei_session.proofs.Choices.{none_some, some_is, or_none, or_true, turned}
+use Rattle.ei_session.proofs.Choices.{none_some, or_none, turned}
 use Rattle.ei_record.specs.Replayable.{disconnects, mask_of, if_it, takes_ids, gives_mask, next_device, mask_before, closes_device, is_there, says_touch, touch_is_down, asks_badly, names_none, device_of, touches_badly, stands_badly, is_within, is_wrong}
-use Rattle.ei_replay.specs.declared.step.InputKind.{InputKind}
-use Rattle.ei_replay.specs.declared.step.Step.{Step}
-use Rattle.ei_replay.specs.declared.step.Step.TheVariants as step
 use Rattle.ei_replay.specs.declared.played.Played.{Played}
-use Rattle.ei_replay.specs.Steps.{kind_of, step_of, IsNamed}
+use Rattle.ei_replay.specs.Steps.{kind_of, step_of}
 use Rattle.ei_replay.specs.Made.{MadeView, touched, takes, closed}
-use Rattle.ei_replay.specs.Played.{over_after, id_behind, next_behind, next_after, with_made, changed_at, changed, devices_after, Follows, Touched, IsMade, device_of_input, Stands}
+use Rattle.ei_replay.specs.Played.{next_behind, with_made, changed_at, changed, Follows, Touched, IsMade, Stands}
 use Rattle.ei_record.proofs.TouchesBefore.{down_one}
 use Rattle.ei_replay.proofs.TouchedAs.{touched_as, touched_once}
 
@@ -66,7 +58,7 @@ below_case before item d mask None b e q ih h = omega (arith, ih h, next_one bef
 below_case before item d mask (Some k) true e q ih h = omega (arith, eqb-true (next_device before) d q, next_one before item, ap ids_of e)
 below_case before item d mask (Some k) false e q ih h = omega (arith, ih (sym (rw q refl) ∙ h), next_one before item)
 
-mask_below : (before : List Request) (d mask : ℕ) → mask_before before d ≡ Some mask → d < next_device before
+pub mask_below : (before : List Request) (d mask : ℕ) → mask_before before d ≡ Some mask → d < next_device before
 mask_below [] d mask h = absurd (none_some mask (sym (nothing_made d) ∙ h))
 mask_below (item ∷ before) d mask h = below_case before item d mask (not_empty (mask_of item)) (eqb (next_device before) d) refl refl (mask_below before d mask) (sym (mask_one before item d) ∙ h)
 

@@ -4,3 +4,14 @@ pub mod Goes
 pub mod Counted
 pub mod Checking
 pub mod OfServe
+pub mod Borne
+pub mod Sent
+pub mod ByProxy
+pub mod Target
+pub mod Announced
+pub mod Turning
+pub mod Delivering
+pub mod OneMore
+pub mod Opening
+pub mod Given
+pub mod SoFar

@@ -1,9 +1,9 @@
 -- What a server hands out asks what the definitions say, where it can be played back.
-use Rattle.std.proofs.Common.{◌≡◌, ℕ, Bool, true, false, not, ◌&&◌, eqb, List, [], ◌∷◌, Option, Some, None, refl, sym, ap, ◌∙◌}
+use Rattle.std.proofs.Common.{◌≡◌, ℕ, Bool, true, false, not, ◌&&◌, eqb, List, [], ◌∷◌, Option, None, refl, sym, ap, ◌∙◌}
 use Rattle.std.specs.Prelude.{map, slice_get}
 use Rattle.std.proofs.lemmas.Bool.{eqb-true}
 use Rattle.ei_spec.specs.declared.interface.KnownInterface.{KnownInterface}
-use Rattle.ei_spec.specs.Message.{Raw, IsBytes}
+use Rattle.ei_spec.specs.Message.{IsBytes}
 use Rattle.ei_spec.specs.Groups.{Timed, Framed, Plain as Given}
 use Rattle.ei_input.specs.declared.input_event.InputEvent.{InputEvent}
 use Rattle.ei_input.specs.declared.input_event.InputEvent.TheVariants as input_event
@@ -13,7 +13,7 @@ use Rattle.ei_session.specs.Requests.{Request, Bind, RequestDevice, Ready, Devic
 use Rattle.ei_session.specs.Served.{accepted}
 use Rattle.ei_session.proofs.Choices.{or_none, and_left}
 use Rattle.ei_standing.specs.Standing.{handed_as, request_in_code}
-use Rattle.ei_record.specs.Replayable.{asks_badly, is_within, is_wrong, wrong_from, IsReplayable}
+use Rattle.ei_record.specs.Replayable.{asks_badly, is_within, is_wrong, wrong_from}
 use Rattle.ei_record.proofs.Lists.{was_right}
 use Rattle.ei_record.proofs.Law.{handed_out}
 use Rattle.ei_replay.specs.Asked.{asked_of}
@@ -22,7 +22,7 @@ not_false : (b : Bool) → not b ≡ false → b ≡ true
 not_false true h = refl
 not_false false h = absurd cc
 
-asks_of : (setup : Setup) (before : List Request) (item : Request) (next : Option Request) → is_wrong setup before item next ≡ false → asks_badly setup item ≡ false
+pub asks_of : (setup : Setup) (before : List Request) (item : Request) (next : Option Request) → is_wrong setup before item next ≡ false → asks_badly setup item ≡ false
 unfolding is_wrong
 asks_of setup before item next h = (or_none _ _ (or_none _ _ h).1).0
 
@@ -48,7 +48,7 @@ module _ (versions : KnownInterface → ℕ) where
   seat_of : (setup : Setup) (seat mask : ℕ) → not (eqb seat seat_id && is_within mask setup.capabilities) ≡ false → seat_id ≡ seat
   seat_of setup seat mask h = sym (eqb-true seat seat_id (and_left _ (is_within mask setup.capabilities) (not_false _ h)))
 
-  same : (setup : Setup) (item : Request) → asks_badly setup item ≡ false → asked_of (handed_as versions item) ≡ item
+  pub same : (setup : Setup) (item : Request) → asks_badly setup item ≡ false → asked_of (handed_as versions item) ≡ item
   same setup (Timed d x t) h = input_same d t x
   same setup (Framed d s t) h = refl
   same setup (Given (Bind seat mask)) h = ap (λ (n : ℕ). Given (Bind n mask)) (seat_of setup seat mask h)

@@ -1,6 +1,6 @@
 -- What the items come to tells whether the next one is wrong.
-use Rattle.std.proofs.Common.{◌≡◌, ℕ, ◌<◌, ◌^◌, Bool, true, false, cond, not, ◌&&◌, ◌||◌, eqb, List, [], ◌∷◌, length, Option, Some, None, refl, sym, ap, ◌∙◌}
-use Rattle.std.specs.Prelude.{is_some, bit_and, nat_le, slice_get, ◌==◌}
+use Rattle.std.proofs.Common.{◌≡◌, ℕ, ◌<◌, ◌^◌, Bool, true, false, cond, not, ◌&&◌, ◌||◌, eqb, List, length, Option, Some, None, refl, sym, ap, ◌∙◌}
+use Rattle.std.specs.Prelude.{is_some, bit_and, nat_le, slice_get}
 use Rattle.std.specs.Option.{option_map}
 use Rattle.std.proofs.lemmas.Nat.{and_comm}
 use Rattle.ei_keyed.specs.Keyed.{keyed}
@@ -11,15 +11,12 @@ use Rattle.ei_types.specs.declared.capability.DeviceCapabilities.{DeviceCapabili
 use Rattle.ei_input.specs.declared.input_event.InputEvent.{InputEvent}
 use Rattle.ei_input.specs.declared.input_event.InputEvent.TheVariants as input_event
 use Rattle.ei_session.specs.Setup.{Setup, seat_id}
-use Rattle.ei_session.specs.Requests.{Request, Plain, Bind, RequestDevice, Ready, DeviceClosed, DeviceStartEmulating, DeviceStopEmulating, Disconnect}
+use Rattle.ei_session.specs.Requests.{Request, Bind, RequestDevice, Ready, DeviceClosed, DeviceStartEmulating, DeviceStopEmulating, Disconnect}
 use Rattle.ei_record.specs.Replayable as record_of
 use Rattle.ei_record.specs.Replayable.{capability_for, mask_before, closes_device, is_there, touch_is_down, touches_before, asks_badly, names_none, device_of, lacks, touches_badly, writes_badly, stands_badly, is_input_of, is_within, is_wrong}
-use Rattle.ei_replay.specs.declared.step.InputKind.{InputKind}
-use Rattle.ei_replay.specs.declared.step.Step.{Step}
-use Rattle.ei_replay.specs.declared.step.Step.TheVariants as step
 use Rattle.ei_replay.specs.declared.played.Played.{Played}
 use Rattle.ei_replay.specs.Steps.{kind_of, step_of, goes_with, IsNamed}
-use Rattle.ei_replay.specs.Made.{MadeView, has_touch, refuses_kind, refuses}
+use Rattle.ei_replay.specs.Made.{MadeView, refuses_kind}
 use Rattle.ei_replay.specs.Played.{if_open, open_device, is_it, wrong_input, wrong_step, wrong_at, Touched, IsMade, device_of_input, Stands}
 use Rattle.ei_record.proofs.TouchesBefore.{down_count}
 

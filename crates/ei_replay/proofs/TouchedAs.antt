@@ -1,5 +1,5 @@
 -- The touches of a device after an input, by its kind: they are those after the input.
-use Rattle.std.proofs.Common.{◌≡◌, ℕ, Bool, false, List, refl, ap, subst, sym, ◌∙◌}
+use Rattle.std.proofs.Common.{◌≡◌, ℕ, false, List, refl, ap, subst, sym, ◌∙◌}
 use Rattle.std.specs.Prelude.{unwrap_or, nat_eq}
 use Rattle.std.specs.List.{list_any, IsDistinct}
 use Rattle.ei_wire.specs.declared.arg.RawFloat.{RawFloat}

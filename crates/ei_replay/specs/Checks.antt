@@ -1,5 +1,5 @@
 -- What a test of a record answers.
-use Rattle.std.specs.Prelude.{◌≡◌, ℕ, List, Option, Some, None, Result, Ok, Err}
+use Rattle.std.specs.Prelude.{◌≡◌, List, Some, None, Result, Ok, Err}
 use Rattle.ei_session.specs.Setup.{Setup}
 use Rattle.ei_session.specs.Requests.{Request}
 use Rattle.ei_record.specs.Replayable.{first_wrong}

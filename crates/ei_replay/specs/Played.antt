@@ -1,9 +1,8 @@
 -- What the items so far come to.
-use Rattle.std.specs.Prelude.{◌≡◌, ℕ, ◌+◌, ◌<◌, ◌≤◌, ◌^◌, Bool, true, false, not, ◌||◌, List, [], ◌∷◌, ◌++◌, length, Option, Some, None, is_some, ◌==◌, nat_eq, nat_lt, if◌then◌else◌, bit_and, slice_get}
-use Rattle.std.specs.Option.{option_map}
+use Rattle.std.specs.Prelude.{◌≡◌, ℕ, ◌+◌, ◌<◌, ◌^◌, Bool, true, false, not, ◌||◌, List, [], ◌∷◌, ◌++◌, length, Option, Some, None, is_some, ◌==◌, nat_eq, nat_lt, if◌then◌else◌, bit_and, slice_get}
 use Rattle.std.specs.List.{list_any, IsDistinct}
 use Rattle.ei_keyed.specs.Keyed.{keyed, with_value}
-use Rattle.ei_spec.specs.Groups.{Timed, Framed, Plain as Given}
+use Rattle.ei_spec.specs.Groups.{Timed}
 use Rattle.ei_spec.specs.History.{occurs}
 use Rattle.ei_types.specs.Capability.{bits_of}
 use Rattle.ei_types.specs.declared.capability.DeviceCapability.{DeviceCapability}

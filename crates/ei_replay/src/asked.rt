@@ -19,7 +19,7 @@ fn seat_id(seat: &Seat) -> u64
 }
 
 /// The id of a device of the one seat; 0, which no device has, for a device of another seat.
-fn device_id(device: &Device) -> u64
+pub fn device_id(device: &Device) -> u64
     ensures { result ≡ id_of device.now }
 {
     if seat_id(device.seat()) == SEAT_ID {

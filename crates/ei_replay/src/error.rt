@@ -2,6 +2,7 @@
 
 ghost use Rattle.std.specs.Prelude.{◌≡◌};
 
+use ei_wire::NoMemory;
 use std::alloc::AllocError;
 use thiserror::Error;
 
@@ -22,6 +23,16 @@ impl From<AllocError> for ReplayError {
     ghost from_gives = { λ _ e. e ≡ NoMemory };
 
     fn from(_e: AllocError) -> ReplayError {
+        ReplayError::NoMemory
+    }
+}
+
+impl From<NoMemory> for ReplayError {
+    ghost use Rattle.ei_replay.specs.declared.error.ReplayError.TheVariants.{NoMemory};
+
+    ghost from_gives = { λ _ e. e ≡ NoMemory };
+
+    fn from(_e: NoMemory) -> ReplayError {
         ReplayError::NoMemory
     }
 }

@@ -42,6 +42,13 @@ impl Made {
         }
     }
 
+    /// Its capabilities.
+    pub(crate) fn mask(&self) -> DeviceCapabilities
+        ensures { bits_of result ≡ self.now.mask }
+    {
+        self.mask
+    }
+
     /// Whether it was closed.
     pub(crate) fn is_closed(&self) -> bool
         ensures { result ≡ self.now.closed }

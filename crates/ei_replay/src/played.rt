@@ -1,21 +1,27 @@
 //! What the items so far come to.
 
-ghost use Rattle.std.specs.Prelude.{◌≡◌, ◌≤◌, ◌+◌, [], false, not, OnOk, Some, None, length, is_some};
+ghost use Rattle.std.specs.Prelude.{◌≡◌, ◌≤◌, ◌+◌, ◌==◌, if◌then◌else◌, ℕ, [], false, not, OnOk, Some, None, length, is_some};
 ghost use Rattle.std.specs.Option.{option_copied};
 ghost use Rattle.ei_types.specs.Capability.{bits_of};
 ghost use Rattle.ei_session.specs.Devices.{interfaces_of};
 ghost use Rattle.ei_replay.specs.Steps.{goes_with, input_device};
 ghost use Rattle.ei_replay.specs.Made.{refuses, closed, takes};
 ghost use Rattle.ei_replay.specs.Played.{open_device, is_it, wrong_input, wrong_step, wrong_at, next_behind, with_made, changed, devices_after, Follows, Stands};
+ghost use Rattle.ei_player.specs.Objects.{MayHear};
+ghost use Rattle.ei_replay.specs.Sending.{target_at, mask_in, HasIdsBehind, AnnouncesAt, AnnouncesMade};
 
 use crate::made::Made;
 use crate::step::{InputKind, Step};
+use ei_backend::FIRST_SERVER_ID;
+use ei_client::Context;
 use ei_keyed::Keyed;
+use ei_player::{announce_device, interface_id};
 use ei_types::{DeviceCapabilities, DeviceCapability};
+use ei_wire::NoMemory;
 use std::alloc::{AllocError, Global};
 
-/// The id of the one seat.
-pub(crate) const SEAT_ID: u64 = 0xff00000000000001;
+/// The id of the one seat, behind the connection's.
+pub(crate) const SEAT_ID: u64 = FIRST_SERVER_ID + 1;
 
 /// What the items so far come to.
 #[derive(Drop)]
@@ -111,6 +117,60 @@ impl Played {
         match self.last {
             Some(last) => last == device,
             None => false,
+        }
+    }
+
+    /// The id of the object that an item is sent to.
+    pub(crate) fn target(&self, step: Step) -> u64
+        requires { HasIdsBehind step }
+        ensures { result ≡ target_at self.now step }
+    {
+        match step {
+            Step::End => FIRST_SERVER_ID,
+            Step::Ask { seat, .. } => seat,
+            Step::Name { device } | Step::Close { device } | Step::Frame { device, .. } => device,
+            Step::Input {
+                device,
+                capability,
+                ..
+            } => interface_id(device, self.mask(device), capability),
+        }
+    }
+
+    /// The capabilities of the device, if it was made and not closed.
+    fn mask(&self, device: u64) -> DeviceCapabilities
+        ensures { bits_of result ≡ mask_in (open_device self.now device) }
+    {
+        match self.device(device) {
+            Some(made) => made.mask(),
+            None => DeviceCapabilities::empty(),
+        }
+    }
+
+    /// Tells a client of the device that an item makes, if it makes one.
+    pub(crate) fn announce(&self, client: &mut Context, step: Step) -> Result<(), NoMemory>
+        requires { (id : ℕ) → self.now.next ≡ Some id → MayHear id (id + 8) client.old }
+        ensures { OnOk result (AnnouncesMade self.now.next step client.old client.new) }
+    {
+        match step {
+            Step::Ask { mask, .. } => self.announce_made(client, mask),
+            _ => Ok(()),
+        }
+    }
+
+    /// Tells a client of the device of these capabilities that is made, unless there are none.
+    fn announce_made(&self, client: &mut Context, mask: DeviceCapabilities) -> Result<(), NoMemory>
+        requires { (id : ℕ) → self.now.next ≡ Some id → MayHear id (id + 8) client.old }
+        ensures { OnOk result (AnnouncesAt (if bits_of mask == 0 then None else self.now.next) (bits_of mask)
+            client.old client.new) }
+    {
+        let bits = mask.bits();
+        if bits == 0 {
+            return Ok(());
+        }
+        match self.next {
+            Some(id) => announce_device(client, id, mask),
+            None => Ok(()),
         }
     }
 

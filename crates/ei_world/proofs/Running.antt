@@ -3,8 +3,8 @@ use Rattle.std.proofs.Common.{◌≡◌, ℕ, ◌+◌, ◌<◌, List, [], ◌∷
 use Rattle.std.proofs.lemmas.List.{take_more}
 use Rattle.ei_world.specs.declared.run.Step.{Step}
 use Rattle.ei_world.specs.declared.run.Step.TheVariants as step
-use Rattle.ei_world.specs.declared.side.Side.TheVariants as side
-use Rattle.ei_world.specs.TwoEnds.{WorldView}
+use Rattle.ei_linked.specs.declared.side.Side.TheVariants as side
+use Rattle.ei_linked.specs.TwoEnds.{WorldView}
 use Rattle.ei_world.specs.Steps.{Accepts, AllAccepted, after_step, after_steps}
 
 accepted_behind : (xs : List Step) (s : Step) (w : WorldView) → AllAccepted xs w → Accepts s (after_steps xs w) → AllAccepted (xs ++ (s ∷ [])) w

@@ -1,5 +1,5 @@
 -- What a read of a side answers.
-use Rattle.std.specs.Prelude.{Bool, true, false, Option, Some, None}
+use Rattle.std.specs.Prelude.{true, false, Option, Some, None}
 use Rattle.ei_backend.specs.Backend.{Answers, next}
 use Rattle.ei_backend.specs.declared.message.PendingRequestResult.{PendingRequestResult}
 use Rattle.ei_client.specs.declared.event.Event.{Event}
@@ -8,9 +8,9 @@ use Rattle.ei_server.specs.declared.request.Request.{Request}
 use Rattle.ei_server.specs.Request.{target_of as request_target, opcode_of as request_code, values_of as request_values}
 use Rattle.ei_world.specs.declared.received.Received.{Received}
 use Rattle.ei_world.specs.declared.received.Received.TheVariants as received
-use Rattle.ei_world.specs.declared.side.Side.{Side}
-use Rattle.ei_world.specs.declared.side.Side.TheVariants as side
-use Rattle.ei_world.specs.TwoEnds.{WorldView, NotRefused}
+use Rattle.ei_linked.specs.declared.side.Side.{Side}
+use Rattle.ei_linked.specs.declared.side.Side.TheVariants as side
+use Rattle.ei_linked.specs.TwoEnds.{WorldView, NotRefused}
 
 -- the client was answered what its endpoint reads next
 abbrev pub ReadsEvent : Option (PendingRequestResult Event) → WorldView → WorldView → Type 0

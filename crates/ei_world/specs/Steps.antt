@@ -1,6 +1,5 @@
 -- What a run of steps does. A step is accepted where its call's condition is met and the call answers no refusal.
-use Rattle.std.specs.Prelude.{◌≡◌, ◌≤◌, ◌<◌, ◌⊎◌, ℕ, Bool, true, false, List, [], ◌∷◌, take, slice_get, Option, Some, None, Result, Ok, Err}
-use Rattle.ei_spec.specs.Interface.{Interface, Known}
+use Rattle.std.specs.Prelude.{◌≡◌, ◌≤◌, ◌<◌, ◌⊎◌, ℕ, true, false, List, [], ◌∷◌, take, slice_get, Option, Some, None, Result, Ok, Err}
 use Rattle.ei_spec.specs.declared.interface.KnownInterface.{KnownInterface}
 use Rattle.ei_spec.specs.declared.interface.KnownInterface.TheVariants as known
 use Rattle.ei_wire.specs.declared.error.ReadError.{ReadError}
@@ -9,17 +8,16 @@ use Rattle.ei_wire.specs.declared.error.SendError.{SendError}
 use Rattle.ei_wire.specs.declared.error.SendError.TheVariants as send_error
 use Rattle.ei_ends.specs.Sent.{New}
 use Rattle.ei_values.specs.declared.value.Value.{Value as Stored}
-use Rattle.ei_world.specs.declared.record.Record.{Record}
-use Rattle.ei_world.specs.declared.record.Target.{Target}
+use Rattle.ei_linked.specs.declared.record.Record.{Record}
 use Rattle.ei_world.specs.declared.run.Step.{Step}
 use Rattle.ei_world.specs.declared.run.Step.TheVariants as step
 use Rattle.ei_world.specs.declared.run.WorldEnd.{WorldEnd}
 use Rattle.ei_world.specs.declared.run.WorldEnd.TheVariants as world_end
-use Rattle.ei_world.specs.declared.side.Side.{Side}
-use Rattle.ei_world.specs.Stored.{as_known}
-use Rattle.ei_world.specs.Asked.{IsTooLong}
-use Rattle.ei_world.specs.TwoEnds.{WorldView, stored_of, MayAsk, met_at, asked_for, HasOwnId, TooManyHandles}
-use Rattle.ei_world.specs.TwoEnds.{called_world, flushed_world, delivered_world, limited_world, read_world, spent_world}
+use Rattle.ei_linked.specs.declared.side.Side.{Side}
+use Rattle.ei_linked.specs.Stored.{as_known}
+use Rattle.ei_linked.specs.Asked.{IsTooLong}
+use Rattle.ei_linked.specs.TwoEnds.{WorldView, stored_of, MayAsk, met_at, asked_for, HasOwnId, TooManyHandles}
+use Rattle.ei_linked.specs.TwoEnds.{called_world, flushed_world, delivered_world, limited_world, read_world, spent_world}
 
 -- ---- the object that a step calls
 
@@ -39,11 +37,6 @@ asked_at side w id opcode values = asked_for side w id (interface_met (met_at si
 -- it may ask for it
 abbrev pub MayAskAt : Side → WorldView → ℕ → ℕ → List Stored → Type 0
 MayAskAt side w id opcode values = MayAsk side w id (interface_met (met_at side w id)) (version_met (met_at side w id)) opcode values
-
--- what names the object of that id, where it is one of the protocol
-abbrev pub IsTarget : Option Target → ℕ → Option New → Type 0
-IsTarget None id o = (interface : KnownInterface) (version : ℕ) → o ≡ Some (record { id = id; interface = Known interface; version = version }) → ⊥
-IsTarget (Some t) id o = (t.id ≡ id) × (o ≡ Some (record { id = id; interface = Known t.interface; version = t.version }))
 
 -- ---- a step
 

@@ -4,20 +4,12 @@
 //! handshake and a converter make of the messages isn't here.
 #![tactic(auto)]
 
-mod asking;
-mod half;
-mod link;
-mod met;
-mod portion;
 mod received;
-mod record;
 mod run;
-mod side;
 mod world;
 
+pub use ei_linked::{Got, Record, Side};
 pub use ei_values::{Value, Values};
 pub use received::Received;
-pub use record::{Got, Record};
 pub use run::{Step, WorldEnd};
-pub use side::Side;
 pub use world::World;

@@ -7,9 +7,8 @@ ghost use Rattle.ei_world.specs.declared.run.Step.TheVariants as step_of;
 ghost use Rattle.ei_world.specs.declared.run.WorldEnd.TheVariants as world_end;
 ghost use Rattle.ei_world.specs.Steps.{Steps, Runs, end_of_send, end_of_read};
 
-use crate::asking::is_of_row;
-use crate::side::Side;
 use crate::world::World;
+use ei_linked::{Side, is_of_row};
 use ei_values::{Value, Values};
 use ei_wire::{NoMemory, ReadError, SendError};
 

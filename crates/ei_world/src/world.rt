@@ -1,22 +1,16 @@
 //! Two ends over links.
 
-ghost use Rattle.std.specs.Prelude.{reverse, ◌≡◌, ℕ, ◌<◌, ◌≤◌, ◌⊎◌, None, Ok, false, true, IfOk, OnOk, OnErr, IsErrOf};
+ghost use Rattle.std.specs.Prelude.{reverse, ◌≡◌, ◌<◌, ◌≤◌, ◌↔◌, ◌⊎◌, None, Ok, false, true, IfOk, OnOk, OnErr, IsErrOf, IsTrue};
 ghost use Rattle.ei_wire.specs.declared.error.ReadError.TheVariants as read_error;
-ghost use Rattle.ei_backend.specs.Backend.{Answers, next};
-ghost use Rattle.ei_client.specs.Event as event;
-ghost use Rattle.ei_server.specs.Request as request;
-ghost use Rattle.ei_world.specs.declared.side.Side.TheVariants as side;
-ghost use Rattle.ei_world.specs.TwoEnds.{stored_of, other_side, new_world, Agrees, MayAsk, MayCall, asked_for, Calls, CallsTo, met_at};
-ghost use Rattle.ei_world.specs.TwoEnds.{flushed_world, DeliversAt, HasSentFewHandles, read_world, spent_world, AllDeliveredAt, HasTakenAll, NotRefused};
-ghost use Rattle.ei_world.specs.Asked.{AreNew};
+ghost use Rattle.ei_linked.specs.declared.side.Side.TheVariants as side;
+ghost use Rattle.ei_linked.specs.TwoEnds.{stored_of, other_side, new_world, Agrees, MayAsk, MayCall, asked_for, Calls, CallsTo, met_at};
+ghost use Rattle.ei_linked.specs.TwoEnds.{flushed_world, DeliversAt, HasSentFewHandles, read_world, spent_world, AllDeliveredAt, HasTakenAll, NotRefused};
+ghost use Rattle.ei_linked.specs.Asked.{IsTarget};
 ghost use Rattle.ei_world.specs.Received.{ReceivesAt, IsNeverRefused};
 
-use crate::half::{Half, HalfError};
-use crate::link::Link;
 use crate::received::Received;
-use crate::record::{Announced, Got, Record, Target};
-use crate::side::Side;
-use ei_backend::{Object, PendingRequestResult};
+use ei_backend::Object;
+use ei_linked::{Ends, Got, Record, Side, Target};
 use ei_values::Value;
 use ei_wire::{NoMemory, ReadError, SendError};
 use std::alloc::Global;
@@ -30,26 +24,22 @@ use std::marker::Model;
 /// that message, and no further call may be made that changes it.
 #[derive(Drop)]
 pub struct World {
-    alloc: Global,
-    client: Half<ei_client::Context>,
-    server: Half<ei_server::Context>,
-    to_client: Link,
-    to_server: Link,
-    spent: bool,
+    ends: Ends<ei_server::Context>,
 }
 
 impl Model for World {
     ghost use Rattle.std.specs.Coded.{codes};
     ghost use Rattle.ei_backend.specs.Codes.{backend_code};
-    ghost use Rattle.ei_world.specs.TwoEnds.{WorldView, IsWorld};
+    ghost use Rattle.ei_linked.specs.Ends.{world_in};
+    ghost use Rattle.ei_linked.specs.TwoEnds.{WorldView, IsWorld};
 
     ghost Value = { WorldView };
 
     ghost coded = { Prim.hlevel (codes, backend_code) };
 
-    ghost view = { λ w. record { client = w.client; server = w.server; to_client = w.to_client; to_server = w.to_server; spent = w.spent } };
+    ghost view = { λ w. world_in (λ b. b) w.ends };
 
-    ghost invariant = { λ w. IsWorld (record { client = w.client; server = w.server; to_client = w.to_client; to_server = w.to_server; spent = w.spent }) };
+    ghost invariant = { λ w. IsWorld (world_in (λ b. b) w.ends) };
 }
 
 impl World {
@@ -60,12 +50,7 @@ impl World {
         let client = ei_client::Context::new(alloc)?;
         let server = ei_server::Context::new(alloc)?;
         Ok(World {
-            alloc,
-            client: Half::new(alloc, client),
-            server: Half::new(alloc, server),
-            to_client: Link::new(alloc),
-            to_server: Link::new(alloc),
-            spent: false,
+            ends: Ends::new(alloc, client, server),
         })
     }
 
@@ -73,10 +58,7 @@ impl World {
     pub fn sent(&self, side: Side) -> &[Record]
         ensures { reverse result.now ≡ (stored_of side self.now).sent }
     {
-        match side {
-            Side::Client => self.client.sent(),
-            Side::Server => self.server.sent(),
-        }
+        self.ends.sent(side)
     }
 
     /// What the side took, the first first: one by one what the other sent, but for what is dropped.
@@ -84,51 +66,50 @@ impl World {
         ensures taken { reverse result.now ≡ (stored_of side self.now).taken }
         ensures agrees { Agrees side self.now }
     {
-        match side {
-            Side::Client => self.client.taken(),
-            Side::Server => self.server.taken(),
-        }
+        self.ends.taken(side)
     }
 
     /// Whether the side reads no more: more handles came than may be unread.
     pub fn is_closed(&self, side: Side) -> bool
         ensures { result ≡ (stored_of side self.now).backend.closed }
     {
-        match side {
-            Side::Client => self.client.is_closed(),
-            Side::Server => self.server.is_closed(),
-        }
+        self.ends.is_closed(side)
     }
 
     /// Whether what the last call took isn't stored.
     pub fn is_spent(&self) -> bool
         ensures { result ≡ self.now.spent }
     {
-        self.spent
+        self.ends.spent
     }
 
     /// The client's context.
     pub fn client(&self) -> &ei_client::Context
         ensures { result.now ≡ self.now.client.backend }
     {
-        self.client.context()
+        &self.ends.client.context
     }
 
     /// The server's context.
     pub fn server(&self) -> &ei_server::Context
         ensures { result.now ≡ self.now.server.backend }
     {
-        self.server.context()
+        &self.ends.server.context
     }
 
-    /// The object of that id which the side made or read at some time, or object 0.
-    pub(crate) fn met(&self, side: Side, id: u64) -> Option<Announced>
-        ensures { AreNew result (met_at side self.now id) }
+    /// What names the object of that id, where the side met one of the protocol.
+    pub(crate) fn target(&self, side: Side, id: u64) -> Option<Target>
+        ensures { IsTarget result id (met_at side self.now id) }
     {
-        match side {
-            Side::Client => self.client.met(false, id),
-            Side::Server => self.server.met(true, id),
-        }
+        self.ends.target(side, id)
+    }
+
+    /// Whether the side may make the call, as `client_call` and `server_call` want it: it made or read the target at some time,
+    /// or that is object 0; the row exists, and the values are of its kinds.
+    pub fn may_call(&self, side: Side, target: &Object, opcode: u32, values: &[Value]) -> bool
+        ensures { IsTrue result ↔ MayCall side self.now target.now opcode values.now }
+    {
+        self.ends.may_call(side, target, opcode, values)
     }
 
     /// The client sends the message of these values to the object, by its row. It answers the object that the message
@@ -177,12 +158,10 @@ impl World {
     ) -> Result<Option<Object>, SendError>
         requires whole { self.old.spent ≡ false }
         requires may { MayAsk side self.old target.id target.interface target.version opcode values.now }
-        ensures { Calls side (asked_for side self.old target.id target.interface target.version opcode values.now) result self.old self.new }
+        ensures { Calls side (asked_for side self.old target.id target.interface target.version opcode values.now)
+            result self.old self.new }
     {
-        match side {
-            Side::Client => self.client.ask(self.alloc, false, target, opcode, values),
-            Side::Server => self.server.ask(self.alloc, true, target, opcode, values),
-        }
+        self.ends.call(side, target, opcode, values)
     }
 
     /// Puts all that waits at the side behind what lies before the other side, or does nothing.
@@ -191,10 +170,7 @@ impl World {
         ensures ok { OnOk result (self.new ≡ flushed_world side self.old) }
         ensures err { OnErr result (self.new ≡ self.old) }
     {
-        match side {
-            Side::Client => self.client.flush(&mut self.to_server),
-            Side::Server => self.server.flush(&mut self.to_client),
-        }
+        self.ends.flush(side)
     }
 
     /// Hands the first n bytes that wait, and the first 64 handles, or what there is, to the side. It answers how many bytes
@@ -210,10 +186,7 @@ impl World {
         ensures delivers { DeliversAt side n result self.old self.new }
         ensures few { HasSentFewHandles (other_side side) self.old → IsErrOf result read_error.HandleLimit → ⊥ }
     {
-        match side {
-            Side::Client => self.client.deliver(&mut self.to_client, n),
-            Side::Server => self.server.deliver(&mut self.to_server, n),
-        }
+        self.ends.deliver(side, n)
     }
 
     /// The next message that is whole at the side, taken out and stored, or the id of a message to no object. `None` exactly
@@ -230,54 +203,14 @@ impl World {
         ensures err { OnErr result ((self.new ≡ self.old) ⊎ (self.new ≡ spent_world side self.old)) }
     {
         match side {
-            Side::Client => match self.read_client()? {
+            Side::Client => match self.ends.read_client()? {
                 Some(answer) => Ok(Some(Received::Client(answer))),
                 None => Ok(None),
             },
-            Side::Server => match self.read_server()? {
+            Side::Server => match self.ends.read_server()? {
                 Some(answer) => Ok(Some(Received::Server(answer))),
                 None => Ok(None),
             },
-        }
-    }
-
-    /// The client takes its next message.
-    fn read_client(&mut self) -> Result<Option<PendingRequestResult<ei_client::Event>>, NoMemory>
-        requires whole { self.old.spent ≡ false }
-        ensures ok { IfOk result (λ a. Answers event.target_of event.opcode_of event.values_of a self.new.client.backend
-            (next true self.old.client.backend)) }
-        ensures stores { OnOk result (self.new ≡ read_world side.Client self.old) }
-        ensures never_refused { IfOk result NotRefused }
-        ensures all { result ≡ Ok None → AllDeliveredAt side.Client self.old → HasTakenAll side.Client self.old }
-        ensures err { OnErr result ((self.new ≡ self.old) ⊎ (self.new ≡ spent_world side.Client self.old)) }
-    {
-        match self.client.read::<ei_client::Event>(self.alloc, true) {
-            Ok(answer) => Ok(answer),
-            Err(HalfError::NoMemory) => Err(NoMemory),
-            Err(HalfError::Spent) => {
-                self.spent = true;
-                Err(NoMemory)
-            }
-        }
-    }
-
-    /// The server takes its next message.
-    fn read_server(&mut self) -> Result<Option<PendingRequestResult<ei_server::Request>>, NoMemory>
-        requires whole { self.old.spent ≡ false }
-        ensures ok { IfOk result (λ a. Answers request.target_of request.opcode_of request.values_of a self.new.server.backend
-            (next false self.old.server.backend)) }
-        ensures stores { OnOk result (self.new ≡ read_world side.Server self.old) }
-        ensures never_refused { IfOk result NotRefused }
-        ensures all { result ≡ Ok None → AllDeliveredAt side.Server self.old → HasTakenAll side.Server self.old }
-        ensures err { OnErr result ((self.new ≡ self.old) ⊎ (self.new ≡ spent_world side.Server self.old)) }
-    {
-        match self.server.read::<ei_server::Request>(self.alloc, false) {
-            Ok(answer) => Ok(answer),
-            Err(HalfError::NoMemory) => Err(NoMemory),
-            Err(HalfError::Spent) => {
-                self.spent = true;
-                Err(NoMemory)
-            }
         }
     }
 }

@@ -1,4 +1,5 @@
-//! The client's end: its context, its proxies with their requests, and a server's events.
+//! The client's end: its context, its proxies with their requests, a server's events, and the handshake that gives the iterator
+//! over them.
 
 pub use ei_client::{
     Button, Callback, Connection, Context, Device, Event, Gesture, Handshake, Interface, Keyboard,
@@ -6,6 +7,7 @@ pub use ei_client::{
     button, callback, connection, device, gesture, handshake, keyboard, pingpong, pointer,
     pointer_absolute, scroll, seat, text, touchscreen,
 };
+pub use ei_iterator::handshake_blocking;
 pub use ei_types::{
     ButtonState, ContextType, DeviceType, DisconnectReason, KeyState, KeymapType, OtherReason,
 };

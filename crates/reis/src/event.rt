@@ -1,5 +1,5 @@
-//! What a client makes of events: its converter, what its user is told, the keys of seats and devices, and what is called at the end
-//! of callbacks.
+//! What a client makes of events: its converter, the iterator over them, what its user is told, the keys of seats and devices, and
+//! what is called at the end of callbacks.
 
 pub use ei_event::{
     Button, Call, Connection, Device, DeviceAdded, DeviceEvent, DevicePaused, DeviceRemoved,
@@ -9,4 +9,5 @@ pub use ei_event::{
     ScrollCancel, ScrollDelta, ScrollDiscrete, ScrollStop, Seat, SeatAdded, SeatEvent, SeatRemoved,
     TextKeysym, TextUtf8, TouchCancel, TouchDown, TouchMotion, TouchUp,
 };
+pub use ei_iterator::EiConvertEventIterator;
 pub use ei_types::{DeviceCapabilities, DeviceCapability, EventError};

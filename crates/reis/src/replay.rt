@@ -1,3 +1,3 @@
-//! A record of a session's requests: whether it can be played back.
+//! A record of a session's requests: tested, and played back.
 
-pub use ei_replay::{ReplayError, check};
+pub use ei_replay::{ReplayError, check, device_id, replay};

@@ -1,7 +1,10 @@
 //! A server of several clients in one loop.
 
+ghost use Rattle.std.specs.Prelude.{◌≤◌};
+ghost use Rattle.ei_types.specs.Capability.{bits_of, all_bits};
+
 use crate::outside::{Inbox, Outbox};
-use crate::record::show_record;
+use crate::record::{show_played, show_record};
 use crate::sifted::show_sifted;
 use crate::stop::Stop;
 use ei_backend::Readings;
@@ -38,13 +41,15 @@ fn join<'a, R: Print + AllocGlobal>(
     Ok(())
 }
 
-/// Shows how much each client asked for, what its source has left, whether what it asked for can be played back, and how much
-/// of it is no text.
+/// Shows how much each client asked for, what its source has left, whether what it asked for can be played back, what comes of
+/// that, and how much of it is no text.
 fn show_clients<R: Print + AllocGlobal>(
     rt: &R,
     hub: &Hub<Inbox<'_>, Outbox>,
     setup: &Setup,
-) -> Result<(), Stop> {
+) -> Result<(), Stop>
+    requires lawful { bits_of setup.now.capabilities ≤ all_bits }
+{
     for client in 0..hub.count() {
         println!(rt;
             "client {client} asked for {} things, and has {} bytes left",
@@ -52,6 +57,7 @@ fn show_clients<R: Print + AllocGlobal>(
             hub.source(client).left()
         )?;
         show_record(rt, setup, hub.requests(client))?;
+        show_played(rt, setup, hub.requests(client))?;
         show_sifted(rt, hub.requests(client))?;
     }
     Ok(())

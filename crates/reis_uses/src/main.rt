@@ -1,15 +1,16 @@
-//! Callers: a server's loop over `Session`, a client by its proxies, one by its converter, several clients in one loop, a record
-//! that is tested and sifted, and two endpoints over links.
+//! Callers: a server's loop over `Session`, a client by its proxies, one by its converter, one by the iterator over its events,
+//! several clients in one loop, a record that is tested, played back and sifted, and two endpoints over links.
 //! Nothing stands on this program.
 //!
 //! The client shakes hands and leaves, the server serves it, and the client reads what the server replied. All of it
-//! stands in memory. Begin with `server`, `client`, `converting`, `clients`, `record`, `sifted` and `world`; `outside` has
-//! a source and a sink.
+//! stands in memory. Begin with `server`, `client`, `converting`, `iterating`, `clients`, `record`, `sifted` and `world`;
+//! `outside` has a source and a sink.
 #![tactic(auto)]
 
 mod client;
 mod clients;
 mod converting;
+mod iterating;
 mod outside;
 mod record;
 mod server;
@@ -20,6 +21,7 @@ mod world;
 use crate::client::{shake_hands, show_events};
 use crate::clients::serve_clients;
 use crate::converting::show_told;
+use crate::iterating::show_each;
 use crate::outside::{Inbox, Outbox};
 use crate::server::serve_by_turns;
 use crate::stop::Stop;
@@ -51,6 +53,7 @@ fn talk<R: Print + AllocGlobal>(
     client.read(&mut Inbox::new(&replied.bytes))?;
     show_events(rt, client)?;
     show_told(rt, &replied.bytes, &mut Outbox::new(rt.alloc()))?;
+    show_each(rt, &replied.bytes, &mut Outbox::new(rt.alloc()))?;
     serve_clients(rt, &sent.bytes)?;
     talk_over_links(rt)
 }

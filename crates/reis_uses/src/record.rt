@@ -1,7 +1,10 @@
-//! A record of a session, tested before it is played back.
+//! A record of a session, tested and played back.
+
+ghost use Rattle.std.specs.Prelude.{◌≤◌};
+ghost use Rattle.ei_types.specs.Capability.{bits_of, all_bits};
 
 use crate::stop::Stop;
-use ei_replay::{ReplayError, check};
+use ei_replay::{ReplayError, check, replay};
 use ei_request::EisRequest;
 use ei_serve::Setup;
 use ei_types::Error;
@@ -19,6 +22,29 @@ pub(crate) fn show_record<R: Print + AllocGlobal>(
             println!(rt; "its request {place} can't be played back")?;
         }
         Err(ReplayError::NoMemory) => return Err(Stop::Session(Error::NoMemory)),
+    }
+    Ok(())
+}
+
+/// Plays these requests back to a server of the setup, and shows how many came back, and by how many bytes.
+pub(crate) fn show_played<R: Print + AllocGlobal>(
+    rt: &R,
+    setup: &Setup,
+    record: &[EisRequest],
+) -> Result<(), Stop>
+    requires lawful { bits_of setup.now.capabilities ≤ all_bits }
+{
+    if record.len() > 4294967000 {
+        return Ok(());
+    }
+    let mut stream = Vec::new(rt.alloc());
+    let mut out = Vec::new(rt.alloc());
+    if replay(rt.alloc(), setup, record, &mut stream, &mut out).is_ok() {
+        println!(rt;
+            "played back: {} things, by {} bytes",
+            out.len(),
+            stream.len()
+        )?;
     }
     Ok(())
 }

@@ -4,6 +4,7 @@ ghost use Rattle.std.specs.Prelude.{◌≤◌, IfOk};
 ghost use Rattle.ei_types.specs.Capability.{bits_of, all_bits};
 
 use crate::items::items_of;
+use crate::playing::play;
 use crate::seats::{Keys, second_seat};
 use ei_backend::{Pieces, Readings, Tray};
 use ei_replay::{ReplayError, check};
@@ -27,6 +28,7 @@ impl Answers for Calls {
             "serve" => self.serve(alloc, rest),
             "second-seat" => self.second_seat(alloc, rest),
             "check" => self.check(alloc, rest),
+            "replay" => self.replay(alloc, rest),
             _ => Err(Stop::Line),
         }
     }
@@ -88,6 +90,16 @@ impl Calls {
             Err(ReplayError::NotReplayable(place)) => format!(in alloc; "wrong {place}")?,
             Err(ReplayError::NoMemory) => return Err(Stop::Call),
         })
+    }
+
+    /// `replay CAPABILITIES`: plays the record back, or with `: ITEM ; ITEM ..` behind it these items.
+    fn replay(&mut self, alloc: Global, rest: &str) -> Result<String, Stop> {
+        let (bits, items) = first(rest);
+        let setup = setup_of(bits)?;
+        match items.strip_prefix(':') {
+            Some(items) => play(alloc, &setup, &items_of(alloc, &self.keys, items)?),
+            None => play(alloc, &setup, &self.record),
+        }
     }
 }
 

@@ -3,8 +3,8 @@
 use crate::seats::Keys;
 use ei_request::{
     Bind, Button, Device, DeviceClosed, DeviceStartEmulating, DeviceStopEmulating, EisRequest,
-    Frame, GesturePinch, PointerMotion, Ready, RequestDevice, Seat, TextUtf8, TouchCancel,
-    TouchDown, TouchMotion, TouchUp,
+    Frame, GesturePinch, GestureSwipe, PointerMotion, Ready, RequestDevice, Seat, TextUtf8,
+    TouchCancel, TouchDown, TouchMotion, TouchUp,
 };
 use ei_types::{ButtonState, DeviceCapabilities};
 use ei_wire::{EiText, RawFloat};
@@ -111,13 +111,13 @@ fn naming(keys: &Keys, name: &str, place: &str) -> Result<EisRequest, Stop> {
     })
 }
 
-/// `frame DEVICE TIME`, `button DEVICE TIME`, `motion DEVICE TIME`, `pinch DEVICE TIME`, and with a touch or a length before the
-/// time `down`, `move`, `up`, `cancel` and `text`.
+/// `frame DEVICE TIME`, `button DEVICE TIME`, `motion DEVICE TIME`, `swipe DEVICE TIME`, `pinch DEVICE TIME`, and with a touch or a
+/// length before the time `down`, `move`, `up`, `cancel` and `text`.
 fn timed(alloc: Global, keys: &Keys, name: &str, rest: &str) -> Result<EisRequest, Stop> {
     let (place, rest) = first(rest);
     let device = device_at(keys, place)?;
     match name {
-        "frame" | "button" | "motion" | "pinch" => plain(name, device, id(rest)?),
+        "frame" | "button" | "motion" | "swipe" | "pinch" => plain(name, device, id(rest)?),
         _ => {
             let (touch, time) = first(rest);
             touching(alloc, name, device, number(touch)?, id(time)?)
@@ -137,6 +137,13 @@ fn plain(name: &str, device: Device, time: u64) -> Result<EisRequest, Stop> {
             time,
             button: 272,
             state: ButtonState::Press,
+        }),
+        "swipe" => EisRequest::GestureSwipe(GestureSwipe {
+            device,
+            time,
+            fingers: 3,
+            dx: RawFloat(0),
+            dy: RawFloat(0),
         }),
         "pinch" => EisRequest::GesturePinch(GesturePinch {
             device,

@@ -1,10 +1,11 @@
 //! Tests of records: a table of calls, read from the standard input. Nothing stands on this program: it holds tests alone.
 //!
-//! `serve` makes a record, `check` tests it, or a list of items that the line spells. Begin with `calls`.
+//! `serve` makes a record, `check` tests it, or a list of items that the line spells, and `replay` plays it. Begin with `calls`.
 #![tactic(auto)]
 
 mod calls;
 mod items;
+mod playing;
 mod seats;
 
 use crate::calls::Calls;

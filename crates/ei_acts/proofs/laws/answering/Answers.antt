@@ -1,4 +1,4 @@
-use Rattle.ei_acts.proofs.Sending.{sync_sends, seat_release_sends, interface_release_sends, device_goes_sends, seat_goes_sends, seat_comes_sends}
+use Rattle.ei_acts.proofs.Sending.{sync_sends, seat_release_sends, interface_release_sends}
 use Rattle.ei_acts.proofs.laws.answering.Goals as goal
 
 pub returns : goal.returns
@@ -6,7 +6,4 @@ returns c = record {
   sync = sync_sends;
   seat_release = seat_release_sends;
   interface_release = interface_release_sends;
-  device_goes = device_goes_sends;
-  seat_goes = seat_goes_sends;
-  seat_comes = seat_comes_sends;
 }

@@ -1,4 +1,5 @@
 use Rattle.ei_acts.proofs.Sending.{resumed_sends, paused_sends, start_sends, stop_sends, frame_sends, invalid_sends}
+use Rattle.ei_acts.proofs.Inputting.{input_sends}
 use Rattle.ei_acts.proofs.laws.telling.Goals as goal
 
 pub returns : goal.returns
@@ -9,4 +10,5 @@ returns c = record {
   stop_emulating = stop_sends;
   frame = frame_sends;
   invalid_object = invalid_sends;
+  input = input_sends;
 }

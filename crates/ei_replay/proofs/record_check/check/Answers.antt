@@ -1,9 +1,7 @@
-use Rattle.std.proofs.Common.{◌≡◌, ◌<◌, ◌≤◌, length, map, slice_get, Some, subst, sym, ◌∙◌, ap, arith}
-use Rattle.std.proofs.lemmas.Bool.Decides.{nat_tests}
+use Rattle.std.proofs.Common.{◌≡◌, map, slice_get, Some, subst, sym, ◌∙◌, arith}
 use Rattle.ei_serve.specs.Standing.{setup_of}
 use Rattle.ei_replay.specs.Asked.{asked_of}
 use Rattle.ei_replay.specs.Steps.{step_of, IsNamed}
-use Rattle.ei_replay.specs.Played.{wrong_at}
 use Rattle.ei_replay.proofs.Checking.{seen_at, all_seen, stops, one_more, at_end}
 use Rattle.ei_replay.proofs.record_check.check.Goals as goal
 

@@ -1,6 +1,6 @@
 use Rattle.std.proofs.Common.{◌≡◌, ap, subst, sym, ◌∙◌, get_or, take, List}
 use Rattle.ei_world.specs.declared.run.Step.{Step}
-use Rattle.ei_world.specs.TwoEnds.{WorldView}
+use Rattle.ei_linked.specs.TwoEnds.{WorldView}
 use Rattle.ei_world.specs.Steps.{Accepts, after_step, after_steps}
 use Rattle.ei_world.proofs.Running.{accepted_more, after_more, stays_whole}
 use Rattle.ei_world.proofs.world.World.run.Goals as goal

@@ -1,0 +1,9 @@
+pub mod Sending
+pub mod Fronts
+pub mod Stepping
+pub mod AllWhole
+pub mod Running
+pub mod OtherAnswer
+pub mod Queued
+pub mod Hearing
+pub mod Accounting
