@@ -76,6 +76,7 @@ taken_of target code values announced events i told tnew step answer within s = 
   shorter = fewer i.bytes step.bytes answer within s.shorter;
   err = stays i step answer s.err_step;
   err_table = s.err;
+  memory = s.memory;
 }
 
 pub taken_next : {M : Type 0} (target : M → ObjectView) (code : M → ℕ) (values : M → List Value) (announced : M → Option ObjectView) (events : Bool)

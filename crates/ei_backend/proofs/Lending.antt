@@ -61,6 +61,7 @@ untouched_sink l = record {
   write_fault = λ f. absurd f;
   write_risen = λ r. absurd (omega (arith, r));
   write_faults = omega arith;
+  write_wants = omega arith;
   later_sink = l;
 }
 
@@ -71,6 +72,7 @@ sink_as to from h = record {
   write_fault = λ f. h.write_fault (from f);
   write_risen = λ r. to (h.write_risen r);
   write_faults = h.write_faults;
+  write_wants = h.write_wants;
   later_sink = h.later_sink;
 }
 
@@ -82,6 +84,7 @@ sink_twice trans none first second = record {
   write_fault = λ f. rose_since _ _ _ first.write_faults (second.write_fault f);
   write_risen = λ r. second.write_risen (omega (arith, r, not_risen first.write_risen none));
   write_faults = omega (arith, first.write_faults, second.write_faults);
+  write_wants = omega (arith, first.write_wants, second.write_wants);
   later_sink = trans _ _ _ first.later_sink second.later_sink;
 }
 

@@ -3,7 +3,6 @@ pub mod Equal
 pub mod OwnAndPeer
 pub mod Kept
 pub mod GivenOnce
-pub mod GivenParts
 pub mod FirstObject
 pub mod Sending
 pub mod InWords
@@ -21,5 +20,6 @@ pub mod FoundAfter
 pub mod NextIs
 pub mod ShortRows
 pub mod TypedRead
+pub mod TextsWant
 pub mod IdRoom
 pub mod Lending

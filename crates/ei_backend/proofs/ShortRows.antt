@@ -12,7 +12,7 @@ use Rattle.ei_spec.specs.Table.{table}
 use Rattle.ei_spec.specs.Arguments.{AreOf}
 use Rattle.ei_spec.specs.Message.{message, size}
 use Rattle.ei_spec.proofs.EachInterface.{each_row, of_each_row}
-use Rattle.ei_backend.specs.Typed.{is_text}
+use Rattle.ei_backend.specs.Message.{is_text}
 
 -- ---- the rows
 

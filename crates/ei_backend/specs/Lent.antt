@@ -14,10 +14,12 @@ pub record LentSource {S : Type 0} (view : S → SourceView) (later : S → S �
   pub later_source : later old new
 
 -- A sink. A write fault is answered only where its count of faults rose, or stands at its last value, and wherever the count rose.
+-- Neither this count nor that of its wants has fallen.
 pub record LentSink {K : Type 0} (view : K → SinkView) (later : K → K → Type 0) (failed : Type 0) (old new : K) : Type 0 where
   pub write_fault : failed → Rose (view old).faults (view new).faults
   pub write_risen : (view old).faults < (view new).faults → failed
   pub write_faults : (view old).faults ≤ (view new).faults
+  pub write_wants : (view old).wants ≤ (view new).wants
   pub later_sink : later old new
 
 -- A sink whose wants of memory are told apart from other wants. Want of memory is answered only where its count of wants rose, or
@@ -26,7 +28,6 @@ pub record LentSinkWants {K : Type 0} (view : K → SinkView) (later : K → K �
   pub lent : LentSink view later failed old new
   pub want : wanted → Rose (view old).wants (view new).wants
   pub want_risen : (view old).wants < (view new).wants → wanted
-  pub want_count : (view old).wants ≤ (view new).wants
 
 -- A clock.
 pub record LentClock {C : Type 0} (later : C → C → Type 0) (old new : C) : Type 0 where

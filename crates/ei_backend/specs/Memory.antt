@@ -1,4 +1,4 @@
--- What a source, a sink, an input and a clock in memory show, and how they count.
+-- What a source, a sink and a clock in memory show, and how they count.
 use Rattle.std.specs.Prelude.{◌≡◌, ◌<◌, ◌≤◌, ◌↔◌, ℕ, ◌+◌, ◌-◌, ◌^◌, min, List, [], ◌∷◌, ◌++◌, length, Contains, Result, Ok, Err, Some, refl}
 use Rattle.std.proofs.Common.{◌∙◌}
 use Rattle.ei_spec.specs.Piece.{Piece}
@@ -6,7 +6,7 @@ use Rattle.ei_backend.specs.declared.outside.PutError.{PutError}
 use Rattle.ei_backend.specs.declared.outside.PutError.TheVariants as put_errors
 use Rattle.ei_backend.specs.declared.outside.Taken.{Taken}
 use Rattle.ei_backend.specs.declared.outside.LastAnswer.{LastAnswer}
-use Rattle.ei_backend.specs.Outside.{SourceView, SinkView, InputView, ClockView}
+use Rattle.ei_backend.specs.Outside.{SourceView, SinkView, ClockView}
 use Rattle.ei_spec.specs.declared.limits.TheConstants.{MOST_PIECE_BYTES, MOST_PIECE_HANDLES}
 
 -- the calls that fail, by their numbers, and the calls and faults so far
@@ -28,13 +28,6 @@ pub record TrayView : Type 0 where
   pub puts : List Piece
   pub failing : FailingView
   pub wants : ℕ
-
--- an input: the text left, the bytes given, which calls fail, the last answer
-pub record TextView : Type 0 where
-  pub left : List ℕ
-  pub given : List ℕ
-  pub failing : FailingView
-  pub last : LastAnswer
 
 -- a clock: the readings left
 pub record ReadingsView : Type 0 where
@@ -100,10 +93,6 @@ source_of p = record { left = Some p.left; given = p.given; faults = p.failing.f
 -- a sink in memory tells all that it took, and all that was put to it
 abbrev pub sink_of : TrayView → SinkView
 sink_of t = record { taken = Some t.held; puts = Some t.puts; faults = t.failing.faults; wants = t.wants }
-
--- a text in memory tells all of itself
-abbrev pub input_of : TextView → InputView
-input_of t = record { left = Some t.left; given = t.given; faults = t.failing.faults; asked = t.failing.calls; last = t.last }
 
 -- a clock in memory tells all its readings, and never fails
 abbrev pub clock_of : ReadingsView → ClockView

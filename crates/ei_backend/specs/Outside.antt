@@ -1,4 +1,4 @@
--- What the calls of a source, a sink, an input and a clock do.
+-- What the calls of a source, a sink and a clock do.
 use Rattle.std.specs.Prelude.{◌≡◌, ◌<◌, ◌≤◌, ℕ, zero, suc, ◌+◌, ◌-◌, ◌^◌, min, Bool, true, false, List, [], ◌∷◌, ◌++◌, length, take, drop}
 use Rattle.std.specs.Prelude.{slice_get, slice_index}
 use Rattle.std.specs.Prelude.{Option, Some, Result, Ok, Err, OnOk, OnErr, IsErrOf}
@@ -65,15 +65,6 @@ pub record SinkView : Type 0 where
   pub puts : Option (List Piece)
   pub faults : ℕ
   pub wants : ℕ
-
--- an input: the text that it has left, where it tells it, and the bytes that it gave so far, one after another; how often it
--- failed, and how often it was asked; and what it answered last
-pub record InputView : Type 0 where
-  pub left : Option (List ℕ)
-  pub given : List ℕ
-  pub faults : ℕ
-  pub asked : ℕ
-  pub last : LastAnswer
 
 -- a clock: the readings that it has left, where it tells them, and how often it failed
 pub record ClockView : Type 0 where
@@ -147,38 +138,6 @@ pub record IsPut (old new : SinkView) (result : Result ℕ PutError) (bytes : Li
 pub record IsPutSize (n : ℕ) (bytes : List ℕ) : Type 0 where
   pub at_most : n ≤ length bytes
   pub at_least : 0 < length bytes → 0 < n
-
--- ---- an input's fetch
-
--- the next bytes of a text
-pub record ReadsOn (text : List ℕ) (new : Option (List ℕ)) (n : ℕ) (bytes : List ℕ) : Type 0 where
-  pub left : new ≡ Some (drop n text)
-  pub read : take n bytes ≡ take n text
-  pub within : n ≤ length text
-  pub ends : n ≡ 0 → text ≡ []
-
--- where an input told its text, it gave the next bytes; a fault leaves it
-abbrev pub Fetches : Option (List ℕ) → Option (List ℕ) → Result ℕ Fault → List ℕ → Type 0
-Fetches old new (Ok n) bytes = (text : List ℕ) → old ≡ Some text → ReadsOn text new n bytes
-Fetches old new (Err e) bytes = (text : List ℕ) → old ≡ Some text → new ≡ Some text
-
--- told or not, an input has given what it gave before, and then the first n bytes; a fault gives none
-abbrev pub Gives : List ℕ → List ℕ → Result ℕ Fault → List ℕ → Type 0
-Gives old new (Ok n) bytes = new ≡ old ++ take n bytes
-Gives old new (Err e) bytes = new ≡ old
-
--- the answer that an input keeps after a fetch
-abbrev pub last_fetched : Result ℕ Fault → LastAnswer
-last_fetched (Err e) = answers.Fault
-last_fetched (Ok n) = answer_at n
-
--- what a fetch does to what the input says
-pub record IsFetch (old new : InputView) (result : Result ℕ Fault) (bytes : List ℕ) : Type 0 where
-  pub text : Fetches old.left new.left result bytes
-  pub given : Gives old.given new.given result bytes
-  pub cause : HasCause old.faults new.faults result
-  pub asked : CountsOne old.asked new.asked
-  pub last : new.last ≡ last_fetched result
 
 -- whether the last answer was the end
 abbrev pub is_end : LastAnswer → Bool

@@ -1,11 +1,13 @@
 -- A step of reading: what stood at the front, and what it took.
-use Rattle.std.specs.Prelude.{◌≡◌, ℕ, ◌<◌, Bool, List, drop, Option, Some, None, Result, IfOk, OnErr}
+use Rattle.std.specs.Prelude.{◌≡◌, ℕ, ◌<◌, Bool, true, List, drop, Option, Some, None, Result, IfOk, OnErr}
 use Rattle.ei_spec.specs.declared.handle.Handle.{Handle}
 use Rattle.ei_spec.specs.Interface.{ObjectView}
 use Rattle.ei_spec.specs.Value.{Value}
 use Rattle.ei_wire.specs.declared.error.NoMemory.{NoMemory}
 use Rattle.ei_wire.specs.declared.error.ParseError.TheVariants as error
+use Rattle.ei_spec.specs.Message.{front}
 use Rattle.ei_backend.specs.Table.{TableView}
+use Rattle.ei_backend.specs.Message.{front_wants}
 use Rattle.ei_backend.specs.Incoming.{IncomingView}
 use Rattle.ei_backend.specs.Backend.{BackendView, next, Answers, Brings, Shortens}
 use Rattle.ei_backend.specs.declared.reading.Step.{Step}
@@ -38,6 +40,7 @@ pub record TakesNext {M : Type 0} (target : M → ObjectView) (code : M → ℕ)
   pub shorter : IfOk answer (λ said. Shortens old.bytes new.bytes said)
   pub err : OnErr answer (new ≡ old)
   pub err_table : OnErr answer (tnew ≡ told)
+  pub memory : OnErr answer (front_wants events told (front old.bytes) ≡ true)
 
 -- what reading the message at the front of this unread did to the table, with the step that it takes and what it answered
 pub record Steps {M : Type 0} (target : M → ObjectView) (code : M → ℕ) (values : M → List Value) (announced : M → Option ObjectView) (events : Bool)
@@ -48,3 +51,4 @@ pub record Steps {M : Type 0} (target : M → ObjectView) (code : M → ℕ) (va
   pub shorter : IfOk answer (λ said. TakesSome said step.bytes)
   pub err : OnErr answer (new ≡ old)
   pub err_step : OnErr answer (step ≡ no_step)
+  pub memory : OnErr answer (front_wants events old (front bytes) ≡ true)

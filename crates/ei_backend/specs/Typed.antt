@@ -1,14 +1,15 @@
 -- A message that one end sent as a row of the table of messages, and the other end, which reads it.
-use Rattle.std.specs.Prelude.{◌≡◌, ℕ, ◌<◌, ◌≤◌, ◌^◌, Bool, true, false, not, List, ◌++◌, Option, Some, None, IfSome}
+use Rattle.std.specs.Prelude.{◌≡◌, ℕ, ◌<◌, ◌≤◌, ◌^◌, Bool, true, not, List, ◌++◌, Option, Some, None, IfSome}
 use Rattle.std.specs.List.{flat_map, list_any}
 use Rattle.ei_spec.specs.declared.interface.KnownInterface.{KnownInterface}
-use Rattle.ei_spec.specs.Value.{Kind, Text, Nullable, Value, handles_of}
+use Rattle.ei_spec.specs.Value.{Kind, Value, handles_of}
 use Rattle.ei_spec.specs.Interface.{Known, ObjectView, named}
 use Rattle.ei_spec.specs.Rows.{Row, Announces, Nothing, Fixed, Named, row_named, new_id, version_of, name_in}
 use Rattle.ei_spec.specs.Table.{table}
 use Rattle.ei_spec.specs.Message.{message, bytes_of}
 use Rattle.ei_spec.specs.Piece.{Piece}
 use Rattle.ei_backend.specs.Table.{Announced, found, own_end}
+use Rattle.ei_backend.specs.Message.{is_text}
 use Rattle.ei_backend.specs.Backend.{BackendView, Message, next, after_row, unsent_of}
 use Rattle.ei_backend.specs.Step.{reading}
 use Rattle.ei_backend.specs.Sends.{AreOfRow, IsNew, row_size}
@@ -34,12 +35,6 @@ new_object Named kinds values client =
 -- the same of a message of a row
 abbrev pub new_of : Row → List Value → Bool → Option ObjectView
 new_of r values client = new_object r.announces r.kinds values client
-
--- whether an argument of the kind is a text
-abbrev pub is_text : Kind → Bool
-is_text Text = true
-is_text Nullable = true
-is_text k = false
 
 -- What an end knows that sent a message of the row of that name to a target: what the clause of the call says, that a
 -- message with a text isn't too long, and that a new id in it is the end's next one, of which one was left.

@@ -3,7 +3,7 @@
 ghost use Rattle.std.specs.Prelude.{◌≡◌, ℕ, ◌+◌, ◌-◌, ◌≤◌, ◌<◌, ◌^◌, ◌↔◌, true, false, List, [], length, drop, None, IsOk, IfOk, OnErr, OnOk, IfSome, Ok, Err};
 ghost use Rattle.std.specs.Prelude.{Some, IsErrOf, IsTrue, IsSome, map, if◌then◌else◌};
 ghost use Rattle.std.specs.Option.{option_copied};
-ghost use Rattle.ei_spec.specs.Message.{message, size};
+ghost use Rattle.ei_spec.specs.Message.{message, size, front};
 ghost use Rattle.ei_wire.specs.Gives.{Gives, value_of_arg};
 ghost use Rattle.ei_wire.specs.declared.error.ParseError.TheVariants as error;
 ghost use Rattle.ei_wire.specs.declared.error.SendError.TheVariants as send_error;
@@ -13,6 +13,7 @@ ghost use Rattle.ei_backend.specs.declared.outside.LastAnswer.TheVariants as ans
 ghost use Rattle.ei_backend.specs.Object.{interface_view, HasFixedName};
 ghost use Rattle.ei_backend.specs.Table.{Announced, new_table, first_object, first_server_id, found, accept, own, own_end, own_start, own_limit};
 ghost use Rattle.ei_backend.specs.Outgoing.{nothing, Flushes, HasRoomFor};
+ghost use Rattle.ei_backend.specs.Message.{front_wants};
 ghost use Rattle.ei_backend.specs.Backend.{new_backend, Reads, next, Answers, Brings, Shortens, sent, sent_new, with_object, with_room};
 ghost use Rattle.ei_backend.specs.Backend.{body_read, Says, removed, closed_of, unsent_of, with_unsent};
 ghost use Rattle.ei_spec.specs.declared.limits.TheConstants.{MOST_MESSAGE_BYTES, MOST_PIECE_BYTES};
@@ -122,7 +123,8 @@ impl Backend {
     /// The next message that is whole, taken out, if there is one.
     ///
     /// A message to no object and one that is refused are taken out too. An unlawful length takes nothing
-    /// out. Where memory runs out, nothing changes.
+    /// out. Where memory runs out, nothing changes; that is only where the message has a text or announces an
+    /// object, or its target's interface isn't a known one.
     #[inline(always)]
     pub fn pending<T: MessageEnum>(&mut self) -> Result<Option<PendingRequestResult<T>>, NoMemory>
     where
@@ -132,6 +134,7 @@ impl Backend {
         ensures shorter { IfOk result (λ answer. Shortens self.old.unread self.new.unread answer) }
         ensures few_left { result ≡ Ok None → length self.new.unread < MOST_MESSAGE_BYTES }
         ensures err { OnErr result (self.new ≡ self.old) }
+        ensures memory { OnErr result (front_wants T.events self.old.table (front self.old.unread) ≡ true) }
     {
         self.incoming.next(self.alloc, &mut self.table)
     }

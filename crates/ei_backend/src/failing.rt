@@ -9,7 +9,7 @@ use std::marker::Model;
 
 /// The calls that fail, by their numbers from 1; how many calls there were, and how many of them failed.
 #[derive(Drop)]
-pub(crate) struct Failing {
+pub struct Failing {
     numbers: Vec<u64>,
     count: u64,
     failed: u64,
@@ -25,7 +25,7 @@ impl Model for Failing {
 
 impl Failing {
     /// No call fails.
-    pub(crate) fn never(alloc: Global) -> Failing
+    pub fn never(alloc: Global) -> Failing
         ensures { result ≡ never_failing }
     {
         Failing {
@@ -36,7 +36,7 @@ impl Failing {
     }
 
     /// The call of that number fails.
-    pub(crate) fn add(&mut self, call: u32) -> Result<(), NoMemory>
+    pub fn add(&mut self, call: u32) -> Result<(), NoMemory>
         ensures ok { OnOk result (self.new ≡ added call self.old) }
         ensures err { OnErr result (self.new ≡ self.old) }
     {
@@ -45,7 +45,7 @@ impl Failing {
     }
 
     /// Counts a call, and answers whether it fails.
-    pub(crate) fn fails_next(&mut self) -> bool
+    pub fn fails_next(&mut self) -> bool
         ensures { CountsCall (IsTrue result) self.old self.new }
     {
         self.count = self.count.saturating_add(1);

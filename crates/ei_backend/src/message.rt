@@ -1,13 +1,13 @@
 //! Typed messages.
 
-ghost use Rattle.std.specs.Prelude.{◌≡◌, ℕ, Bool, List, Option, None, IfSome, IfOk, OnErr, map};
+ghost use Rattle.std.specs.Prelude.{◌≡◌, ℕ, Bool, true, List, Option, None, IfSome, IfOk, IfErr, OnErr, map};
 ghost use Rattle.ei_spec.specs.Value.{Value};
 ghost use Rattle.ei_spec.specs.Interface.{ObjectView};
 ghost use Rattle.ei_backend.specs.Shown.{shown, shown_of_arg};
-ghost use Rattle.ei_wire.specs.Gives.{value_of_arg};
+ghost use Rattle.ei_wire.specs.Gives.{value_of_arg, WhereFull};
 ghost use Rattle.ei_wire.specs.Rows.{ReadsArguments};
 ghost use Rattle.ei_backend.specs.Table.{Announced};
-ghost use Rattle.ei_backend.specs.Message.{Parsed, ReadsWhole, message_read};
+ghost use Rattle.ei_backend.specs.Message.{Parsed, ReadsWhole, message_read, message_wants};
 
 use crate::object::Object;
 use crate::table::Table;
@@ -30,6 +30,8 @@ pub trait MessageEnum: Sized {
     ghost announced: { Self → Option ObjectView } = { λ _. None };
 
     /// Reads the arguments of the opcode to the object, and announces its new object.
+    ///
+    /// `NoMemory` only where the message has a text or announces an object, or the object's interface isn't a known one.
     fn parse(
         alloc: Global,
         object: Object,
@@ -42,7 +44,8 @@ pub trait MessageEnum: Sized {
             (message_read events object.interface opcode bytes.old table.old) }
         ensures target { IfOk result (λ m. (target m ≡ object) × (code m ≡ opcode)) }
         ensures announced { IfOk result (λ m. Announced (announced m) table.old table.new) }
-        ensures err { OnErr result (table.new ≡ table.old) };
+        ensures err { OnErr result (table.new ≡ table.old) }
+        ensures memory { IfErr result (WhereFull (message_wants events object.interface opcode ≡ true)) };
 
     /// Reads the same, if the message is lawful, announces nothing, and nothing is left. `None` says nothing, nor where the
     /// stream stands then: `parse` reads the message from its beginning, or says what is wrong. An `impl` may leave it out.

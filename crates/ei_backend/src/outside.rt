@@ -1,12 +1,12 @@
-//! The traits of the outside: where pieces come from, where bytes go, a text and a clock.
+//! The traits of the outside: where pieces come from, where bytes go, and a clock.
 //!
 //! Each has one view, which says all that it tells of itself, and a relation "later" between two of its values, which every call
-//! keeps. What it has left, and what it took or was put, is told or not, as the type likes. What it gave, every source and every
-//! input says. Each counts its faults: the count goes up with each fault, unless it stands at its last value, and
-//! stays at every other answer. A sink counts its wants of memory in the same way, a source and an input their calls.
+//! keeps. What it has left, and what it took or was put, is told or not, as the type likes. What it gave, every
+//! source says. Each counts its faults: the count goes up with each fault, unless it stands at its last value, and
+//! stays at every other answer. A sink counts its wants of memory in the same way, a source its calls.
 
 ghost use Rattle.std.specs.Prelude.{◌≡◌, ◌<◌, ◌≤◌, length, IfOk};
-ghost use Rattle.ei_backend.specs.Outside.{SourceView, SinkView, InputView, ClockView, IsPieceSize, IsTake, IsPutSize, IsPut, IsFetch, IsReading};
+ghost use Rattle.ei_backend.specs.Outside.{SourceView, SinkView, ClockView, IsPieceSize, IsTake, IsPutSize, IsPut, IsReading};
 ghost use Rattle.ei_backend.specs.Outside.{answer_at};
 ghost use Rattle.ei_spec.specs.declared.limits.TheConstants.{MOST_PIECE_BYTES, MOST_PIECE_HANDLES};
 
@@ -95,29 +95,6 @@ pub trait Sink {
     fn put(&mut self, bytes: &[u8], handles: &[Handle]) -> Result<usize, PutError>
         ensures size { IfOk result (λ n. IsPutSize n bytes.now) }
         ensures puts { IsPut (view self.old) (view self.new) result bytes.now handles.now }
-        ensures later { later self.old self.new };
-
-    ghost later_refl: { (x : Self) → later x x };
-
-    ghost later_trans: { (x y z : Self) → later x y → later y z → later x z };
-}
-
-/// A text that comes in parts.
-pub trait Input {
-    /// What it says of itself: its text, its faults, how often it was asked, and its last answer.
-    ghost view: { Self → InputView };
-
-    /// The second may come of the first by calls of this trait.
-    ghost later: { Self → Self → Type 0 };
-
-    /// The next bytes of the text, at the front of the slice: at least one where any is left, none at
-    /// the end.
-    ///
-    /// `Fault` where the input failed; then it moved nothing.
-    fn fetch(&mut self, bytes: &mut [u8]) -> Result<usize, Fault>
-        requires { 0 < length bytes.old }
-        ensures size { IfOk result (λ n. n ≤ length bytes.new) }
-        ensures fetches { IsFetch (view self.old) (view self.new) result bytes.new }
         ensures later { later self.old self.new };
 
     ghost later_refl: { (x : Self) → later x x };

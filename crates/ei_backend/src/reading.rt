@@ -1,6 +1,6 @@
 //! Reading the message at the front of what is unread, in place.
 
-ghost use Rattle.std.specs.Prelude.{◌≡◌, ◌≤◌, ◌<◌, ◌+◌, ℕ, List, [], length, ◌↔◌, take, drop, IfSome, IfOk, OnErr, Ok, Some, None};
+ghost use Rattle.std.specs.Prelude.{◌≡◌, ◌≤◌, ◌<◌, ◌+◌, ℕ, true, List, [], length, ◌↔◌, take, drop, IfSome, IfOk, OnErr, Ok, Some, None};
 ghost use Rattle.ei_wire.specs.declared.error.ParseError.TheVariants as error;
 ghost use Rattle.circular_buffer.specs.Buffer.{buffer};
 ghost use Rattle.ei_spec.specs.Message as message;
@@ -9,6 +9,7 @@ ghost use Rattle.ei_backend.specs.declared.front.TheConstants.{HEADER_BYTES};
 ghost use Rattle.ei_backend.specs.declared.message.PendingRequestResult.TheVariants as pending;
 ghost use Rattle.ei_backend.specs.Front.{front_view, front_len, IsSound};
 ghost use Rattle.ei_backend.specs.Table.{found};
+ghost use Rattle.ei_backend.specs.Message.{message_wants};
 ghost use Rattle.ei_backend.specs.Backend.{BackendView, Message, body_read, of_outcome, of_target, next, Answers, Brings, Shortens};
 ghost use Rattle.ei_backend.specs.Step.{reading, no_step, TakesNext, TakesSome, Steps};
 
@@ -293,6 +294,7 @@ where
     ensures some { (n : ℕ) → 0 < n → IfOk result (λ said. TakesSome said n) }
     ensures err { OnErr result (table.new ≡ table.old) }
     ensures err_taken { OnErr result (taken.new ≡ 0) }
+    ensures memory { OnErr result (message_wants T.events target.interface opcode ≡ true) }
 {
     let mut stream = ByteStream::new(alloc, body, handles);
     let parsed = T::parse(alloc, target, opcode, &mut stream, table);

@@ -1,9 +1,11 @@
 //! The events of a server.
 
-ghost use Rattle.std.specs.Prelude.{◌≡◌, true, IfSome, IfOk, OnErr};
+ghost use Rattle.std.specs.Prelude.{◌≡◌, true, IfSome, IfOk, IfErr, OnErr};
 ghost use Rattle.ei_client.specs.Event.{target_of, opcode_of, values_of, announced_of};
 ghost use Rattle.ei_client.specs.Asked.{IsToKnown, IsAsked};
 ghost use Rattle.ei_spec.specs.Interface.{Known};
+ghost use Rattle.ei_wire.specs.Gives.{WhereFull};
+ghost use Rattle.ei_backend.specs.Message.{message_wants};
 ghost use Rattle.ei_backend.specs.Proxies.{Announced, ReadsRow};
 
 use crate::button::{self, Button};
@@ -198,6 +200,7 @@ fn parse_known(
     ensures target { IfOk result (λ m. (target_of m ≡ object.now) × (opcode_of m ≡ opcode)) }
     ensures announced { IfOk result (λ m. Announced (announced_of m) table.old table.new) }
     ensures err { OnErr result (table.new ≡ table.old) }
+    ensures memory { IfErr result (WhereFull (message_wants true (Known known) opcode ≡ true)) }
 {
     interfaces!(read_event(known, object, opcode, bytes, table))
 }

@@ -21,7 +21,7 @@ macro_rules! read_row {
 }
 
 /// Reads the row of that opcode, if it is lawful: `rows!(read_lawful(opcode, bytes))`. A row that bears a handle, announces an
-/// object, or has more than three arguments is left to `read_row`.
+/// object, or has a text alone or more than three arguments is left to `read_row`. A text would need the bytes in memory.
 macro_rules! read_lawful {
     (
         ($opcode:ident, $bytes:ident)
@@ -44,6 +44,9 @@ macro_rules! lawful_fields {
         None
     };
     ($bytes:ident, $message:ident::$row:ident { $a:ident: new $p:ident }) => {
+        None
+    };
+    ($bytes:ident, $message:ident::$row:ident { $a:ident: Text }) => {
         None
     };
     ($bytes:ident, $message:ident::$row:ident { $a:ident: $ak:ident }) => {{

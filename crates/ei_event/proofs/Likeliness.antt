@@ -1,12 +1,9 @@
 -- What is done the likely way is done.
-use Rattle.std.proofs.Common.{◌≡◌, ℕ, Bool, true, false, List, [], ◌∷◌, Option, Some, None, refl, sym, subst, ap, ◌∙◌}
+use Rattle.std.proofs.Common.{◌≡◌, ℕ, Bool, true, false, List, [], ◌∷◌, Option, Some, None, refl, sym, ap, ◌∙◌}
 use Rattle.std.specs.Prelude.{Ok}
 use Rattle.std.specs.FinMap.{get}
-use Rattle.ei_spec.specs.Interface.{ObjectView}
 use Rattle.ei_input.specs.declared.input_event.InputEvent.{InputEvent}
 use Rattle.ei_client.specs.declared.event.Event.{Event as Typed}
-use Rattle.ei_client.specs.declared.event.Event.TheVariants as event
-use Rattle.ei_client.specs.declared.keyboard.Event.{Event as Keyboard}
 use Rattle.ei_reported.specs.Said.{Said, Inputs}
 use Rattle.ei_following.specs.Core.{refused, closed_group}
 use Rattle.ei_event.specs.Typed.{said_of}
@@ -15,7 +12,7 @@ use Rattle.ei_event.specs.Kept.{DeviceView, KeptView, with_device, added_device,
 use Rattle.ei_event.specs.Handling.{hears_at}
 use Rattle.ei_event.specs.Handles.{Asks, after}
 use Rattle.ei_event.specs.Converter.{ping_in, callback_in}
-use Rattle.ei_event.specs.Likely.{Likely, Types, Bears, HandlesLikely}
+use Rattle.ei_event.specs.Likely.{Likely, Bears, HandlesLikely}
 use Rattle.ei_event.proofs.Setup.{heard, unheard_memory}
 
 -- no made frame, so no reading
@@ -50,12 +47,3 @@ pub heard_likely : (c : KeptView) (id device : ℕ) (i : InputEvent) (d new : De
     Likely (refused (core_of c) (Inputs id i)) c (hears_at c i (owner c id)) b (with_device c device new)
 heard_likely c id device i d new true e some done stays = heard c id device i d new e some (done refl)
 heard_likely c id device i d new false e some done stays = (unheard_memory c id device d new e some (stays refl)).1
-
--- an event of a keyboard that bears an input
-typed_bears : (target : ObjectView) (m : Keyboard) (i : InputEvent) → Types target.id m i → Bears (event.Keyboard target m) target.id i
-typed_bears target m i types = record { says = types.says; leaves = types.leaves; no_callback = refl; no_ping = refl }
-
-pub keyboard_bears : (e : Typed) (target : ObjectView) (m : Keyboard) (i : InputEvent) (id : ℕ) → e ≡ event.Keyboard target m → id ≡ target.id →
-    Types target.id m i → Bears e id i
-keyboard_bears e target m i id is same types =
-    subst (λ (n : ℕ). Bears e n i) (sym same) (subst (λ (x : Typed). Bears x target.id i) (sym is) (typed_bears target m i types))

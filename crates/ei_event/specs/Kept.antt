@@ -1,5 +1,5 @@
 -- What a client's converter keeps of the seats, the devices and their interfaces.
-use Rattle.std.specs.Prelude.{ℕ, Bool, true, false, not, ◌&&◌, List, [], ◌∷◌, ◌++◌, Option, Some, None, ◌==◌, if◌then◌else◌, slice_set, refl}
+use Rattle.std.specs.Prelude.{◌≡◌, ℕ, Bool, true, false, not, ◌&&◌, List, [], ◌∷◌, ◌++◌, Option, Some, None, ◌==◌, if◌then◌else◌, slice_set, refl}
 use Rattle.std.specs.Str.{bytes_eq}
 use Rattle.std.specs.Ordering.{nat_cmp}
 use Rattle.std.specs.FinMap as finite
@@ -143,6 +143,11 @@ owner_of (Some i) = Some i.device
 
 abbrev pub owner : KeptView → ℕ → Option ℕ
 owner c id = owner_of (finite.get c.interfaces id)
+
+-- a device has the interface: what was noted of the last one that was asked for
+abbrev pub IsLast : finite.FinMap nat_cmp InterfaceView → Option (ℕ × ℕ) → Type 0
+IsLast all None = Unit {0}
+IsLast all (Some last) = owner_of (finite.get all last.0) ≡ Some last.1
 
 -- whether the interface is another than that of the device by the name
 abbrev pub is_other : ℕ → List ℕ → InterfaceView → Bool

@@ -3,22 +3,16 @@ use Rattle.std.specs.Prelude.{◌≡◌, ℕ, Bool, true, false, List, Option, N
 use Rattle.ei_types.specs.declared.error.EventError.{EventError}
 use Rattle.ei_input.specs.declared.input_event.InputEvent.{InputEvent}
 use Rattle.ei_client.specs.declared.event.Event.{Event as Typed}
-use Rattle.ei_client.specs.declared.keyboard.Event.{Event as Keyboard}
 use Rattle.ei_reported.specs.Said.{Inputs}
-use Rattle.ei_event.specs.Typed.{said_of, keyboard_says}
+use Rattle.ei_event.specs.Typed.{said_of}
 use Rattle.ei_event.specs.Kept.{KeptView}
-use Rattle.ei_event.specs.Handles.{Handles, after, after_said, after_keyboard}
+use Rattle.ei_event.specs.Handles.{Handles, after, after_said}
 use Rattle.ei_event.specs.Converter.{ping_in, callback_in}
 
 -- at `true` there is no reason to refuse it, and it leaves that; at `false` all stays
 abbrev pub Likely : Option EventError → KeptView → KeptView → Bool → KeptView → Type 0
 Likely reason old left true new = (reason ≡ None) × (new ≡ left)
 Likely reason old left false new = new ≡ old
-
--- an event of a keyboard bears this input
-pub record Types (id : ℕ) (m : Keyboard) (i : InputEvent) : Type 0 where
-  pub says : keyboard_says id m ≡ Inputs id i
-  pub leaves : (c : KeptView) (time : ℕ) → after_keyboard c id m time ≡ after_said c (Inputs id i) time
 
 -- an event bears this input of the interface of that id
 pub record Bears (e : Typed) (id : ℕ) (i : InputEvent) : Type 0 where

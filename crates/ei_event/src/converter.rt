@@ -71,10 +71,34 @@ impl<H: Call> EiEventConverter<H> {
         if self.kept.take_likely(&event) {
             return Ok(());
         }
-        self.handle_rare(ctx, clock, event)
+        self.handle_unlikely(ctx, clock, event)
     }
 
-    /// The same, of any event.
+    /// The same, of any event. Its answer is said to a place of its own first, so that the caller's needn't be in memory.
+    #[inline(always)]
+    fn handle_unlikely<C: Clock>(
+        &mut self,
+        ctx: &mut Context,
+        clock: &mut C,
+        event: Event,
+    ) -> Result<(), Error>
+        ensures handles { Handles self.old.kept event (C.view clock.old).left (C.view clock.new).left result
+            self.new.kept }
+        ensures kept { OnErr result (clock.new ≡ clock.old) }
+        ensures clock { LentClock C.later clock.old clock.new }
+        // what is sent
+        ensures sends { OnOk result (ctx.new ≡ answered (ping_in event) ctx.old) }
+        ensures unsent { OnErr result (ctx.new ≡ ctx.old) }
+        // which handler is called
+        ensures receipts { Receives H.may_answer (callback_in event) result self.old.waiting self.old.receipts
+            self.new.receipts }
+        ensures handlers { self.new.waiting ≡ without_called (callback_in event) result self.old.waiting }
+    {
+        let answer = self.handle_rare(ctx, clock, event);
+        answer
+    }
+
+    /// The same, by a call of its own.
     #[inline(never)]
     fn handle_rare<C: Clock>(
         &mut self,

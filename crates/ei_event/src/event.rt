@@ -7,10 +7,9 @@ ghost use Rattle.std.specs.Option.{option_copied};
 ghost use Rattle.ei_event.specs.Event.{device_in, timed};
 
 use crate::device::Device;
-use crate::queue::Queue;
 use crate::seat::Seat;
 use ei_input::input_event::{self, InputEvent};
-use ei_input::push_timed;
+use ei_input::{Queue, push_timed};
 use ei_types::DisconnectReason;
 use ei_wire::{EiText, NoMemory};
 use std::alloc::Global;
@@ -332,7 +331,7 @@ fn copy_text(text: &Option<EiText>, alloc: Global) -> Result<Option<EiText>, NoM
 
 /// Queues the event that an input of the device becomes. There is room for it.
 #[inline(always)]
-pub(crate) fn queue_timed(input: InputEvent, queue: &mut Queue, device: &Device, time: u64)
+pub(crate) fn queue_timed(input: InputEvent, queue: &mut Queue<EiEvent>, device: &Device, time: u64)
     requires { 0 < queue.old.room }
     ensures items { queue.new.items ≡ queue.old.items ++ timed device.now time input ∷ [] }
     ensures room { queue.new.room + 1 ≡ queue.old.room }

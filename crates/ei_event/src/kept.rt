@@ -33,14 +33,15 @@ use crate::device::Device;
 use crate::ending::Ending;
 use crate::event::{DeviceAdded, Disconnected, EiEvent, SeatAdded};
 use crate::kept_device::{self, KeptDevice};
-use crate::kept_interface::{self, KeptInterface};
+use crate::kept_interface::KeptInterface;
+use crate::kept_interfaces::KeptInterfaces;
 use crate::kept_seat::{self, KeptSeat};
 use crate::keymap::Keymap;
-use crate::queue::Queue;
 use crate::region::Region;
 use crate::seat::Seat;
 use ei_backend::{Clock, Interface, Object};
 use ei_by_id::ById;
+use ei_input::Queue;
 use ei_input::input_event::InputEvent;
 use ei_spec::KnownInterface;
 use ei_types::{DeviceCapability, DeviceType, DisconnectReason, Error, EventError};
@@ -56,8 +57,8 @@ pub(crate) struct Kept {
     connection: Connection,
     seats: ById<KeptSeat>,
     devices: ById<KeptDevice>,
-    interfaces: ById<KeptInterface>,
-    queue: Queue,
+    interfaces: KeptInterfaces,
+    queue: Queue<EiEvent>,
 }
 
 impl Model for Kept {
@@ -88,7 +89,7 @@ impl Kept {
             connection,
             seats: ById::new(alloc),
             devices: ById::new(alloc),
-            interfaces: ById::new(alloc),
+            interfaces: KeptInterfaces::new(alloc),
             queue: Queue::new(alloc),
         }
     }
@@ -281,7 +282,7 @@ impl Kept {
         ensures { Ends (refused (core_of self.old) (Maps id)) self.old
             (describes_owner self.old (keyed_by keymap) (owner self.old id)) result self.new }
     {
-        let Some(device) = kept_interface::owner(&self.interfaces, id) else {
+        let Some(device) = self.interfaces.owner(id) else {
             return Err(Error::Event(EventError::DeviceSetupEventAfterDone));
         };
         match kept_device::pending_mut(&mut self.devices, device) {
@@ -354,7 +355,22 @@ impl Kept {
         ensures { Likely (refused (core_of self.old) (Inputs id input)) self.old
             (hears_at self.old input (owner self.old id)) result self.new }
     {
-        let Some(device) = kept_interface::owner(&self.interfaces, id) else {
+        let Some(device) = self.interfaces.last_owner(id) else {
+            return self.hear_another(id, input);
+        };
+        let Some(device) = kept_device::added_mut(&mut self.devices, device) else {
+            return false;
+        };
+        device.hear_within(input)
+    }
+
+    /// The same, where the interface isn't the last one.
+    #[inline(never)]
+    fn hear_another(&mut self, id: u64, input: InputEvent) -> bool
+        ensures { Likely (refused (core_of self.old) (Inputs id input)) self.old
+            (hears_at self.old input (owner self.old id)) result self.new }
+    {
+        let Some(device) = self.interfaces.noted_owner(id) else {
             return false;
         };
         let Some(device) = kept_device::added_mut(&mut self.devices, device) else {
@@ -385,7 +401,7 @@ impl Kept {
         ensures { Ends (refused (core_of self.old) (Inputs id input)) self.old
             (hears_at self.old input (owner self.old id)) result self.new }
     {
-        let Some(device) = kept_interface::owner(&self.interfaces, id) else {
+        let Some(device) = self.interfaces.owner(id) else {
             return Err(Error::Event(EventError::DeviceEventBeforeDone));
         };
         match kept_device::added_mut(&mut self.devices, device) {
@@ -507,7 +523,7 @@ impl Kept {
         ensures kept { OnErr result (clock.new ≡ clock.old) }
         ensures clock { LentClock C.later clock.old clock.new }
     {
-        let Some(device) = kept_interface::owner(&self.interfaces, id) else {
+        let Some(device) = self.interfaces.owner(id) else {
             self.connection.keep(serial);
             return Err(Error::Event(EventError::DeviceEventBeforeDone));
         };
@@ -544,7 +560,7 @@ impl Kept {
     fn has_holder(&self, id: u64) -> bool
         ensures { result ≡ is_some (holder_at self.now (owner self.now id)) }
     {
-        match kept_interface::owner(&self.interfaces, id) {
+        match self.interfaces.owner(id) {
             Some(device) => kept_device::added(&self.devices, device).is_some(),
             None => false,
         }

@@ -1,9 +1,10 @@
 //! What the converter keeps of a device.
 
-ghost use Rattle.std.specs.Prelude.{◌≡◌, ◌≤◌, ◌<◌, ◌+◌, ◌++◌, ◌∷◌, [], true, false, map, OnOk, OnErr, is_some, length, vec_len};
+ghost use Rattle.std.specs.Prelude.{◌≡◌, ◌≤◌, ◌<◌, ◌+◌, ◌++◌, ◌∷◌, [], true, false, map, OnOk, OnErr, IfSome, is_some, length, vec_len};
 ghost use Rattle.std.specs.Option.{option_copied, option_copied_mut, option_map};
 ghost use Rattle.std.specs.FinMap as finite;
 ghost use Rattle.std.specs.Borrow.{sem};
+ghost use Rattle.ei_input.specs.declared.input_event.InputEvent.TheVariants.{PointerMotion};
 ghost use Rattle.ei_event.specs.Kept.{new_device, named, typed, sized, mapped, with_region, keyed_by, whole};
 ghost use Rattle.ei_event.specs.Kept.{with_input, emptied};
 ghost use Rattle.ei_event.specs.Kept.{pending_device, added_device};
@@ -14,12 +15,12 @@ ghost use Rattle.ei_event.specs.KeptLends.{lends_device};
 use crate::device::Device;
 use crate::event::{EiEvent, Frame, queue_timed};
 use crate::keymap::Keymap;
-use crate::queue::Queue;
 use crate::region::Region;
 use ei_by_id::ById;
-use ei_input::input_event::InputEvent;
+use ei_input::Queue;
+use ei_input::input_event::{self, InputEvent};
 use ei_types::DeviceType;
-use ei_wire::EiText;
+use ei_wire::{EiText, RawFloat};
 use std::alloc::{AllocError, Global};
 use std::collections::VecDeque;
 use std::marker::Model;
@@ -220,7 +221,7 @@ impl KeptDevice {
 
     /// The same, by a call of its own.
     #[inline(never)]
-    pub(crate) fn hand_out_apart(&mut self, queue: &mut Queue, serial: u32, time: u64)
+    pub(crate) fn hand_out_apart(&mut self, queue: &mut Queue<EiEvent>, serial: u32, time: u64)
         requires room { length self.old.waiting + 2 ≤ queue.old.room }
         ensures queue { queue.new.items ≡ queue.old.items ++ group_events self.old.device self.old.waiting serial time }
         ensures emptied { self.new ≡ emptied self.old }
@@ -232,7 +233,7 @@ impl KeptDevice {
     /// Hands out what waits, each input with this time, and a frame of this serial behind them; nothing
     /// where nothing waits. There is room for it.
     #[inline(always)]
-    pub(crate) fn hand_out(&mut self, queue: &mut Queue, serial: u32, time: u64)
+    pub(crate) fn hand_out(&mut self, queue: &mut Queue<EiEvent>, serial: u32, time: u64)
         requires room { length self.old.waiting + 2 ≤ queue.old.room }
         ensures queue { queue.new.items ≡ queue.old.items ++ group_events self.old.device self.old.waiting serial time }
         ensures emptied { self.new ≡ emptied self.old }
@@ -242,11 +243,74 @@ impl KeptDevice {
     }
 }
 
+/// Hands out a group, which is mostly a motion alone. There is room for it, and for one more event behind it.
+#[inline(never)]
+fn push_group(
+    queue: &mut Queue<EiEvent>,
+    device: &Device,
+    waiting: &mut Vec<InputEvent>,
+    serial: u32,
+    time: u64,
+)
+    requires room { vec_len waiting.old + 2 ≤ queue.old.room }
+    ensures queue { queue.new.items ≡ queue.old.items ++ group_events device.now waiting.old.items serial time }
+    ensures emptied { waiting.new.items ≡ [] }
+    ensures left { 0 < queue.new.room }
+{
+    match motion_alone(waiting) {
+        Some((dx, dy)) => {
+            drop(waiting.pop());
+            push_motion(queue, device, (dx, dy), serial, time);
+        }
+        None => push_any(queue, device, waiting, serial, time),
+    }
+}
+
+/// The motion that waits, if no other input does.
+#[inline(always)]
+fn motion_alone(waiting: &[InputEvent]) -> Option<(RawFloat, RawFloat)>
+    ensures { IfSome result (λ m. waiting.now ≡ PointerMotion m.0 m.1 ∷ []) }
+{
+    match waiting {
+        [InputEvent::PointerMotion { dx, dy }] => Some((*dx, *dy)),
+        _ => None,
+    }
+}
+
+/// Hands out a motion and its frame. There is room for both.
+#[inline(always)]
+fn push_motion(
+    queue: &mut Queue<EiEvent>,
+    device: &Device,
+    motion: (RawFloat, RawFloat),
+    serial: u32,
+    time: u64,
+)
+    requires room { 1 < queue.old.room }
+    ensures queue { queue.new.items ≡ queue.old.items ++
+        group_events device.now (PointerMotion motion.0 motion.1 ∷ []) serial time }
+    ensures left { queue.new.room + 2 ≡ queue.old.room }
+{
+    let key = device.copy();
+    let (dx, dy) = motion;
+    queue.push_reserved(EiEvent::PointerMotion(input_event::PointerMotion {
+        device: key.copy(),
+        time,
+        dx,
+        dy,
+    }));
+    queue.push_reserved(EiEvent::Frame(Frame {
+        device: key,
+        serial,
+        time,
+    }));
+}
+
 /// Hands out a group. There is room for it, and for one more event behind it.
 #[inline(never)]
 #[tactic(auto, using(crate::proofs::Groups::group_ends))]
-fn push_group(
-    queue: &mut Queue,
+fn push_any(
+    queue: &mut Queue<EiEvent>,
     device: &Device,
     waiting: &mut Vec<InputEvent>,
     serial: u32,
@@ -274,7 +338,7 @@ fn push_group(
 
 /// Hands out the inputs of a group before its last.
 #[inline(never)]
-fn push_first(queue: &mut Queue, device: &Device, waiting: &mut Vec<InputEvent>, time: u64)
+fn push_first(queue: &mut Queue<EiEvent>, device: &Device, waiting: &mut Vec<InputEvent>, time: u64)
     requires room { vec_len waiting.old ≤ queue.old.room }
     ensures queue { queue.new.items ≡ queue.old.items ++ map (timed device.now time) waiting.old.items }
     ensures emptied { waiting.new.items ≡ [] }

@@ -1,11 +1,9 @@
 //! What the converter keeps of an interface of a device.
 
 ghost use Rattle.std.specs.Prelude.{◌≡◌};
-ghost use Rattle.std.specs.FinMap as finite;
-ghost use Rattle.ei_event.specs.Kept.{is_other, is_of_other, is_interface_of, owner_of};
+ghost use Rattle.ei_event.specs.Kept.{is_other, is_of_other, is_interface_of};
 
 use ei_backend::Object;
-use ei_by_id::ById;
 use ei_spec::KnownInterface;
 use std::marker::Model;
 
@@ -31,6 +29,14 @@ impl KeptInterface {
         ensures { result ≡ record { device = device; object = object } }
     {
         KeptInterface { device, object }
+    }
+
+    /// The id of the device.
+    #[inline(always)]
+    pub(crate) fn device(&self) -> u64
+        ensures { result ≡ self.now.device }
+    {
+        self.device
     }
 
     /// The object.
@@ -59,16 +65,5 @@ impl KeptInterface {
         ensures { result ≡ is_of_other device self.now }
     {
         device != self.device
-    }
-}
-
-/// The id of the device that has the interface of that id.
-#[inline(always)]
-pub(crate) fn owner(interfaces: &ById<KeptInterface>, id: u64) -> Option<u64>
-    ensures { result ≡ owner_of (finite.get interfaces.now id) }
-{
-    match interfaces.get(id) {
-        Some(interface) => Some(interface.device),
-        None => None,
     }
 }

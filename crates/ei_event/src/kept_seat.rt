@@ -10,10 +10,10 @@ ghost use Rattle.ei_event.specs.Items.{bound, united, mask_for};
 ghost use Rattle.ei_event.specs.KeptLends.{lends_seat};
 
 use crate::event::{EiEvent, SeatRemoved};
-use crate::queue::Queue;
 use crate::seat::Seat;
 use ei_backend::Interface;
 use ei_by_id::ById;
+use ei_input::Queue;
 use ei_spec::limits::CAPABILITIES;
 use ei_types::{DeviceCapabilities, DeviceCapability};
 use ei_wire::EiText;
@@ -156,7 +156,7 @@ pub(crate) fn pending_mut(seats: &mut ById<KeptSeat>, id: u64) -> Option<&mut Ke
 /// `AllocError`: nothing is queued.
 pub(crate) fn tell_removed(
     seats: &ById<KeptSeat>,
-    queue: &mut Queue,
+    queue: &mut Queue<EiEvent>,
     seat: &ei_client::Seat,
 ) -> Result<(), AllocError>
     ensures ok { OnOk result (queue.new.items ≡ queue.old.items ++ seat_goodbye seat.now

@@ -11,7 +11,7 @@ ghost use Rattle.ei_event.specs.Typed.{scroll_says, button_says};
 ghost use Rattle.ei_event.specs.Typed.{keyboard_says, touchscreen_says, text_says, gesture_says};
 ghost use Rattle.ei_event.specs.Handles.{Ends, Does, Handles, after_connection, after_seat, after_device};
 ghost use Rattle.ei_event.specs.Handles.{after_keyboard, after_said, describes_device};
-ghost use Rattle.ei_event.specs.Likely.{Types, Bears, HandlesLikely};
+ghost use Rattle.ei_event.specs.Likely.{HandlesLikely};
 
 use crate::ending::Ending;
 use crate::kept::Kept;
@@ -28,144 +28,20 @@ use ei_types::{Error, EventError};
 
 // The likely way.
 impl Kept {
-    /// Takes an input of an added device, or a frame of one, where there is room for it.
+    /// Takes a pointer's motion, or a frame, of an added device, where there is room for it.
     #[inline(always)]
     #[tactic(auto, using(crate::proofs::Likeliness::likely_handles, crate::proofs::Likeliness::input_handles))]
     pub(crate) fn take_likely(&mut self, event: &Event) -> bool
         ensures { HandlesLikely self.old event.now result self.new }
     {
+        if let Event::Pointer(target, pointer::Event::MotionRelative { x, y }) = event {
+            let input = InputEvent::PointerMotion { dx: *x, dy: *y };
+            return self.hear_likely(target.as_object().id(), input);
+        }
         if let Event::Device(target, device::Event::Frame { serial, timestamp }) = event {
             return self.frame_likely(target.as_object().id(), *serial, *timestamp);
         }
-        let Some((id, input)) = likely_input(event) else {
-            return false;
-        };
-        self.hear_likely(id, input)
-    }
-}
-
-/// The input that an event bears, with the id of its interface. Of a text none, since that takes memory.
-#[inline(always)]
-fn likely_input(event: &Event) -> Option<(u64, InputEvent)>
-    ensures { IfSome result (λ p. Bears event.now p.0 p.1) }
-{
-    match event {
-        Event::Pointer(target, event) => Some((target.as_object().id(), motion(event)?)),
-        Event::PointerAbsolute(target, event) => {
-            Some((target.as_object().id(), motion_absolute(event)?))
-        }
-        Event::Scroll(target, event) => Some((target.as_object().id(), scrolling(event)?)),
-        Event::Button(target, event) => Some((target.as_object().id(), pressing(event)?)),
-        Event::Keyboard(target, event) => Some((target.as_object().id(), typing(event)?)),
-        Event::Touchscreen(target, event) => Some((target.as_object().id(), touching(event)?)),
-        Event::Gesture(target, event) => Some((target.as_object().id(), gesturing(event)?)),
-        _ => None,
-    }
-}
-
-#[inline(always)]
-fn motion(event: &pointer::Event) -> Option<InputEvent>
-    ensures { (id : ℕ) → IfSome result (λ i. pointer_says id event.now ≡ Inputs id i) }
-{
-    match event {
-        pointer::Event::MotionRelative { x, y } => {
-            Some(InputEvent::PointerMotion { dx: *x, dy: *y })
-        }
-        pointer::Event::Destroyed { serial: _ } => None,
-    }
-}
-
-#[inline(always)]
-fn motion_absolute(event: &pointer_absolute::Event) -> Option<InputEvent>
-    ensures { (id : ℕ) → IfSome result (λ i. pointer_absolute_says id event.now ≡ Inputs id i) }
-{
-    match event {
-        pointer_absolute::Event::MotionAbsolute { x, y } => {
-            Some(InputEvent::PointerMotionAbsolute {
-                dx_absolute: *x,
-                dy_absolute: *y,
-            })
-        }
-        pointer_absolute::Event::Destroyed { serial: _ } => None,
-    }
-}
-
-#[inline(always)]
-fn scrolling(event: &scroll::Event) -> Option<InputEvent>
-    ensures { (id : ℕ) → IfSome result (λ i. scroll_says id event.now ≡ Inputs id i) }
-{
-    match event {
-        scroll::Event::Scroll { x, y } => Some(InputEvent::ScrollDelta { dx: *x, dy: *y }),
-        scroll::Event::ScrollDiscrete { x, y } => Some(InputEvent::ScrollDiscrete {
-            discrete_dx: *x,
-            discrete_dy: *y,
-        }),
-        scroll::Event::ScrollStop { x, y, is_cancel } => Some(scroll_end(*x, *y, *is_cancel)),
-        scroll::Event::Destroyed { serial: _ } => None,
-    }
-}
-
-#[inline(always)]
-fn pressing(event: &button::Event) -> Option<InputEvent>
-    ensures { (id : ℕ) → IfSome result (λ i. button_says id event.now ≡ Inputs id i) }
-{
-    match event {
-        button::Event::Button { button, state } => Some(InputEvent::Button {
-            button: *button,
-            state: *state,
-        }),
-        button::Event::Destroyed { serial: _ } => None,
-    }
-}
-
-#[inline(always)]
-fn typing(event: &keyboard::Event) -> Option<InputEvent>
-    ensures { (id : ℕ) → IfSome result (λ i. Types id event.now i) }
-{
-    match event {
-        keyboard::Event::Key { key, state } => Some(InputEvent::KeyboardKey {
-            key: *key,
-            state: *state,
-        }),
-        _ => None,
-    }
-}
-
-#[inline(always)]
-fn touching(event: &touchscreen::Event) -> Option<InputEvent>
-    ensures { (id : ℕ) → IfSome result (λ i. touchscreen_says id event.now ≡ Inputs id i) }
-{
-    match event {
-        touchscreen::Event::Down { touchid, x, y } => Some(InputEvent::TouchDown {
-            touch_id: *touchid,
-            x: *x,
-            y: *y,
-        }),
-        touchscreen::Event::Motion { touchid, x, y } => Some(InputEvent::TouchMotion {
-            touch_id: *touchid,
-            x: *x,
-            y: *y,
-        }),
-        touchscreen::Event::Up { touchid } => Some(InputEvent::TouchUp { touch_id: *touchid }),
-        touchscreen::Event::Cancel { touchid } => Some(InputEvent::TouchCancel {
-            touch_id: *touchid,
-        }),
-        touchscreen::Event::Destroyed { serial: _ } => None,
-    }
-}
-
-#[inline(always)]
-fn gesturing(event: &gesture::Event) -> Option<InputEvent>
-    ensures { (id : ℕ) → IfSome result (λ i. gesture_says id event.now ≡ Inputs id i) }
-{
-    match event {
-        gesture::Event::Swipe { fingers, x, y } => Some(InputEvent::GestureSwipe {
-            fingers: *fingers,
-            dx: *x,
-            dy: *y,
-        }),
-        gesture::Event::Pinch { scale } => Some(InputEvent::GesturePinch { scale: *scale }),
-        gesture::Event::Destroyed { serial: _ } => None,
+        false
     }
 }
 

@@ -1,6 +1,6 @@
 //! The server's handshake.
 
-ghost use Rattle.std.specs.Prelude.{◌≡◌, ◌+◌, ℕ, Some, None, IsSome, IfOk, OnOk, OnErr, IfErr, is_some, true, false, [], ◌∷◌};
+ghost use Rattle.std.specs.Prelude.{◌≡◌, ◌+◌, ℕ, Some, None, IsSome, IfOk, OnOk, OnErr, IfErr, IsErrOf, is_some, true, false, [], ◌∷◌};
 ghost use Rattle.std.specs.Option.{ForSome};
 ghost use Rattle.ei_backend.specs.Table.{found};
 ghost use Rattle.ei_backend.specs.Backend.{unsent_of, with_room};
@@ -8,6 +8,7 @@ ghost use Rattle.ei_backend.specs.Outgoing.{HasSpare};
 ghost use Rattle.ei_session.specs.Replies.{greeting_to};
 ghost use Rattle.ei_handshake.specs.Handshaker.{untold, settled_version, with_version, settled_in, has_required, event_if, kept_events, sends};
 ghost use Rattle.ei_handshake.specs.Handshaker.{Handles, KeepsButFinish, is_repeated, told, Completes, RefusesFinish};
+ghost use Rattle.ei_types.specs.declared.error.Error.TheVariants as error;
 ghost use Rattle.ei_types.specs.declared.error.HandshakeError.TheVariants as handshake_error;
 
 use crate::sizes::{HEADER_BYTES, LONG_BYTES, MOST_VERSION_BYTES, WORD_BYTES};
@@ -122,9 +123,10 @@ impl EisHandshaker {
 
     /// Keeps what a request of the handshake tells. It answers the handshake at a `finish`, of which nothing is done yet: `finish` does it.
     ///
-    /// `NonHandshakeEvent` and `DuplicateEvent` as of `handle_request`. It takes no memory, and sends nothing.
+    /// `NonHandshakeEvent` and `DuplicateEvent` as of `handle_request`. It takes no memory, and so answers no want of it, and sends nothing.
     pub fn keep(&mut self, request: Request) -> Result<Option<Handshake>, Error>
-        ensures { KeepsButFinish self.old request result self.new }
+        ensures keeps { KeepsButFinish self.old request result self.new }
+        ensures memory { IsErrOf result error.NoMemory → ⊥ }
     {
         match request {
             Request::Handshake(handshake, handshake::Request::Finish) => Ok(Some(handshake)),

@@ -3,7 +3,6 @@ use Rattle.std.proofs.Common.{◌≡◌, ◌<◌, ℕ, arith, zero, suc, ◌⊎�
 use Rattle.std.specs.Prelude.{slice_get, slice_set, map}
 use Rattle.std.proofs.lemmas.List.{append-nil}
 use Rattle.ei_spec.specs.Message.{Raw}
-use Rattle.ei_spec.specs.Piece.{Piece}
 use Rattle.ei_spec.specs.History.{each}
 use Rattle.ei_spec.specs.Groups.{frames_made}
 use Rattle.ei_session.specs.Setup.{Setup}

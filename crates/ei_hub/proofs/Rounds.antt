@@ -1,7 +1,6 @@
 -- Rounds of a hub: each client that goes on has a turn in each.
 use Rattle.std.proofs.Common.{◌≡◌, ℕ, ◌+◌, ◌≤◌, ◌<◌, List, length, Option, Some, refl, sym, subst, ◌∙◌, add-zero, below_more, arith}
 use Rattle.std.specs.Prelude.{slice_get, IsSome}
-use Rattle.ei_spec.specs.Piece.{Piece}
 use Rattle.ei_backend.specs.Outside.{SourceView, SinkView}
 use Rattle.ei_hub.specs.declared.client.Client.{Client}
 use Rattle.ei_hub.specs.Clocks.{GaveReadings}

@@ -29,7 +29,7 @@ use Rattle.ei_serve.specs.Around.{Around, around, AreDrawn, LeavesReadings}
 use Rattle.ei_serve.specs.Steps.{GivesOut, Goes, GoesInPart}
 use Rattle.ei_serve.specs.Taking.{with_next}
 use Rattle.ei_serve.specs.Refusing.{refusal_of}
-use Rattle.ei_serve.specs.Turning.{Closes, ClosesRefused, Finds, GoesOn, Stays, BreaksOff, Turns}
+use Rattle.ei_serve.specs.Turning.{Closes, ClosesRefused, Finds, GoesOn, Stays, BreaksOff, BreaksOffFull, Turns}
 use Rattle.ei_serve.specs.Serving.{IsSourceEnd}
 use Rattle.ei_backend.specs.Pieces.{ArePieces, GavePieces}
 use Rattle.ei_serve.specs.Whole.{Serves}
@@ -112,6 +112,10 @@ module _ (setup : Setup) (pieces : List Piece) (times : List ℕ) (t : SessionSt
   breaks_own : (h : BreaksOff setup pieces times old new) → BreaksOff setup pieces times (over_readings (Some h.goes.used) old) (over_readings (Some []) new)
   breaks_own h = record { piece = h.piece; hands = h.hands; room = h.room; few = h.few; goes = part_own setup _ _ times old new h.goes }
 
+  full_own : (h : BreaksOffFull setup pieces times old new) → BreaksOffFull setup pieces times (over_readings (Some h.breaks.goes.used) old) (over_readings (Some []) new)
+  unfolding breaks_own part_own
+  full_own h = record { breaks = breaks_own h.breaks; wanted = h.wanted }
+
   none_drawn : AreDrawn [] old.readings
   none_drawn told is = refl
 
@@ -138,7 +142,7 @@ module _ (setup : Setup) (pieces : List Piece) (times : List ℕ) (t : SessionSt
   own_turn (Err error.ReadFault) h = record { used = []; drawn = none_drawn; leaves = stays_leaves h; turns = stays_own h }
   own_turn (Err error.WriteFault) h = record { used = h.goes.used; drawn = h.goes.drawn; leaves = h.goes.leaves; turns = breaks_own h }
   own_turn (Err error.NoMemory) (inl h) = record { used = []; drawn = none_drawn; leaves = stays_leaves h; turns = inl (stays_own h) }
-  own_turn (Err error.NoMemory) (inr h) = record { used = h.goes.used; drawn = h.goes.drawn; leaves = h.goes.leaves; turns = inr (breaks_own h) }
+  own_turn (Err error.NoMemory) (inr h) = record { used = h.breaks.goes.used; drawn = h.breaks.goes.drawn; leaves = h.breaks.goes.leaves; turns = inr (full_own h) }
   own_turn (Err e) h = refused_own e (refusal_of e) (λ a b c. c) h
 
 -- what the clock gave in a turn
@@ -171,6 +175,7 @@ beside setup told left answer x z v w a b c d e f h = rw (a, b, c, d, e, f) (rec
   pieces = h.pieces;
   handled = h.handled;
   cut_short = h.cut_short;
+  full = h.full;
 })
 
 -- ---- a turn of a client that is alone

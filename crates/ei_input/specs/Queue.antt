@@ -1,9 +1,10 @@
 -- What waits to be handed out.
 use Rattle.std.specs.Prelude.{ℕ, List, [], ◌∷◌, Option, Some, None}
 
--- what waits, the oldest first, and how many more there is room for
+-- what waits, the oldest first; how many of the newest of them can be taken out at once; and how many more there is room for
 pub record QueueView (T : Type 0) : Type 0 where
   pub items : List T
+  pub newest : ℕ
   pub room : ℕ
 
 -- the oldest, and the others

@@ -10,8 +10,9 @@ use std::mem;
 
 /// What waits to be handed out, the oldest first.
 ///
-/// All is handed out at once by one move. Where it is taken one by one, all that waits becomes the first ones, which
-/// costs no move, and what is queued meanwhile comes behind them.
+/// All is handed out at once, which moves nothing where the caller's vector is empty: it takes the place of the one that
+/// held them. Where it is taken one by one, all that waits becomes the first ones, and what is queued meanwhile comes
+/// behind them.
 #[derive(Drop)]
 pub struct Queue<T> {
     first: VecDeque<T>,
@@ -25,7 +26,11 @@ impl<T> Model for Queue<T> {
 
     ghost Value = { QueueView T };
 
-    ghost view = { λ q. record { items = q.first.items ++ q.rest.items; room = vec_capacity q.rest - vec_len q.rest } };
+    ghost view = { λ q. record {
+      items = q.first.items ++ q.rest.items;
+      newest = vec_len q.rest;
+      room = vec_capacity q.rest - vec_len q.rest;
+    } };
 }
 
 impl<T: Drop> Queue<T> {
@@ -85,6 +90,23 @@ impl<T: Drop> Queue<T> {
         self.first.pop_front()
     }
 
+    /// Takes the newest out, so that a call can put more behind them. They come back by `put_newest`.
+    pub fn take_newest(&mut self) -> Vec<T>
+        ensures items { self.old.items ≡ self.new.items ++ result.items }
+        ensures none { self.new.newest ≡ 0 }
+    {
+        let alloc = *self.rest.allocator();
+        mem::replace(&mut self.rest, Vec::new(alloc))
+    }
+
+    /// Puts these behind all that wait, where the newest are taken out.
+    pub fn put_newest(&mut self, newest: Vec<T>)
+        requires none { self.old.newest ≡ 0 }
+        ensures { self.new.items ≡ self.old.items ++ newest.items }
+    {
+        self.rest = newest;
+    }
+
     /// Moves all behind `out`, or none. A refusal is want of memory.
     #[inline]
     pub fn drain_into(&mut self, out: &mut Vec<T>) -> Result<(), AllocError>
@@ -93,15 +115,16 @@ impl<T: Drop> Queue<T> {
         ensures kept { OnErr result (out.new.items ≡ out.old.items) }
         ensures stay { OnErr result (self.new.items ≡ self.old.items) }
     {
-        if self.first.is_empty() {
-            return out.append(&mut self.rest);
+        if self.first.is_empty() && out.is_empty() {
+            mem::swap(out, &mut self.rest);
+            return Ok(());
         }
-        self.drain_both_into(out)
+        self.drain_behind(out)
     }
 
-    /// The same, where some are the first ones.
+    /// The same, where some are the first ones, or something is in `out`.
     #[inline(never)]
-    fn drain_both_into(&mut self, out: &mut Vec<T>) -> Result<(), AllocError>
+    fn drain_behind(&mut self, out: &mut Vec<T>) -> Result<(), AllocError>
         ensures out { OnOk result (out.new.items ≡ out.old.items ++ self.old.items) }
         ensures emptied { OnOk result (self.new.items ≡ []) }
         ensures kept { OnErr result (out.new.items ≡ out.old.items) }

@@ -1,6 +1,6 @@
 //! One end, with what it sent and took.
 
-ghost use Rattle.std.specs.Prelude.{reverse, ◌≡◌, ◌<◌, ◌≤◌, [], length, IfOk, OnOk, OnErr, None, Some, IsErrOf, true, false};
+ghost use Rattle.std.specs.Prelude.{reverse, ◌≡◌, ◌<◌, ◌≤◌, List, [], ◌∷◌, length, IfOk, OnOk, OnErr, None, Some, IsErrOf, true, false};
 ghost use Rattle.ei_spec.specs.Interface.{Known};
 ghost use Rattle.ei_spec.specs.declared.limits.TheConstants.{MOST_PIECE_BYTES, MOST_PIECE_HANDLES};
 ghost use Rattle.ei_backend.specs.Backend.{unsent_of, next};
@@ -9,6 +9,7 @@ ghost use Rattle.ei_wire.specs.declared.error.SendError.TheVariants as send_erro
 ghost use Rattle.ei_ends.specs.Sent.{new_of};
 ghost use Rattle.ei_ends.specs.Steps.{behind};
 ghost use Rattle.ei_ends.specs.Joined.{acquainted};
+ghost use Rattle.ei_linked.specs.declared.record.Got.{Got as TakenGot};
 ghost use Rattle.ei_linked.specs.Stored.{sent_view, end_in, having_sent, read_as, with_endpoint};
 ghost use Rattle.ei_linked.specs.Held.{stored_by, held_with, Keeps};
 ghost use Rattle.ei_linked.specs.Asked.{asked, IsOfRow, IsNext, IsSendable, AreNew, IsTooLong, Sends};
@@ -90,6 +91,14 @@ impl<C: HasBackend> Half<C> {
         ensures { result ≡ (C.seen self.now.context).closed }
     {
         self.context.backend().is_closed()
+    }
+
+    /// Takes what was taken last off the list again.
+    pub fn untake(&mut self)
+        ensures { (last : TakenGot) (past : List TakenGot) → self.old.taken ≡ last ∷ past →
+            self.new ≡ record self.old { taken = past } }
+    {
+        let _last = self.taken.pop();
     }
 
     /// The object of that id which it made or read at some time, or object 0.

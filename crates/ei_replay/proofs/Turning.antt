@@ -184,7 +184,7 @@ module _ (setup : Setup) (past reached : List Raw) (bytes : List ℕ) (count : �
   by_error t error.IdsExhausted x y one h = never IdsExhausted x y one (λ e. absurd cc) (λ e. absurd cc) h
   by_error t error.ReadFault x y one h = inl h.out
   by_error t error.WriteFault x y one h = inr (broken x y one h)
-  by_error t error.NoMemory x y one h = elim h [ inl s ↦ inl s.out | inr b ↦ inr (broken x y one b) ]
+  by_error t error.NoMemory x y one h = elim h [ inl s ↦ inl s.out | inr b ↦ inr (broken x y one b.breaks) ]
   by_error t e x y one h = never_refused (refusal_of e) x y one h
 
   pub cut_off : (t : SessionState) (e : Error) (a b : List EisRequest) → Turned setup at.pieces at.times bytes (Err e) t a b → (b ≡ a) ⊎ ExtendsInPart setup past reached a b

@@ -19,7 +19,7 @@ use Rattle.ei_serve.specs.declared.session.Turn.TheVariants as turn
 use Rattle.ei_serve.specs.declared.state.SessionState.{SessionState}
 use Rattle.ei_serve.specs.Around.{Around}
 use Rattle.ei_serve.specs.Refusing.{refusal_of}
-use Rattle.ei_serve.specs.Turning.{Closes, ClosesRefused, Finds, GoesOn, Stays, BreaksOff, Turns, IsAtEnd}
+use Rattle.ei_serve.specs.Turning.{Closes, ClosesRefused, Finds, GoesOn, Stays, BreaksOff, BreaksOffFull, Turns, IsAtEnd}
 use Rattle.ei_serve.specs.Serving.{IsSourceEnd}
 use Rattle.ei_backend.specs.Pieces.{AreTold, BeginAsGiven, ArePieces, GavePieces}
 use Rattle.ei_serve.specs.Whole.{Serves}
@@ -131,7 +131,7 @@ turn_gave setup pieces times (Err error.IdsExhausted) t y z h = gave_one y.sourc
 turn_gave setup pieces times (Err error.ReadFault) t y z h = gave_nothing y.source z.source h.keeps
 turn_gave setup pieces times (Err error.WriteFault) t y z h = gave_one y.source z.source h.piece h.hands
 turn_gave setup pieces times (Err error.NoMemory) t y z (inl h) = gave_nothing y.source z.source h.keeps
-turn_gave setup pieces times (Err error.NoMemory) t y z (inr h) = gave_one y.source z.source h.piece h.hands
+turn_gave setup pieces times (Err error.NoMemory) t y z (inr h) = gave_one y.source z.source h.breaks.piece h.breaks.hands
 turn_gave setup pieces times (Err e) t y z h = refused_gave setup pieces times (refusal_of e) y z h
 
 -- and all the turns before it
@@ -196,6 +196,10 @@ module _ (setup : Setup) (pieces : List Piece) (times : List ℕ) (t : SessionSt
     goes = breaks_beside setup _ _ times y z _ _ h.goes;
   }
 
+  full_so : BreaksOffFull setup pieces times y z → BreaksOffFull setup pieces times start finish
+  unfolding breaks_so breaks_beside
+  full_so h = record { breaks = breaks_so h.breaks; wanted = h.wanted }
+
   turns_so : (r : Result Turn Error) → (IsAtEnd r → more ≡ []) → Turns setup pieces times r t y z → Turns setup pieces times r t start finish
   turns_so (Ok turn.GoOn) at h = goes_on_so h
   turns_so (Ok turn.Disconnect) at h = closes_so Disconnect h
@@ -207,7 +211,7 @@ module _ (setup : Setup) (pieces : List Piece) (times : List ℕ) (t : SessionSt
   turns_so (Err error.ReadFault) at h = stays_so h
   turns_so (Err error.WriteFault) at h = breaks_so h
   turns_so (Err error.NoMemory) at (inl h) = inl (stays_so h)
-  turns_so (Err error.NoMemory) at (inr h) = inr (breaks_so h)
+  turns_so (Err error.NoMemory) at (inr h) = inr (full_so h)
   turns_so (Err e) at h = refused_so (refusal_of e) h
 
 -- ---- the turns before, and one more
@@ -284,6 +288,7 @@ beside setup told left a b r x z h = record {
   pieces = h.pieces;
   handled = h.handled;
   cut_short = h.cut_short;
+  full = h.full;
 }
 
 end_by : (e : Error) → IsAtEnd (Err e) → IsSourceEnd (Err e)

@@ -1,5 +1,5 @@
 -- What a session says of the outside.
-use Rattle.std.proofs.Common.{◌≡◌, false, ◌≤◌, ℕ, zero, suc, List, [], ◌∷◌, length, take, Option, Some, Result, Ok, Err, refl, ap, subst, ◌∙◌, arith}
+use Rattle.std.proofs.Common.{◌≡◌, false, ◌≤◌, ℕ, zero, suc, List, [], ◌∷◌, length, take, Some, Result, Ok, Err, refl, ap, subst, ◌∙◌, arith}
 use Rattle.std.specs.Prelude.{OnErr, IsErrOf}
 use Rattle.std.specs.Option.{ForSome}
 use Rattle.std.proofs.lemmas.List.{append-nil}
@@ -51,10 +51,11 @@ front_is : (n : ℕ) (waiting held : Piece) → waiting ≡ the_greeting → sen
 front_is n waiting held e = rw e (ap (λ (handles : List Handle). with_more (take n (bytes_of greeting)) handles held) (no_beside n))
 
 -- what a sink has after the flush of the greeting
-pub greeted : (waiting left : Piece) (old new : SinkView) → waiting ≡ the_greeting → Went waiting (Ok tt) left old new → Greeted old new
-greeted waiting left old new w h = record {
+pub greeted : (waiting left : Piece) (old new : SinkView) → waiting ≡ the_greeting → Went waiting (Ok tt) left old new → old.wants ≤ new.wants → Greeted old new
+greeted waiting left old new w h count = record {
   told = λ held told. h.took held told ∙ ap (λ (x : Piece). Some (with_more x.bytes x.handles held)) w;
   puts = subst (λ (p : Piece). IsPutOf p old.puts new.puts) w h.puts;
+  wants = count;
 }
 
 -- and where it was refused

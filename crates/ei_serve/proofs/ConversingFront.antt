@@ -1,15 +1,18 @@
 -- What becomes of the message at the front of a connection, by the answer to asking for it.
-use Rattle.std.proofs.Common.{◌≡◌, ℕ, false, List, [], ◌++◌, Option, Some, None, Result, Ok, Err, refl, sym, ap, subst, ◌∙◌}
+use Rattle.std.proofs.Common.{◌≡◌, ◌≤◌, inl, ℕ, true, false, List, [], ◌++◌, Option, Some, None, Result, Ok, Err, refl, sym, ap, subst, ◌∙◌}
+use Rattle.std.specs.Prelude.{IsErrOf}
 use Rattle.std.proofs.lemmas.List.{append-nil}
 use Rattle.ei_spec.specs.declared.handle.Handle.{Handle}
 use Rattle.ei_spec.specs.Message.{Raw, Whole, front}
 use Rattle.ei_spec.specs.Piece.{Piece}
-use Rattle.ei_backend.specs.Outside.{SinkView}
+use Rattle.ei_backend.specs.Outside.{Rose, SinkView}
+use Rattle.ei_backend.specs.Message.{front_wants}
 use Rattle.ei_backend.specs.Outgoing.{Went, nothing}
 use Rattle.ei_backend.specs.Backend.{BackendView, Answers, Brings, next, unsent_of, with_unsent}
 use Rattle.ei_backend.specs.declared.message.PendingRequestResult.{PendingRequestResult}
 use Rattle.ei_backend.specs.declared.message.PendingRequestResult.TheVariants as pending
 use Rattle.ei_wire.specs.declared.error.FlushError.{FlushError}
+use Rattle.ei_wire.specs.declared.error.FlushError.TheVariants as flush_error
 use Rattle.ei_wire.specs.declared.error.ParseError.{ParseError}
 use Rattle.ei_wire.specs.declared.error.SendError.{SendError}
 use Rattle.ei_wire.specs.declared.error.SendError.TheVariants as send_error
@@ -21,6 +24,7 @@ use Rattle.ei_server.specs.Request.{target_of, opcode_of, values_of, announced_o
 use Rattle.ei_session.specs.Setup.{Setup}
 use Rattle.ei_session.specs.Objects.{object}
 use Rattle.ei_session.proofs.JudgedMeans.{judge_unknown}
+use Rattle.ei_session.proofs.RefusalLaws.{refused_never}
 use Rattle.ei_request.specs.declared.event.EisRequest.{EisRequest}
 use Rattle.ei_request.specs.Connection.{ConnectionView}
 use Rattle.ei_request.specs.Converter.{ConverterView}
@@ -35,15 +39,17 @@ use Rattle.ei_serve.specs.Around.{Around, around, no_source}
 use Rattle.ei_serve.specs.AtFront.{IsAsked}
 use Rattle.ei_serve.specs.Standing.{IsConnected}
 use Rattle.ei_serve.specs.Steps.{Steps}
+use Rattle.ei_serve.specs.Wanting.{MayWant}
 use Rattle.ei_serve.proofs.Asked.{NoObject, asks_waits, asks_refused, asks_gone, asks_request}
-use Rattle.ei_serve.proofs.Going.{breaks_here, goes_none}
+use Rattle.ei_serve.proofs.Going.{goes_none}
+use Rattle.ei_serve.proofs.Wanted.{front_may, full_here}
 use Rattle.ei_serve.proofs.Stepping.{refused_step}
 use Rattle.ei_serve.proofs.TookBehind.{Gave, gave_took, draws_none}
 use Rattle.ei_serve.proofs.ConversingSteps.{Taken, cut_off, handles_one}
 
 -- memory ran out before anything changed
-pub no_memory : (setup : Setup) (past : List Raw) (times rest : List ℕ) (handles : List Handle) (p : Phase) (d : Error) (x : Around) (result : Result Step Error) → result ≡ Err d → d ≡ error.NoMemory → Steps setup past times rest handles result p x x
-no_memory setup past times rest handles p d x result is d_is = rw (is, d_is) (breaks_here setup past times rest x)
+pub no_memory : (setup : Setup) (past : List Raw) (times rest : List ℕ) (handles : List Handle) (p : Phase) (d : Error) (x : Around) (result : Result Step Error) → result ≡ Err d → d ≡ error.NoMemory → MayWant setup past rest → Steps setup past times rest handles result p x x
+no_memory setup past times rest handles p d x result is d_is w = rw (is, d_is) (full_here setup past rest w times x)
 
 abbrev with_context : ConverterView → ConnectionView → BackendView → ConverterView
 with_context old h new = record { handle = record h { ctx = new }; queue = old.queue }
@@ -59,6 +65,12 @@ module _ (setup : Setup) (past : List Raw) (times rest : List ℕ) (handles : Li
 
   here : (d : ConverterView) → d ≡ with_context old h new → d ≡ record old { handle = record old.handle { ctx = new } }
   here d d_is = d_is ∙ ap (λ (x : ConnectionView). record { handle = record x { ctx = new }; queue = old.queue }) h_is
+
+  -- reading it took memory
+  pub may_want : front_wants false b.table (front b.unread) ≡ true → MayWant setup past rest
+  may_want w =
+      front_may setup past rest old.handle.ctx.table stands.held.objects
+      (subst (λ (u : List ℕ). front_wants false old.handle.ctx.table (front u) ≡ true) stands.unread (subst (λ (x : BackendView). front_wants false x.table (front x.unread) ≡ true) b_now w))
 
   -- there was no whole message
   pub waits : (answer : Option (PendingRequestResult Request)) → answer ≡ None → Answers target_of opcode_of values_of answer new (next false b) → (d : ConverterView) → d ≡ with_context old h new → (x : Around) →
@@ -110,6 +122,7 @@ module _ (setup : Setup) (past : List Raw) (times rest : List ℕ) (handles : Li
       -- it couldn't be told
       pub untold : (f : SendError) (e : Error) (y : Phase) (took : SinkView) (result : Result Step Error) → f ≡ send_error.NoMemory → result ≡ Err e → e ≡ error_of_send f → Steps setup past times rest handles result y (around no_source out took readings) (around no_source out took readings)
       untold f e y took result f_is is_err e_is = no_memory setup past times rest handles y e (around no_source out took readings) result is_err (e_is ∙ ap error_of_send f_is)
+          (record { m = gone.0.m; after = gone.0.after; front_is = gone.1; wants = inl (refused_never setup past gone.0.m stood.held.connected none) })
 
       module _ (end : ConnectionView) (end_is : end ≡ record lent { ctx = says lent.ctx (no_object_event lent.proxy.id lent.last_serial id) }) where
         told : end ≡ tells_no_object d.handle gone.0.m.id
@@ -129,17 +142,17 @@ module _ (setup : Setup) (past : List Raw) (times rest : List ℕ) (handles : Li
 
         -- all was sent
         pub tells : (flushed : ConnectionView) → unsent_of flushed.ctx ≡ nothing → flushed ≡ record end { ctx = with_unsent (unsent_of flushed.ctx) end.ctx } → (before now : SinkView) →
-            Went (unsent_of end.ctx) (Ok tt) (unsent_of flushed.ctx) before now → (z : ConverterView) → z ≡ record { handle = flushed; queue = d.queue } →
+            Went (unsent_of end.ctx) (Ok tt) (unsent_of flushed.ctx) before now → before.wants ≤ now.wants → (z : ConverterView) → z ≡ record { handle = flushed; queue = d.queue } →
             Steps setup past times rest handles (Ok step.Handled) (phase.Connected z) (around no_source out before readings) (around no_source out now readings)
-        tells flushed sent kept before now took z z_is =
+        tells flushed sent kept before now took count z z_is =
             subst (λ (y : ConverterView). Steps setup past times rest handles (Ok step.Handled) (phase.Connected y) (around no_source out before readings) (around no_source out now readings))
             (sym (z_is ∙ ap (λ (q : List EisRequest). record { handle = flushed; queue = q }) stood.queue))
             (handles_one setup past times rest handles gone.0.m gone.0.after [] d taken false (judge_unknown setup past gone.0.m stood.held.connected none) d.queue gave out out grown readings readings (draws_none readings readings refl)
-            end (record d { handle = end }) refl followed same_ring flushed sent kept before now took refl)
+            end (record d { handle = end }) refl followed same_ring flushed sent kept before now took count refl)
 
         -- or not all
-        pub cut : (waiting : Piece) (f : FlushError) (e : Error) (y : Phase) (before now : SinkView) (result : Result Step Error) → result ≡ Err e → e ≡ error_of_flush f → Went (unsent_of end.ctx) (Err f) waiting before now →
+        pub cut : (waiting : Piece) (f : FlushError) (e : Error) (y : Phase) (before now : SinkView) (result : Result Step Error) → result ≡ Err e → e ≡ error_of_flush f → (IsErrOf {T = Unit {0}} (Err f) flush_error.NoMemory → Rose before.wants now.wants) → Went (unsent_of end.ctx) (Err f) waiting before now →
             Steps setup past times rest handles result y (around no_source out before readings) (around no_source out now readings)
-        cut waiting f e y before now result is_err e_is took =
+        cut waiting f e y before now result is_err e_is want took =
             rw is_err (cut_off setup past times rest handles gone.0.m gone.0.after [] d taken false (judge_unknown setup past gone.0.m stood.held.connected none) d.queue gave out out grown readings readings (draws_none readings readings refl)
-            end (record d { handle = end }) refl followed same_ring waiting f e before now e_is took)
+            end (record d { handle = end }) refl followed same_ring waiting f e before now e_is want took)

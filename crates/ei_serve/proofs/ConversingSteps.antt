@@ -1,7 +1,7 @@
 -- What becomes of the message at the front of a connection, by what was done with it.
 use Rattle.std.proofs.Common.{◌≡◌, ◌≤◌, ℕ, zero, suc, Bool, true, false, List, [], ◌∷◌, ◌++◌, take, Option, Some, None}
 use Rattle.std.proofs.Common.{Ok, Err, refl, sym, ap, subst, ◌∙◌, arith}
-use Rattle.std.specs.Prelude.{map}
+use Rattle.std.specs.Prelude.{map, IsErrOf}
 use Rattle.std.proofs.lemmas.List.{append-nil}
 use Rattle.ei_spec.specs.declared.handle.Handle.{Handle}
 use Rattle.ei_spec.specs.declared.interface.KnownInterface.{KnownInterface}
@@ -20,7 +20,7 @@ use Rattle.ei_session.specs.Requests.{Request, Plain, Bind, RequestDevice, Ready
 use Rattle.ei_session.proofs.AllParts.{replies_more}
 use Rattle.ei_session.proofs.KeptByRequests.{fixed_versions, stays_connected}
 use Rattle.ei_session.proofs.RunsOut.{exhausting_last}
-use Rattle.ei_backend.specs.Outside.{SinkView, with_more}
+use Rattle.ei_backend.specs.Outside.{Rose, SinkView, with_more}
 use Rattle.ei_backend.specs.Outgoing.{IsPutOf, Went, nothing, sent_front}
 use Rattle.ei_backend.specs.Backend.{BackendView, unsent_of, with_unsent}
 use Rattle.ei_types.specs.Errors.{error_of_flush}
@@ -38,10 +38,12 @@ use Rattle.ei_standing.specs.Standing.{TookOne, handed_as, key_by, plain_as}
 use Rattle.ei_serve.specs.declared.phase.Phase.TheVariants as phase
 use Rattle.ei_serve.specs.Around.{around, no_source}
 use Rattle.ei_serve.specs.Standing.{IsConnected, most_capacity}
-use Rattle.ei_serve.specs.Steps.{GivesOut, bytes_only, Replies, RepliesInPart, Goes, Breaks, RefusesStep, HandlesOne, EndsWith}
+use Rattle.ei_serve.specs.Steps.{GivesOut, bytes_only, Replies, RepliesInPart, Goes, Breaks, BreaksFull, RefusesStep, HandlesOne, EndsWith}
+use Rattle.ei_serve.specs.Wanting.{MayWant}
 use Rattle.ei_serve.proofs.Asked.{held_with}
-use Rattle.ei_serve.proofs.Puts.{no_puts, puts_one}
-use Rattle.ei_serve.proofs.Going.{none_more, replies_none, in_part_none, extends}
+use Rattle.ei_serve.proofs.Puts.{puts_one}
+use Rattle.ei_serve.proofs.Going.{replies_none, in_part_none, extends}
+use Rattle.ei_serve.proofs.Wanted.{wanted_here, full_of_sink}
 use Rattle.ei_serve.proofs.TookBehind.{Gave, Draws}
 
 -- ---- what is handed out, by any versions that agree
@@ -84,13 +86,6 @@ ahead_one setup past rest m after false w j =
     (on.0, ap (λ (u : Reading Refusal). u.past) (read_accepted (judge setup) past rest m after w j) ∙ on.1)
 ahead_one setup past rest m after true w j = ([], ap (λ (u : Reading Refusal). u.past) (read_final (judge setup) past rest m after w j))
 
--- none of its answer went out
-none_sent : (setup : Setup) (past : List Raw) (m : Raw) (took : SinkView) → RepliesInPart setup past (m ∷ past) took took
-none_sent setup past m took = record {
-  told = λ held told. (reply setup past m, 0, replies_more setup past m, told ∙ ap (λ (x : Piece). Some x) (none_more held));
-  puts = no_puts setup past (m ∷ past) took.puts;
-}
-
 -- nothing was given yet, and perhaps a reading taken
 pub breaks_early : (setup : Setup) (past : List Raw) (times rest used : List ℕ) (out new : List EisRequest) (took : SinkView) (before after : Option (List ℕ)) → new ≡ out → Draws used before after → Breaks setup past times rest (around no_source out took before) (around no_source new took after)
 breaks_early setup past times rest used out new took before after same draws = record {
@@ -110,6 +105,14 @@ breaks_early setup past times rest used out new took before after same draws = r
   most = omega (arith, draws.few);
 }
 
+-- for want of memory
+pub full_early : (setup : Setup) (past : List Raw) (times rest used : List ℕ) (out new : List EisRequest) (took : SinkView) (before after : Option (List ℕ)) → MayWant setup past rest → new ≡ out → Draws used before after → BreaksFull setup past times rest (around no_source out took before) (around no_source new took after)
+unfolding breaks_early
+full_early setup past times rest used out new took before after w same draws = record {
+  breaks = breaks_early setup past times rest used out new took before after same draws;
+  wanted = wanted_here setup past rest w took took;
+}
+
 -- ---- what the sink takes
 
 front_of : (n : ℕ) (bytes : List ℕ) (held : Piece) → sent_front n (record { bytes = bytes; handles = [] }) held ≡ with_more (take n bytes) [] held
@@ -120,14 +123,15 @@ waiting_is : (b : BackendView) (bytes : List ℕ) → b.unsent ≡ bytes → b.u
 waiting_is b bytes u h = rw (u, h) refl
 
 -- all of the answer, or a front of it
-pub all_sent : (setup : Setup) (past : List Raw) (m : Raw) (b : BackendView) (old new : SinkView) → unsent_of b ≡ bytes_only (all_bytes (reply setup past m)) → Went (unsent_of b) (Ok tt) nothing old new → Replies setup past (m ∷ past) old new
-all_sent setup past m b old new w went = record {
+pub all_sent : (setup : Setup) (past : List Raw) (m : Raw) (b : BackendView) (old new : SinkView) → unsent_of b ≡ bytes_only (all_bytes (reply setup past m)) → Went (unsent_of b) (Ok tt) nothing old new → old.wants ≤ new.wants → Replies setup past (m ∷ past) old new
+all_sent setup past m b old new w went count = record {
   told = λ held told. (
     reply setup past m,
     replies_more setup past m,
     went.took held told ∙ ap (λ (p : Piece). Some (with_more p.bytes p.handles held)) w,
   );
   puts = puts_one setup past m (all_bytes (reply setup past m)) old.puts new.puts refl (subst (λ (p : Piece). IsPutOf p old.puts new.puts) w went.puts);
+  wants = count;
 }
 
 pub front_sent : (setup : Setup) (past : List Raw) (m : Raw) (b : BackendView) (waiting : Piece) (f : FlushError) (old new : SinkView) → unsent_of b ≡ bytes_only (all_bytes (reply setup past m)) → Went (unsent_of b) (Err f) waiting old new →
@@ -174,9 +178,6 @@ module _ (setup : Setup) (past : List Raw) (times rest : List ℕ) (handles : Li
     most = omega (arith, gave.frames);
   }
 
-  pub breaks_unsent : (took : SinkView) → Breaks setup past times rest (around no_source out took before) (around no_source given took later)
-  breaks_unsent took = breaks_one took took (none_sent setup past m took)
-
   pub goes_one : (old new : SinkView) → Replies setup past (m ∷ past) old new → Goes setup past (m ∷ past) times used (around no_source out old before) (around no_source given new later)
   goes_one old new r = record {
     behind = (m ∷ [], refl);
@@ -211,12 +212,12 @@ module _ (setup : Setup) (past : List Raw) (times rest : List ℕ) (handles : Li
 
     -- all was sent
     module _ (flushed : ConnectionView) (none : unsent_of flushed.ctx ≡ nothing) (kept : flushed ≡ record end { ctx = with_unsent (unsent_of flushed.ctx) end.ctx }) (old new : SinkView)
-        (went : Went (unsent_of end.ctx) (Ok tt) (unsent_of flushed.ctx) old new) where
+        (went : Went (unsent_of end.ctx) (Ok tt) (unsent_of flushed.ctx) old new) (count : old.wants ≤ new.wants) where
       flushed_is : flushed ≡ record end { ctx = with_unsent nothing end.ctx }
       flushed_is = kept ∙ ap (λ (p : Piece). record end { ctx = with_unsent p end.ctx }) none
 
       replied : Replies setup past (m ∷ past) old new
-      replied = all_sent setup past m end.ctx old new to_go (record { took = went.took; puts = went.puts })
+      replied = all_sent setup past m end.ctx old new to_go (record { took = went.took; puts = went.puts }) count
 
       pub handles_one : last ≡ false → HandlesOne setup past times rest handles (phase.Connected (record { handle = flushed; queue = [] })) (around no_source out old before) (around no_source given new later)
       handles_one goes_on = record {
@@ -240,10 +241,10 @@ module _ (setup : Setup) (past : List Raw) (times rest : List ℕ) (handles : Li
       }
 
     -- or only a front of it
-    pub cut_off : (waiting : Piece) (f : FlushError) (e : Error) (old new : SinkView) → e ≡ error_of_flush f → Went (unsent_of end.ctx) (Err f) waiting old new →
+    pub cut_off : (waiting : Piece) (f : FlushError) (e : Error) (old new : SinkView) → e ≡ error_of_flush f → (IsErrOf {T = Unit {0}} (Err f) flush_error.NoMemory → Rose old.wants new.wants) → Went (unsent_of end.ctx) (Err f) waiting old new →
         RefusesStep setup past times rest e (around no_source out old before) (around no_source given new later)
-    cut_off waiting flush_error.WriteFault e old new e_is told = rw e_is (breaks_one old new (front_sent setup past m end.ctx waiting flush_error.WriteFault old new to_go told))
-    cut_off waiting flush_error.NoMemory e old new e_is told = rw e_is (breaks_one old new (front_sent setup past m end.ctx waiting flush_error.NoMemory old new to_go told))
+    cut_off waiting flush_error.WriteFault e old new e_is want told = rw e_is (breaks_one old new (front_sent setup past m end.ctx waiting flush_error.WriteFault old new to_go told))
+    cut_off waiting flush_error.NoMemory e old new e_is want told = rw e_is (full_of_sink setup past times rest (around no_source out old before) (around no_source given new later) (breaks_one old new (front_sent setup past m end.ctx waiting flush_error.NoMemory old new to_go told)) (want refl))
 
 -- the ids ran out with it
 pub runs_out : (setup : Setup) (past : List Raw) (times rest : List ℕ) (handles : List Handle) (m : Raw) (after used : List ℕ) (c : ConverterView) → Taken past rest handles m after c → (queue : List EisRequest) → Gave setup past m times used queue →

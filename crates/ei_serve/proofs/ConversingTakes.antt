@@ -1,7 +1,8 @@
 -- What becomes of a request at the front of a connection.
-use Rattle.std.proofs.Common.{◌≡◌, ◌≤◌, ℕ, Bool, true, false, cond, ◌||◌, ◌&&◌, ◌==◌, List, [], ◌++◌, length, Option, Some, None, Result}
+use Rattle.std.proofs.Common.{◌≡◌, inl, ◌≤◌, ℕ, take, Bool, true, false, cond, ◌||◌, ◌&&◌, ◌==◌, List, [], ◌++◌, length, Option, Some, None, Result}
 use Rattle.std.proofs.Common.{Ok, Err, refl, sym, ap, subst, ◌∙◌}
 use Rattle.std.specs.Prelude.{IsErrOf, IsSome, ◌↔◌, find, bit_and, nat_eq, nat_le, nat_lt}
+use Rattle.std.proofs.Math.Seq.{take-append_seam}
 use Rattle.std.specs.List.{list_any}
 use Rattle.std.specs.Option.{option_map}
 use Rattle.ei_spec.specs.declared.handle.Handle.{Handle}
@@ -10,7 +11,7 @@ use Rattle.ei_spec.specs.declared.limits.TheConstants.{MOST_TOUCHES, MOST_TEXT_B
 use Rattle.ei_spec.specs.Interface.{ObjectView, name_of}
 use Rattle.ei_spec.specs.Message.{Raw, Whole, front}
 use Rattle.ei_spec.specs.Piece.{Piece}
-use Rattle.ei_backend.specs.Outside.{SinkView}
+use Rattle.ei_backend.specs.Outside.{Rose, SinkView}
 use Rattle.ei_backend.specs.Outgoing.{Went, nothing}
 use Rattle.ei_backend.specs.Backend.{unsent_of, with_unsent}
 use Rattle.ei_server.specs.declared.request.Request.{Request}
@@ -26,6 +27,7 @@ use Rattle.ei_types.specs.Errors.{error_of_flush, error_of_send}
 use Rattle.ei_types.specs.declared.error.Error.{Error}
 use Rattle.ei_types.specs.declared.error.Error.TheVariants as error
 use Rattle.ei_wire.specs.declared.error.FlushError.{FlushError}
+use Rattle.ei_wire.specs.declared.error.FlushError.TheVariants as flush_error
 use Rattle.ei_wire.specs.declared.error.SendError.{SendError}
 use Rattle.ei_wire.specs.declared.error.SendError.TheVariants as send_error
 use Rattle.ei_request.specs.declared.event.EisRequest.{EisRequest}
@@ -47,14 +49,16 @@ use Rattle.ei_serve.specs.declared.policy.Policy.{Policy}
 use Rattle.ei_serve.specs.declared.policy.Policy.TheVariants as policy
 use Rattle.ei_serve.specs.Around.{around, no_source}
 use Rattle.ei_serve.specs.AtFront.{IsAsked}
+use Rattle.ei_serve.specs.HandedOut.{handed_at}
 use Rattle.ei_serve.specs.Policy.{policy_behind, Follows, LacksIds}
 use Rattle.ei_serve.specs.Standing.{most_capacity}
 use Rattle.ei_serve.specs.Steps.{Refuses as IsRefused, RefusesStep, Steps}
+use Rattle.ei_serve.specs.Wanting.{MayWant}
 use Rattle.ei_serve.proofs.Asked.{judged_refused}
 use Rattle.ei_serve.proofs.AskedMeans.{Kind, IsPlain, IsSync, kind, asks_so, plain_now, sync_announced, refused_so}
 use Rattle.ei_serve.proofs.Stepping.{refused_step}
 use Rattle.ei_serve.proofs.TookBehind.{Behind, behind, behind_sync, is_end}
-use Rattle.ei_serve.proofs.ConversingSteps.{Taken, breaks_early, breaks_unsent, cut_off, handles_one, ends_one, runs_out}
+use Rattle.ei_serve.proofs.ConversingSteps.{Taken, full_early, cut_off, handles_one, ends_one, runs_out}
 
 -- ---- what the converter refuses
 
@@ -104,7 +108,7 @@ no_reason (Some y) s e = absurd cc
 
 -- an error that tells so is the session's refusal
 refuses_as : (setup : Setup) (past : List Raw) (rest : List ℕ) (m : Raw) (after : List ℕ) (x : Option Reason) (e : Error) → front rest ≡ Whole m after → option_map refusal_told x ≡ refusal setup past m → NoHandshake x → Tells x e → IsRefused setup past rest e
-refuses_as setup past rest m after x error.NoMemory f t nh h = tt
+refuses_as setup past rest m after x error.NoMemory f t nh h = record { m = m; after = after; front_is = f; wants = inl (sym t ∙ ap (option_map refusal_told) h) }
 refuses_as setup past rest m after x error.UnexpectedHandshakeEvent f t nh h = absurd (subst NoHandshake (sym h.1) nh)
 refuses_as setup past rest m after x (error.InvalidInterfaceVersion interface v) f t nh h =
     (m, after, f, judged_refused setup past m (InvalidInterfaceVersion interface.now v) (sym t ∙ ap (option_map refusal_told) (sym h.1)))
@@ -177,9 +181,12 @@ module _ (setup : Setup) (past : List Raw) (times rest : List ℕ) (handles : Li
     b : Behind setup past a.m times c n before after
     b = kind_behind (kind r)
 
+    may_want : MayWant setup past rest
+    may_want = record { m = a.m; after = a.after; front_is = a.front_is; wants = inl fine }
+
     -- it couldn't be handed out
     pub unqueued : (p : Phase) (d : Error) (out given : List EisRequest) (took : SinkView) (result : Result Step Error) → result ≡ Err d → d ≡ error.NoMemory → given ≡ out → Steps setup past times rest handles result p (around no_source out took before) (around no_source given took after)
-    unqueued p d out given took result is d_is same = rw (is, d_is) (breaks_early setup past times rest b.used out given took before after same b.draws)
+    unqueued p d out given took result is d_is same = rw (is, d_is) (full_early setup past times rest b.used out given took before after may_want same b.draws)
 
     module _ (out given : List EisRequest) (grown : given ≡ out ++ n.queue) (p : Policy) (p_is : p ≡ policy_behind n.queue) (q : ConverterView) (q_is : q ≡ record n { queue = [] }) (lent : ConnectionView) (lent_is : lent ≡ q.handle) where
       lent_now : lent ≡ n.handle
@@ -191,15 +198,17 @@ module _ (setup : Setup) (past : List Raw) (times rest : List ℕ) (handles : Li
       so_lacks : LacksIds (policy_behind n.queue) n.handle → LacksIds p lent
       so_lacks l = subst (λ (x : Policy). LacksIds x lent) (sym p_is) (subst (λ (x : ConnectionView). LacksIds (policy_behind n.queue) x) (sym lent_now) l)
 
+      taken_back : (handed : ℕ) → handed ≡ length out → take handed given ≡ out
+      taken_back handed count = ap (λ (k : ℕ). take k given) count ∙ ap (take (length out)) grown ∙ take-append_seam out n.queue
+
       -- the policy couldn't be followed
-      pub unfollowed : (f : SendError) (d : Error) (x : Phase) (took : SinkView) (result : Result Step Error) → result ≡ Err d → d ≡ error_of_send f → (IsErrOf {T = Unit {0}} (Err f) send_error.IdsExhausted ↔ LacksIds p lent) →
-          (IsErrOf {T = Unit {0}} (Err f) send_error.MessageTooLong → ⊥) → Steps setup past times rest handles result x (around no_source out took before) (around no_source given took after)
-      unfollowed send_error.MessageTooLong d x took result is d_is out_of short = absurd (short refl)
-      unfollowed send_error.IdsExhausted d x took result is d_is out_of short =
+      pub unfollowed : (handed : ℕ) → handed ≡ length out → (left : List EisRequest) (f : SendError) (d : Error) (x : Phase) (took : SinkView) (result : Result Step Error) → left ≡ handed_at f handed given → result ≡ Err d → d ≡ error_of_send f → (IsErrOf {T = Unit {0}} (Err f) send_error.IdsExhausted ↔ LacksIds p lent) →
+          (IsErrOf {T = Unit {0}} (Err f) send_error.MessageTooLong → ⊥) → Steps setup past times rest handles result x (around no_source out took before) (around no_source left took after)
+      unfollowed handed count left send_error.MessageTooLong d x took result stays is d_is out_of short = absurd (short refl)
+      unfollowed handed count left send_error.IdsExhausted d x took result stays is d_is out_of short =
           let l = b.lacks (lacks_so (out_of.0 refl)) in
-          rw (is, d_is) (runs_out setup past times rest handles a.m a.after b.used c taken n.queue b.gave out given grown before after b.draws took fine l.0 l.1 l.2)
-      unfollowed send_error.NoMemory d x took result is d_is out_of short =
-          rw (is, d_is) (breaks_unsent setup past times rest handles a.m a.after b.used c taken (b.last || exhausts past a.m) b.judged n.queue b.gave out given grown before after b.draws took)
+          rw (stays, is, d_is) (runs_out setup past times rest handles a.m a.after b.used c taken n.queue b.gave out given grown before after b.draws took fine l.0 l.1 l.2)
+      unfollowed handed count left send_error.NoMemory d x took result stays is d_is out_of short = rw (is, d_is) (full_early setup past times rest b.used out left took before after may_want (stays ∙ taken_back handed count) b.draws)
 
       module _ (out_of : IsErrOf {T = Unit {0}} (Ok tt) send_error.IdsExhausted ↔ LacksIds p lent) (end : ConnectionView) (follows : Follows p lent end) (ring : end.ctx.capacity ≡ lent.ctx.capacity) where
         no_lack : LacksIds (policy_behind n.queue) n.handle → ⊥
@@ -216,13 +225,13 @@ module _ (setup : Setup) (past : List Raw) (times rest : List ℕ) (handles : Li
         plain_end false e = b.enough no_lack
 
         -- what answers it couldn't be sent
-        pub unflushed : (f : FlushError) (d : Error) (x : Phase) (waiting : Piece) (old new : SinkView) (result : Result Step Error) → result ≡ Err d → d ≡ error_of_flush f → Went (unsent_of end.ctx) (Err f) waiting old new →
+        pub unflushed : (f : FlushError) (d : Error) (x : Phase) (waiting : Piece) (old new : SinkView) (result : Result Step Error) → result ≡ Err d → d ≡ error_of_flush f → (IsErrOf {T = Unit {0}} (Err f) flush_error.NoMemory → Rose old.wants new.wants) → Went (unsent_of end.ctx) (Err f) waiting old new →
             Steps setup past times rest handles result x (around no_source out old before) (around no_source given new after)
-        unflushed f d x waiting old new result is d_is told =
-            rw is (cut_off setup past times rest handles a.m a.after b.used c taken (b.last || exhausts past a.m) b.judged n.queue b.gave out given grown before after b.draws end (record n { handle = end }) refl followed same_ring waiting f d old new d_is told)
+        unflushed f d x waiting old new result is d_is want told =
+            rw is (cut_off setup past times rest handles a.m a.after b.used c taken (b.last || exhausts past a.m) b.judged n.queue b.gave out given grown before after b.draws end (record n { handle = end }) refl followed same_ring waiting f d old new d_is want told)
 
         module _ (flushed : ConnectionView) (none : unsent_of flushed.ctx ≡ nothing) (kept : flushed ≡ record end { ctx = with_unsent (unsent_of flushed.ctx) end.ctx }) (old new : SinkView)
-            (told : Went (unsent_of end.ctx) (Ok tt) (unsent_of flushed.ctx) old new) where
+            (told : Went (unsent_of end.ctx) (Ok tt) (unsent_of flushed.ctx) old new) (count : old.wants ≤ new.wants) where
           same_last : is_end p ≡ b.last
           same_last = ap is_end p_is ∙ b.ends
 
@@ -232,13 +241,13 @@ module _ (setup : Setup) (past : List Raw) (times rest : List ℕ) (handles : Li
               let closed : (b.last || exhausts past a.m) ≡ false = plain_end b.last refl ∙ sym same_last ∙ still in
               subst (λ (x : ConverterView). Steps setup past times rest handles (Ok step.Handled) (phase.Connected x) (around no_source out old before) (around no_source given new after))
               (sym (d_is ∙ ap (λ (x : ConverterView). record { handle = flushed; queue = x.queue }) q_is))
-              (handles_one setup past times rest handles a.m a.after b.used c taken (b.last || exhausts past a.m) b.judged n.queue b.gave out given grown before after b.draws end (record n { handle = end }) refl followed same_ring flushed none kept old new told closed)
+              (handles_one setup past times rest handles a.m a.after b.used c taken (b.last || exhausts past a.m) b.judged n.queue b.gave out given grown before after b.draws end (record n { handle = end }) refl followed same_ring flushed none kept old new told count closed)
 
           -- the client disconnected
           pub ends : (d : ConverterView) → is_end p ≡ true → Steps setup past times rest handles (Ok step.Disconnect) (phase.Connected d) (around no_source out old before) (around no_source given new after)
           ends d over =
               let closed : (b.last || exhausts past a.m) ≡ true = plain_end b.last refl ∙ sym same_last ∙ over in
-              ends_one setup past times rest handles a.m a.after b.used c taken (b.last || exhausts past a.m) b.judged n.queue b.gave out given grown before after b.draws end (record n { handle = end }) refl followed same_ring flushed none kept old new told closed
+              ends_one setup past times rest handles a.m a.after b.used c taken (b.last || exhausts past a.m) b.judged n.queue b.gave out given grown before after b.draws end (record n { handle = end }) refl followed same_ring flushed none kept old new told count closed
               (b.enough no_lack) (b.lasts (sym same_last ∙ over))
 
           -- either, as the policy says

@@ -109,6 +109,7 @@ pub replies_none : (setup : Setup) (before reached : List Raw) (sink : SinkView)
 replies_none setup before reached sink e = record {
   told = λ held told. ([], e ∙ sym (append-nil (replies setup before)), told ∙ ap (λ (x : Piece). Some x) (none_more held));
   puts = no_puts setup before reached sink.puts;
+  wants = omega arith;
 }
 
 joined_bytes : (a b : List Raw) → all_bytes (a ++ b) ≡ all_bytes a ++ all_bytes b
@@ -124,6 +125,7 @@ replies_then setup a b c x y z first second g h = record {
         q.2 ∙ ap (λ (t : Piece). Some t) (more_more (all_bytes p.0) (all_bytes q.0) held) ∙ ap (λ (t : List ℕ). Some (with_more t [] held)) (sym (joined_bytes p.0 q.0)),
       );
   puts = puts_then setup a b c x.puts y.puts z.puts first second g.puts h.puts;
+  wants = omega (arith, g.wants, h.wants);
 }
 
 pub replies_then_part : (setup : Setup) (a b c : List Raw) (x y z : SinkView) → ((done : List Raw) × (b ≡ done ++ a)) → ((done : List Raw) × (c ≡ done ++ b)) → Replies setup a b x y → RepliesInPart setup b c y z → RepliesInPart setup a c x z
@@ -174,7 +176,11 @@ goes_then setup a b c times u v x y z g h = record {
 pub goes_beside : (setup : Setup) (a b : List Raw) (times used : List ℕ) (x y : Around) (source_old source_new : SourceView) → Goes setup a b times used x y → Goes setup a b times used (record x { source = source_old }) (record y { source = source_new })
 goes_beside setup a b times used x y source_old source_new g = record { behind = g.behind; gives = g.gives; replies = g.replies; drawn = g.drawn; leaves = g.leaves; frames = g.frames }
 
-pub breaks_beside : (setup : Setup) (a b : List Raw) (times : List ℕ) (x y : Around) (source_old source_new : SourceView) → GoesInPart setup a b times x y → GoesInPart setup a b times (record x { source = source_old }) (record y { source = source_new })
+-- on the way to the same messages, by other words
+unfoldable pub breaks_to : (setup : Setup) (a b c : List Raw) (times : List ℕ) (x y : Around) (source_old source_new : SourceView) → c ≡ b → GoesInPart setup a b times x y → GoesInPart setup a c times (record x { source = source_old }) (record y { source = source_new })
+breaks_to setup a b c times x y source_old source_new same g = record { reached = g.reached; used = g.used; behind = g.behind; ahead = (g.ahead.0, same ∙ g.ahead.1); gives = g.gives; replies = g.replies; drawn = g.drawn; leaves = g.leaves; least = g.least; most = g.most }
+
+unfoldable pub breaks_beside : (setup : Setup) (a b : List Raw) (times : List ℕ) (x y : Around) (source_old source_new : SourceView) → GoesInPart setup a b times x y → GoesInPart setup a b times (record x { source = source_old }) (record y { source = source_new })
 breaks_beside setup a b times x y source_old source_new g = record { reached = g.reached; used = g.used; behind = g.behind; ahead = g.ahead; gives = g.gives; replies = g.replies; drawn = g.drawn; leaves = g.leaves; least = g.least; most = g.most }
 
 -- ---- broken off
@@ -206,7 +212,7 @@ module _ {E : Type 0} (judge : List Raw → Raw → Verdict E) where
   extends past bytes = extends_within (suc (length bytes)) past bytes
 
 -- at the message at the front, none of it was given or answered
-pub breaks_here : (setup : Setup) (past : List Raw) (times rest : List ℕ) (x : Around) → Breaks setup past times rest x x
+unfoldable pub breaks_here : (setup : Setup) (past : List Raw) (times rest : List ℕ) (x : Around) → Breaks setup past times rest x x
 breaks_here setup past times rest x = record {
   reached = past;
   used = [];
@@ -221,7 +227,7 @@ breaks_here setup past times rest x = record {
 }
 
 -- later on the way
-pub breaks_then : (setup : Setup) (a b : List Raw) (times u s t : List ℕ) (x y z : Around) → read (judge setup) a s ≡ read (judge setup) b t → Goes setup a b times u x y → Breaks setup b (times ++ u) t y z → Breaks setup a times s x z
+unfoldable pub breaks_then : (setup : Setup) (a b : List Raw) (times u s t : List ℕ) (x y z : Around) → read (judge setup) a s ≡ read (judge setup) b t → Goes setup a b times u x y → Breaks setup b (times ++ u) t y z → Breaks setup a times s x z
 breaks_then setup a b times u s t x y z same g h = record {
   reached = h.reached;
   used = u ++ h.used;

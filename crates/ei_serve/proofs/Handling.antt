@@ -25,6 +25,7 @@ use Rattle.ei_serve.specs.Refusing.{refusal_of}
 use Rattle.ei_serve.specs.Steps.{Goes, RefusesFront, RefusesStep, EndsWith, Waits, HandlesOne, Steps}
 use Rattle.ei_serve.specs.Turning.{HandlesOn, HandlesTo, HandlesToRefusal, RefusesAll, HandlesAll}
 use Rattle.ei_serve.proofs.Going.{goes_none, goes_then, breaks_then}
+use Rattle.ei_serve.proofs.Wanted.{full_then}
 
 -- the messages handled so far, the readings used, and what is unread; each of the n rounds took at least a byte
 pub record Handling (setup : Setup) (past : List Raw) (times rest : List ℕ) (handles : List Handle) (n : ℕ) (p : Phase) (old new : Around) : Type 0 where
@@ -114,7 +115,7 @@ module _ (setup : Setup) (past : List Raw) (times rest : List ℕ) (handles : Li
 
   pub refuses_all : (e : Error) → RefusesStep setup h.now (times ++ h.used) h.unread e y z → RefusesAll setup past times rest e x z
   refuses_all error.WriteFault s = breaks_then setup past h.now times h.used rest h.unread x y z h.same h.goes s
-  refuses_all error.NoMemory s = breaks_then setup past h.now times h.used rest h.unread x y z h.same h.goes s
+  refuses_all error.NoMemory s = full_then setup past h.now times h.used rest h.unread x y z h.same h.goes s
   refuses_all error.IdsExhausted s = ends_so true s
   refuses_all (error.Parse (parse_error.HeaderLength k)) s = unlawful_so k s.0 s.1
   refuses_all e s = refused_so (refusal_of e) s.0 s.1

@@ -1,5 +1,5 @@
 -- What an answer says of a sink that was lent on, by what the call that it was lent to answered.
-use Rattle.std.proofs.Common.{◌≡◌, ℕ, Result, Ok, Err, ap, sym, subst, ◌∙◌}
+use Rattle.std.proofs.Common.{◌≡◌, Result, Ok, Err, ap, sym, subst, ◌∙◌}
 use Rattle.std.specs.Prelude.{IsErrOf}
 use Rattle.ei_backend.specs.Outside.{SinkView}
 use Rattle.ei_backend.specs.Lent.{LentSink}

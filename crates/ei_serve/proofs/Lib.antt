@@ -19,6 +19,7 @@ pub mod Taking
 pub mod EarlyRequests
 pub mod Puts
 pub mod Going
+pub mod Wanted
 pub mod Stepping
 pub mod Handling
 pub mod ShakingAsked

@@ -31,11 +31,11 @@ use Rattle.ei_session.specs.Arguments.{body_of}
 use Rattle.ei_session.specs.Asked.{asked, asks, first}
 use Rattle.ei_session.specs.Handshake.{connected, all_settled}
 use Rattle.ei_session.specs.Inputs.{DeviceInput, input_to}
-use Rattle.ei_session.specs.Devices.{asked_mask, exhausts}
+use Rattle.ei_session.specs.Devices.{asked_mask}
 use Rattle.ei_session.specs.Objects.{Entry, object}
 use Rattle.ei_session.specs.Touches.{input, is_down, touches_down}
 use Rattle.ei_session.specs.Refusals.{Refusal, Parse, Handshake as Shaking, InvalidInterfaceVersion, Request, came, Arguments, arguments, no_row, stuck, announced_id, may_give, bad_id, left_over, bad_handshake, bad_sync, bad_callback}
-use Rattle.ei_session.specs.Refusals.{bad_capabilities, bad_mask, bad_touch, bad_text, bad_letters, unfit_text, refused_row, refused_at, refusal, is_disconnect, verdict, judge}
+use Rattle.ei_session.specs.Refusals.{bad_capabilities, bad_mask, bad_touch, bad_text, bad_letters, unfit_text, refused_row, refused_at, refusal, verdict, judge}
 use Rattle.ei_session.specs.Served.{Answer, End, UnexpectedEof, IdsExhausted, PieceLimit, HandleLimit, Disconnect, Refused, Outcome, answer_of, answer_at, too_many_handles, ran_out, least, is_over, reading_of, read_first}
 use Rattle.ei_session.specs.Served.{over_at, session}
 use Rattle.ei_serve.proofs.ReadFront.{IsHandleless, rows}

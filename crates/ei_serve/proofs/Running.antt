@@ -82,6 +82,7 @@ replied_then setup a b x y z behind r s = record {
       q.2 ∙ ap (λ (t : Piece). Some t) (more_more (all_bytes (replies setup a)) (all_bytes q.0) held)
       ∙ ap (λ (t : List ℕ). Some (with_more t [] held)) (sym (joined_bytes (replies setup a) q.0) ∙ ap all_bytes (sym q.1));
   puts = puts_on setup a b x.puts y.puts z.puts behind r.puts s.puts;
+  wants = omega (arith, r.wants, s.wants);
 }
 
 -- ---- one turn more
@@ -116,7 +117,7 @@ untold sink = record sink { taken = None }
 
 -- anything is behind that
 pub untold_replied : (setup : Setup) (messages : List Raw) (sink : SinkView) → Replied setup messages (untold sink) sink
-untold_replied setup messages sink = record { told = λ held told. absurd cc; puts = no_replies setup messages sink.puts }
+untold_replied setup messages sink = record { told = λ held told. absurd cc; puts = no_replies setup messages sink.puts; wants = omega arith }
 
 -- a session that just started stands for no pieces
 pub stands_for_none : (setup : Setup) (s : SessionState) → terms_of s.start.terms ≡ setup → StandsAt setup [] [] [] [] s.phase → s.taken ≡ 0 → Stands setup [] [] s

@@ -10,7 +10,7 @@ use Rattle.std.proofs.lemmas.Grind.{flat_map-append}
 use Rattle.std.proofs.Math.Seq.{take-append-add}
 use Rattle.ei_spec.specs.Message.{Raw, bytes_of, all_bytes}
 use Rattle.ei_spec.specs.Piece.{Piece, stream, handle_count}
-use Rattle.ei_spec.specs.Stream.{Stop, Waiting, Ended, HeaderLength, Refusal}
+use Rattle.ei_spec.specs.Stream.{Stop, Reading, Waiting, Ended, HeaderLength, Refusal}
 use Rattle.ei_spec.specs.History.{each, joined, total}
 use Rattle.ei_spec.specs.Groups.{Item, Input, Frame, Other, Free, Given, Plain, Slot, group, with_frame, gives, grouped, frames_made}
 use Rattle.ei_session.specs.Setup.{Setup}
@@ -20,7 +20,7 @@ use Rattle.ei_session.specs.Requests.{Request, slot, framed}
 use Rattle.ei_session.specs.Replies.{greeting}
 use Rattle.ei_session.specs.Events.{replies}
 use Rattle.ei_session.specs.Served.{Answer, Disconnect, End, UnexpectedEof, IdsExhausted, PieceLimit, HandleLimit, Refused, Outcome, answer_at}
-use Rattle.ei_session.specs.Served.{at_end, is_waiting, is_over, IsGood}
+use Rattle.ei_session.specs.Served.{at_end, is_waiting, is_over, read_first, IsGood}
 use Rattle.ei_session.specs.Served.{session, is_over, reading_of, accepted, IsValid}
 use Rattle.ei_session.specs.Complete.{AreComplete}
 use Rattle.ei_session.proofs.AllParts.{replies_prefix}
@@ -43,11 +43,11 @@ use Rattle.ei_serve.specs.Causes.{Greeted, GreetedInPart, RefusesToStart}
 use Rattle.ei_serve.specs.Steps.{GivesOut, Replies, RepliesInPart, Goes}
 use Rattle.ei_serve.specs.Taking.{with_next}
 use Rattle.ei_serve.specs.Refusing.{refusal_of, IsRefused}
-use Rattle.ei_serve.specs.Turning.{Closes, ClosesRefused, Finds, Stays, BreaksOff, Turns, IsAtEnd}
+use Rattle.ei_serve.specs.Turning.{Closes, ClosesRefused, Finds, Stays, BreaksOff, BreaksOffFull, Turns, IsAtEnd}
 use Rattle.ei_serve.specs.Serving.{AnswersAs, IsOfRequest, IsOfSession, IsSourceEnd, HandsOut, LeftReadings, Replied, RepliedInPart}
 use Rattle.ei_backend.specs.Pieces.{TookPieces}
 use Rattle.ei_types.specs.Decided.{IsDecided, IsCutShort}
-use Rattle.ei_serve.specs.Serving.{RepliedAtLeast, ReadValid, TookToTheEnd, TookToPiece, TookAllOf, CutShort}
+use Rattle.ei_serve.specs.Serving.{RepliedAtLeast, ReadValid, TookToTheEnd, TookToPiece, TookAllOf, CutShort, CutFull}
 use Rattle.ei_serve.specs.Whole.{Serves}
 use Rattle.ei_serve.proofs.NeverRefused.{FineAnswer, session_fine}
 use Rattle.ei_serve.proofs.Puts.{puts_greeting, puts_on}
@@ -55,7 +55,8 @@ use Rattle.ei_serve.proofs.Going.{drop_none, more_more, gives_none, gives_then, 
 use Rattle.ei_serve.proofs.Histories.{GoesOn as GoingOn, IsEarly, IsStopped, end_is_no_stop, goes_on_more, going, stopped, too_many_pieces}
 use Rattle.ei_serve.proofs.Histories.{too_many_handles_come, session_front}
 use Rattle.ei_serve.proofs.Histories.{over_early, front_same, accepted_front, handled_front, handled_next}
-use Rattle.ei_serve.proofs.Running.{Running, Took, took_more, replied_then}
+use Rattle.ei_serve.proofs.Running.{Running, Took, took_more, nothing_read, replied_then}
+use Rattle.ei_serve.proofs.Wanted.{wanted_since}
 
 -- ---- readings
 
@@ -146,6 +147,7 @@ pub greeted : (setup : Setup) (old new : SinkView) → Greeted old new → Repli
 greeted setup old new h = record {
   told = λ held told. h.told held told ∙ ap (λ (x : List ℕ). Some (with_more x [] held)) (sym (greeting_bytes setup));
   puts = puts_greeting setup [] old.puts new.puts h.puts;
+  wants = h.wants;
 }
 
 pub greeted_in_part : (setup : Setup) (old new : SinkView) → GreetedInPart old new → RepliedInPart setup [] old new
@@ -161,6 +163,11 @@ greeted_in_part setup old new h = record {
 none_taken : (told : List Piece) (left : Option (List Piece)) → left ≡ Some told → TookPieces told left 0
 none_taken told left e = record { within = omega arith; left_is = e }
 
+-- no reading of no pieces stops
+none_over : (setup : Setup) (told : List Piece) → is_waiting (read_first setup told 0).stop ≡ false → ⊥
+unfolding read_first
+none_over setup told e = absurd (let z : true ≡ false = sym (ap (λ (r : Reading Cause). is_waiting r.stop) (nothing_read setup)) ∙ e in cc)
+
 none_handled : (setup : Setup) (told : List Piece) (left : Option (List Piece)) (readings : Option (List ℕ)) (out : List EisRequest) (old new : SinkView) → left ≡ Some told → RepliedInPart setup [] old new → CutShort setup told left readings readings out out old new
 none_handled setup told left readings out old new e r = record {
   k = 0;
@@ -173,6 +180,11 @@ none_handled setup told left readings out old new e r = record {
   readings_left = record { n = 0; least = omega (arith, no_frames setup); most = omega arith; left = λ told is. is };
   replied = λ lt. absurd (omega (arith, lt));
 }
+
+-- nothing was taken, and so nothing that is refused
+none_full : (setup : Setup) (told : List Piece) (left : Option (List Piece)) (readings : Option (List ℕ)) (out : List EisRequest) (old new : SinkView) → left ≡ Some told → RepliedInPart setup [] old new → CutFull setup told left readings readings out out old new
+unfolding none_handled
+none_full setup told left readings out old new e r = record { cut = none_handled setup told left readings out old new e r; wanted = λ over. absurd (none_over setup told over) }
 
 -- ---- the stop
 
@@ -260,6 +272,9 @@ no_fault (Err error.WriteFault) d e = d
 no_fault (Err error.NoMemory) d e = d
 no_fault r d e = absurd cc
 
+not_full : (r : Result HowEnded Error) → IsDecided r → IsErrOf r error.NoMemory → ⊥
+not_full r d e = subst (λ (q : Result HowEnded Error). IsDecided q) e d
+
 not_cut : (r : Result HowEnded Error) → IsDecided r → IsCutShort r → ⊥
 not_cut (Err error.ReadFault) d c = d
 not_cut (Err error.WriteFault) d c = d
@@ -285,10 +300,10 @@ took_to_end setup told left r n t = absurd n
 took_of : (told : List Piece) (left : Option (List Piece)) (n : ℕ) (pieces : List Piece) → Took told left n pieces → TookPieces told left n
 took_of told left n pieces t = record { within = t.within; left_is = t.left_is }
 
-cut_so : (setup : Setup) (told : List Piece) (left : Option (List Piece)) (x z : Around) (e : Error) (k : ℕ) → IsCutShort {T = HowEnded} (Err e) → k ≤ setup.pieces + 1 → TookPieces told left k → CutShort setup told left x.readings z.readings x.out z.out x.sink z.sink → Serves setup told left (Err e) x z
-cut_so setup told left x z error.WriteFault k is most took h = record { answer = tt; requests = λ d. absurd d; replies = λ d. absurd d; readings = λ d. absurd d; valid = tt; taken = λ d. absurd d; pieces = (k, most, took); handled = λ e. absurd cc; cut_short = λ _. h }
-cut_so setup told left x z error.NoMemory k is most took h = record { answer = tt; requests = λ d. absurd d; replies = λ d. absurd d; readings = λ d. absurd d; valid = tt; taken = λ d. absurd d; pieces = (k, most, took); handled = λ e. absurd cc; cut_short = λ _. h }
-cut_so setup told left x z e k is most took h = absurd is
+cut_so : (setup : Setup) (told : List Piece) (left : Option (List Piece)) (x z : Around) (e : Error) (k : ℕ) → IsCutShort {T = HowEnded} (Err e) → k ≤ setup.pieces + 1 → TookPieces told left k → CutShort setup told left x.readings z.readings x.out z.out x.sink z.sink → (e ≡ error.NoMemory → CutFull setup told left x.readings z.readings x.out z.out x.sink z.sink) → Serves setup told left (Err e) x z
+cut_so setup told left x z error.WriteFault k is most took h full = record { answer = tt; requests = λ d. absurd d; replies = λ d. absurd d; readings = λ d. absurd d; valid = tt; taken = λ d. absurd d; pieces = (k, most, took); handled = λ e. absurd cc; cut_short = λ _. h; full = λ e. absurd cc }
+cut_so setup told left x z error.NoMemory k is most took h full = record { answer = tt; requests = λ d. absurd d; replies = λ d. absurd d; readings = λ d. absurd d; valid = tt; taken = λ d. absurd d; pieces = (k, most, took); handled = λ e. absurd cc; cut_short = λ _. h; full = λ _. full refl }
+cut_so setup told left x z e k is most took h full = absurd is
 
 start_cut : (e : Error) → RefusesToStart e → IsCutShort {T = HowEnded} (Err e)
 start_cut error.WriteFault h = tt
@@ -303,7 +318,7 @@ pub not_started : (setup : Setup) (told : List Piece) (source : SourceView) (lef
     Serves setup told left r (around source out old readings) (around source out new readings)
 not_started setup told source left out old new readings e r same h is replied =
     subst (λ (q : Result HowEnded Error). Serves setup told left q (around source out old readings) (around source out new readings)) (sym same)
-    (cut_so setup told left (around source out old readings) (around source out new readings) e 0 (start_cut e h) (omega arith) (none_taken told left is) (none_handled setup told left readings out old new is replied))
+    (cut_so setup told left (around source out old readings) (around source out new readings) e 0 (start_cut e h) (omega arith) (none_taken told left is) (none_handled setup told left readings out old new is replied) (λ _. none_full setup told left readings out old new is replied))
 
 module _ (setup : Setup) (n : ℕ) (s : SessionState) (x y z : Around) (run : Running setup n s x y) (few : n ≤ setup.pieces) (told : List Piece) (left_is : x.source.left ≡ Some told) where
   took_now : Took told y.source.left n run.pieces
@@ -337,6 +352,7 @@ module _ (setup : Setup) (n : ℕ) (s : SessionState) (x y z : Around) (run : Ru
     pieces = (k, most, took);
     handled = λ e. absurd (no_fault r d e);
     cut_short = λ e. absurd (not_cut r d e);
+    full = λ e. absurd (not_full r d e);
   }
 
   goes_on_told : (j : ℕ) → 1 ≤ j → j ≤ n → is_over setup told j ≡ false
@@ -470,20 +486,23 @@ module _ (setup : Setup) (n : ℕ) (s : SessionState) (x y z : Around) (run : Ru
       readings_left = subst (λ (m : List Raw). LeftReadings setup m x.readings z.readings) (sym accepted_is) (left_here h);
     };
     cut_short = λ e. absurd e;
+    full = λ e. absurd cc;
   }
 
-  cut_by : (e : Error) (k : ℕ) → IsCutShort {T = HowEnded} (Err e) → k ≤ setup.pieces + 1 → TookPieces told z.source.left k → CutShort setup told z.source.left x.readings z.readings x.out z.out x.sink z.sink → Serves setup told z.source.left (Err e) x z
-  cut_by e k is most took h = cut_so setup told z.source.left x z e k is most took h
+  abbrev Broken : Type 0
+  Broken = CutShort setup told z.source.left x.readings z.readings x.out z.out x.sink z.sink
 
-  pub breaks_off : (e : Error) → IsCutShort {T = HowEnded} (Err e) → BreaksOff setup run.pieces run.times y z → Serves setup told z.source.left (Err e) x z
-  breaks_off e is h =
+  abbrev BrokenFull : Type 0
+  BrokenFull = CutFull setup told z.source.left x.readings z.readings x.out z.out x.sink z.sink
+
+  broken : BreaksOff setup run.pieces run.times y z → Broken
+  broken h =
       let took = took_next h.piece h.hands in
       let next = handled_next setup told n (omega (arith, took.within)) goes_on_front (omega (arith, h.room, run.count)) (subst (λ (p : List Piece). handle_count p ≤ 4096) (sym took.are) h.few) in
       let last : accepted setup (stream (take (n + 1) told)) ≡ accepted setup (stream (with_next run.pieces h.piece)) = ap (λ (p : List Piece). accepted setup (stream p)) took.are in
       let less : n + 1 - 1 ≡ n = omega arith in
       let before : accepted setup (stream (take (n + 1 - 1) told)) ≡ past = ap (λ (k : ℕ). accepted setup (stream (take k told))) less ∙ accepted_is in
-      cut_by e (n + 1) is (omega (arith, few)) (took_of told z.source.left (n + 1) (with_next run.pieces h.piece) took)
-      (record {
+      record {
         k = n + 1;
         took = took_of told z.source.left (n + 1) (with_next run.pieces h.piece) took;
         reached = h.goes.reached;
@@ -498,15 +517,27 @@ module _ (setup : Setup) (n : ℕ) (s : SessionState) (x y z : Around) (run : Ru
           left = leaves_then run.times h.goes.used x.readings y.readings z.readings run.leaves h.goes.leaves;
         };
         replied = λ _. subst (λ (m : List Raw). RepliedAtLeast setup m x.sink z.sink) (sym before) (at_least setup past h.goes.reached x.sink y.sink z.sink run.replied h.goes.replies);
-      })
+      }
 
-  stays_short : (e : Error) → IsCutShort {T = HowEnded} (Err e) → Stays y z → Serves setup told z.source.left (Err e) x z
-  stays_short e is h =
+  broken_full : BreaksOffFull setup run.pieces run.times y z → BrokenFull
+  unfolding broken read_first
+  broken_full h = record {
+    cut = broken h.breaks;
+    wanted = λ over.
+        wanted_since (read_first setup told (n + 1)) (reading_of setup (stream (with_next run.pieces h.breaks.piece))) h.breaks.goes.reached x.sink y.sink z.sink
+        (ap (λ (p : List Piece). reading_of setup (stream p)) (took_next h.breaks.piece h.breaks.hands).are) run.replied.wants h.wanted;
+  }
+
+  cut_by : (e : Error) → IsCutShort {T = HowEnded} (Err e) → (h : BreaksOff setup run.pieces run.times y z) → (e ≡ error.NoMemory → BrokenFull) → Serves setup told z.source.left (Err e) x z
+  cut_by e is h full =
+      cut_so setup told z.source.left x z e (n + 1) is (omega (arith, few)) (took_of told z.source.left (n + 1) (with_next run.pieces h.piece) (took_next h.piece h.hands)) (broken h) full
+
+  stayed : Stays y z → Broken
+  stayed h =
       let front = handled_front setup told n took_now.within goes_on_front in
       let owed = accepted_front setup told (n - 1) n (omega arith) in
       let behind : past ≡ owed.0 ++ accepted setup (stream (take (n - 1) told)) = sym accepted_is ∙ owed.1 in
-      cut_by e n is (omega (arith, few)) (stays_took h)
-      (record {
+      record {
         k = n;
         took = stays_took h;
         reached = past;
@@ -521,7 +552,19 @@ module _ (setup : Setup) (n : ℕ) (s : SessionState) (x y z : Around) (run : Ru
           left = left_here h;
         };
         replied = λ _. at_least_front setup (accepted setup (stream (take (n - 1) told))) past x.sink z.sink owed.0 behind (replied_here h);
-      })
+      }
+
+  -- a session that goes on waits
+  waiting_now : is_waiting (read_first setup told n).stop ≡ true
+  unfolding read_first
+  waiting_now = ap (λ (p : List Piece). is_waiting (reading_of setup (stream p)).stop) took_now.are ∙ ap is_waiting run.stands.waits
+
+  stayed_full : Stays y z → BrokenFull
+  unfolding stayed
+  stayed_full h = record { cut = stayed h; wanted = λ over. absurd (let b : true ≡ false = sym waiting_now ∙ over in cc) }
+
+  stays_short : Stays y z → Serves setup told z.source.left (Err error.NoMemory) x z
+  stays_short h = cut_so setup told z.source.left x z error.NoMemory n tt (omega (arith, few)) (stays_took h) (stayed h) (λ _. stayed_full h)
 
   -- ---- by the error
 
@@ -535,9 +578,9 @@ module _ (setup : Setup) (n : ℕ) (s : SessionState) (x y z : Around) (run : Ru
   fails error.HandleLimit t h = closed (Err error.HandleLimit) HandleLimit tt tt tt refl h tt
   fails error.IdsExhausted t h = closed (Err error.IdsExhausted) IdsExhausted tt tt tt refl h tt
   fails error.ReadFault t h = read_fault h
-  fails error.WriteFault t h = breaks_off error.WriteFault tt h
-  fails error.NoMemory t (inl h) = stays_short error.NoMemory tt h
-  fails error.NoMemory t (inr h) = breaks_off error.NoMemory tt h
+  fails error.WriteFault t h = cut_by error.WriteFault tt h (λ e. absurd cc)
+  fails error.NoMemory t (inl h) = stays_short h
+  fails error.NoMemory t (inr h) = cut_by error.NoMemory tt h.breaks (λ _. broken_full h)
   fails e t h = refused e (refusal_of e) tt tt (λ a r. r) h
 
   pub failed : (t : SessionState) (e : Error) (r : Result HowEnded Error) → r ≡ Err e → Turns setup run.pieces run.times (Err e) t y z → Serves setup told z.source.left r x z

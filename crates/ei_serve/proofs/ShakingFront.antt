@@ -1,6 +1,7 @@
 -- The message at the front during the handshake.
-use Rattle.std.proofs.Common.{◌≡◌, ◌==◌, ℕ, Bool, true, false, cond, ◌&&◌, ◌||◌, eqb, List, [], ◌∷◌, Option, Some, None, Ok, Err, refl, sym, ap, ◌∙◌}
+use Rattle.std.proofs.Common.{◌≡◌, ◌==◌, ℕ, Bool, true, false, cond, ◌&&◌, ◌||◌, eqb, List, [], ◌∷◌, Option, Some, None, Ok, Err, refl, sym, ap, subst, ◌∙◌}
 use Rattle.std.specs.Prelude.{codes}
+use Rattle.std.specs.Option.{option_map}
 use Rattle.std.specs.Ordering.{nat_cmp, eq_by_cmp}
 use Rattle.std.specs.Cmp.{nat_cmp_total, Equal-is}
 use Rattle.std.specs.FinMap.{empty, get-empty, get-insert, nat_cmp-IsAntisymmetric}
@@ -26,7 +27,7 @@ use Rattle.ei_server.specs.declared.request.Request.TheVariants as request
 use Rattle.ei_server.specs.Request.{as_one_of, target_of, opcode_of, values_of}
 use Rattle.ei_session.specs.Setup.{Setup}
 use Rattle.ei_session.specs.Arguments.{request_args}
-use Rattle.ei_session.specs.Asked.{first as first_there}
+use Rattle.ei_session.specs.Asked.{first as first_some}
 use Rattle.ei_session.specs.Handshake.{Announced, announced, announced_by, connected, is_finish}
 use Rattle.ei_session.specs.Meaning.{Shake, Greets, Finishes, TellsContext, TellsName, TellsInterface, Shakes, meaning}
 use Rattle.ei_session.specs.Meaning as rows
@@ -43,6 +44,7 @@ use Rattle.ei_session.proofs.RefusalLaws.{refused_known, refused_early}
 use Rattle.ei_session.proofs.RefusedMeans.{refusal_asked}
 use Rattle.ei_session.proofs.RowsMean.{asks_means}
 use Rattle.ei_request.specs.Typed.{interface_asked}
+use Rattle.ei_standing.specs.Standing.{object_of}
 use Rattle.ei_serve.specs.AtFront.{AllKnown, is_sync, TakesOut, IsGone, Unreadable, bytes_refused}
 use Rattle.ei_serve.specs.Standing.{handshake_table}
 use Rattle.ei_serve.specs.Steps.{RefusesFront}
@@ -207,7 +209,7 @@ announced_none m n e plain =
 -- ---- messages that aren't requests of the handshake
 
 -- the first of these is the first of all tests
-first_of_all : (a b c : Option Refusal) (rest : List (Option Refusal)) (r : Refusal) → first_there (a ∷ b ∷ c ∷ []) ≡ Some r → first_there (a ∷ b ∷ None ∷ c ∷ rest) ≡ Some r
+first_of_all : (a b c : Option Refusal) (rest : List (Option Refusal)) (r : Refusal) → first_some (a ∷ b ∷ c ∷ []) ≡ Some r → first_some (a ∷ b ∷ None ∷ c ∷ rest) ≡ Some r
 first_of_all (Some x) b c rest r e = e
 first_of_all None (Some x) c rest r e = e
 first_of_all None None (Some x) rest r e = e
@@ -226,7 +228,7 @@ bytes_refusal setup past m r off i e =
     let args = arguments row m in
     let rest = bad_handshake past m known.Handshake ∷ bad_sync m known.Handshake ∷ bad_capabilities setup.capabilities m known.Handshake ∷ bad_touch past 1 (input past m) ∷ bad_text m known.Handshake ∷ [] in
     refused_known setup past m the_handshake (handshake_at past off m i)
-    ∙ ap (λ (o : Option ℕ). first_there (no_row known.Handshake m row ∷ stuck args ∷ bad_id past o ∷ left_over m args ∷ rest)) (no_id row args (plain_rows known.Handshake m.opcode refl))
+    ∙ ap (λ (o : Option ℕ). first_some (no_row known.Handshake m row ∷ stuck args ∷ bad_id past o ∷ left_over m args ∷ rest)) (no_id row args (plain_rows known.Handshake m.opcode refl))
     ∙ first_of_all (no_row known.Handshake m row) (stuck args) (left_over m args) rest r e
 
 pub unread_refused : (setup : Setup) (past : List Raw) (rest : List ℕ) (handles : List Handle) (memory : Memory) (fault : Fault) → connected past ≡ false → Unreadable (quiet_with handshake_table rest handles memory) fault → RefusesFront setup past rest (Some (Parse fault))
@@ -244,6 +246,23 @@ no_first id false e n = e
 
 nothing_at : (past : List Raw) (m : Raw) → connected past ≡ false → found handshake_table m.id ≡ None → object past m.id ≡ None
 nothing_at past m off n = object_first past m.id off ∙ rw (no_first m.id (eqb m.id 0) refl n) refl
+
+none_there : (id : ℕ) (o : Option ObjectView) → eqb id 0 ≡ false → found handshake_table id ≡ o → found handshake_table id ≡ None
+none_there id None e h = h
+none_there id (Some target) e h = absurd (let z : true ≡ false = subst (λ (n : ℕ). eqb n 0 ≡ false) (only_first id target h).0 e in cc)
+
+-- what is there is just what the definitions say
+there_by : (past : List Raw) (id : ℕ) (b : Bool) → connected past ≡ false → eqb id 0 ≡ b → found handshake_table id ≡ option_map (object_of id) (object past id)
+there_by past id true off e =
+    let zero : id ≡ 0 = eqb-true id 0 e in
+    ap (found handshake_table) zero ∙ found_first false first_server_id
+    ∙ rw zero (sym (ap (option_map (object_of 0)) (object_first past 0 off)))
+there_by past id false off e =
+    let none : object past id ≡ None = object_first past id off ∙ rw e refl in
+    none_there id (found handshake_table id) e refl ∙ sym (ap (option_map (object_of id)) none)
+
+pub first_there : (past : List Raw) → connected past ≡ false → (id : ℕ) → found handshake_table id ≡ option_map (object_of id) (object past id)
+first_there past off id = there_by past id (eqb id 0) off refl
 
 pub gone_refused : (setup : Setup) (past : List Raw) (rest : List ℕ) (handles : List Handle) (memory : Memory) (id : ℕ) (new : BackendView) → connected past ≡ false → IsGone (quiet_with handshake_table rest handles memory) id new → RefusesFront setup past rest (Some (Handshake (handshake_error.InvalidObject id)))
 gone_refused setup past rest handles memory id new off g =

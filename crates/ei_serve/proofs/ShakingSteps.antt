@@ -1,5 +1,5 @@
 -- What becomes of the message at the front during the handshake.
-use Rattle.std.proofs.Common.{◌≡◌, ◌==◌, ◌≤◌, ℕ, Bool, true, false, ◌||◌, List, [], ◌∷◌, ◌++◌, Option, Some, None, Ok, Err, refl, sym, ap, ◌∙◌, subst}
+use Rattle.std.proofs.Common.{◌≡◌, inl, ◌==◌, ◌≤◌, ℕ, Bool, true, false, ◌||◌, List, [], ◌∷◌, ◌++◌, Option, Some, None, Ok, Err, refl, sym, ap, ◌∙◌, subst}
 use Rattle.std.proofs.Common.{arith}
 use Rattle.std.specs.Prelude.{is_some, codes}
 use Rattle.ei_spec.specs.declared.handle.Handle.{Handle}
@@ -16,6 +16,7 @@ use Rattle.ei_wire.specs.declared.error.ParseError.{ParseError}
 use Rattle.ei_wire.specs.declared.error.ParseError.TheVariants as parse_error
 use Rattle.ei_backend.specs.Table.{own, own_end}
 use Rattle.ei_backend.specs.Endpoint.{endpoint_of}
+use Rattle.ei_backend.specs.Message.{front_wants}
 use Rattle.ei_backend.specs.Backend.{BackendView, Answers, next}
 use Rattle.ei_backend.specs.declared.message.PendingRequestResult.{PendingRequestResult}
 use Rattle.ei_backend.specs.declared.message.PendingRequestResult.TheVariants as pending
@@ -44,11 +45,13 @@ use Rattle.ei_serve.specs.AtFront.{SaysOfFront, SaysWhy}
 use Rattle.ei_serve.specs.Causes.{IsInner}
 use Rattle.ei_serve.specs.Standing.{ShakesHands, connection_table, handshake_table, most_capacity, quiet}
 use Rattle.ei_serve.specs.Steps.{AsksToFinish, HandsOver, Refuses, RefusesFront}
+use Rattle.ei_serve.specs.Wanting.{MayWant}
+use Rattle.ei_serve.proofs.Wanted.{fine_of, front_may}
 use Rattle.ei_serve.proofs.ShakingAsked.{says_of_front}
 use Rattle.ei_serve.proofs.Endpoints.{Memory, memory_of, quiet_with, backend_is}
 use Rattle.ei_serve.proofs.ShakingFront.{Front, all_known, announced_none, announced_this, context_came, finishes, front_of, gone_refused, judged}
 use Rattle.ei_serve.proofs.ShakingFront.{name_came, only_shaking, shake_of}
-use Rattle.ei_serve.proofs.ShakingFront.{unread_refused}
+use Rattle.ei_serve.proofs.ShakingFront.{unread_refused, first_there}
 
 -- ---- asking
 
@@ -68,6 +71,12 @@ waits setup past rest handles b new h answer s none a =
 said_of : (setup : Setup) (past : List Raw) (rest : List ℕ) (handles : List Handle) (b new : BackendView) (h : HandshakerView) (answer : Option (PendingRequestResult Request)) (p said : PendingRequestResult Request) → ShakesHands setup past rest handles b h → answer ≡ Some p → p ≡ said → Answers target_of opcode_of values_of answer new (next false b) → SaysOfFront (quiet_with handshake_table rest handles (memory_of b)) (Some said) new
 said_of setup past rest handles b new h answer p said s some is a =
     subst (λ (x : Option (PendingRequestResult Request)). SaysOfFront (quiet_with handshake_table rest handles (memory_of b)) x new) (some ∙ ap (λ (x : PendingRequestResult Request). Some x) is) (said_here setup past rest handles b new h answer s a)
+
+-- reading it took memory
+pub may_want : (setup : Setup) (past : List Raw) (rest : List ℕ) (handles : List Handle) (b : BackendView) (h : HandshakerView) → ShakesHands setup past rest handles b h → front_wants false b.table (front b.unread) ≡ true → MayWant setup past rest
+may_want setup past rest handles b h s w =
+    front_may setup past rest handshake_table (first_there past s.unfinished)
+    (subst (λ (x : BackendView). front_wants false x.table (front x.unread) ≡ true) (backend_is b (quiet handshake_table rest handles) s.endpoint) w)
 
 -- ---- why there is no request
 
@@ -178,17 +187,23 @@ module _ (setup : Setup) (past : List Raw) (rest : List ℕ) (handles : List Han
       let full : 18446744073709551615 ≤ 18374686479671623680 = subst (λ (x : BackendView). own_end x.table ≤ x.table.next_own) here le in
       absurd (omega (arith, full))
 
-  missing : has_required h.versions ≡ false → RefusesFront setup past rest (Some (Handshake handshake_error.MissingInterface))
+  pub missing : has_required h.versions ≡ false → RefusesFront setup past rest (Some (Handshake handshake_error.MissingInterface))
   missing d =
       let why : shake_refusal past Finishes ≡ Some (Handshake handshake_error.MissingInterface) = rw (all_there ∙ d) refl in
       (a.m, a.after, a.front_is, a.judged ∙ ap (λ (o : Option Refusal). verdict o false) why)
 
+  -- where none is missing it isn't refused, and may take memory
+  pub may_finish : has_required h.versions ≡ true → MayWant setup past rest
+  may_finish d =
+      let whole : shake_refusal past Finishes ≡ None = rw (all_there ∙ d) refl in
+      record { m = a.m; after = a.after; front_is = a.front_is; wants = inl (fine_of setup past a.m (a.judged ∙ ap (λ (o : Option Refusal). verdict o false) whole)) }
+
   -- or it is refused
-  pub refused_finish : (e : Error) (new : HandshakerView) (sent : BackendView) → RefusesFinish e proxy.id h b new sent → Refuses setup past rest e
-  refused_finish error.NoMemory new sent d = tt
-  refused_finish (error.Handshake handshake_error.MissingInterface) new sent d = missing d.0
-  refused_finish error.IdsExhausted new sent d = absurd (id_left d.1)
-  refused_finish e new sent d = absurd d
+  pub refused_finish : (e : Error) (new : HandshakerView) (sent : BackendView) → (e ≡ error.NoMemory → MayWant setup past rest) → RefusesFinish e proxy.id h b new sent → Refuses setup past rest e
+  refused_finish error.NoMemory new sent may d = may refl
+  refused_finish (error.Handshake handshake_error.MissingInterface) new sent may d = missing d.0
+  refused_finish error.IdsExhausted new sent may d = absurd (id_left d.1)
+  refused_finish e new sent may d = absurd d
 
 -- ---- what is told
 
@@ -318,13 +333,13 @@ module _ (setup : Setup) (past : List Raw) (rest : List ℕ) (handles : List Han
   refused_told : (e : Error) (a : Asked) (f : Front rest handles (memory_of first) a b) (sent : BackendView) (new : HandshakerView) → RefusesTold e h b a new sent → Refuses setup past rest e
   refused_told e a f sent new d = refused_second e a f d.0
 
-  refused_handling : (r : Request) (e : Error) (sent : BackendView) (new : HandshakerView) → IsFront rest handles (memory_of first) b r → Handles h b r (Err e) new sent → Refuses setup past rest e
-  refused_handling (request.Handshake proxy asked.Finish) e sent new f d = refused_finish setup past rest handles proxy b h (asks proxy f.0 f.1) e new sent d
-  refused_handling (request.Handshake proxy (asked.HandshakeVersion version)) e sent new f d = refused_told e (asked.HandshakeVersion version) f.1 sent new d
-  refused_handling (request.Handshake proxy (asked.ContextType kind)) e sent new f d = refused_told e (asked.ContextType kind) f.1 sent new d
-  refused_handling (request.Handshake proxy (asked.Name name)) e sent new f d = refused_told e (asked.Name name) f.1 sent new d
-  refused_handling (request.Handshake proxy (asked.InterfaceVersion name version)) e sent new f d = refused_told e (asked.InterfaceVersion name version) f.1 sent new d
-  refused_handling other e sent new f d = absurd f
+  refused_handling : (r : Request) (e : Error) (sent : BackendView) (new : HandshakerView) → (e ≡ error.NoMemory → ⊥) → IsFront rest handles (memory_of first) b r → Handles h b r (Err e) new sent → Refuses setup past rest e
+  refused_handling (request.Handshake proxy asked.Finish) e sent new none f d = refused_finish setup past rest handles proxy b h (asks proxy f.0 f.1) e new sent (λ q. absurd (none q)) d
+  refused_handling (request.Handshake proxy (asked.HandshakeVersion version)) e sent new none f d = refused_told e (asked.HandshakeVersion version) f.1 sent new d
+  refused_handling (request.Handshake proxy (asked.ContextType kind)) e sent new none f d = refused_told e (asked.ContextType kind) f.1 sent new d
+  refused_handling (request.Handshake proxy (asked.Name name)) e sent new none f d = refused_told e (asked.Name name) f.1 sent new d
+  refused_handling (request.Handshake proxy (asked.InterfaceVersion name version)) e sent new none f d = refused_told e (asked.InterfaceVersion name version) f.1 sent new d
+  refused_handling other e sent new none f d = absurd f
 
-  pub refused_keeping : (r : Request) (e : Error) (new : HandshakerView) → IsFront rest handles (memory_of first) b r → KeepsButFinish h r (Err e) new → Refuses setup past rest e
-  refused_keeping r e new f k = refused_handling r e b new f (k b)
+  pub refused_keeping : (r : Request) (e : Error) (new : HandshakerView) → (e ≡ error.NoMemory → ⊥) → IsFront rest handles (memory_of first) b r → KeepsButFinish h r (Err e) new → Refuses setup past rest e
+  refused_keeping r e new none f k = refused_handling r e b new none f (k b)

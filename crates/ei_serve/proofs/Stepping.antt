@@ -1,9 +1,9 @@
 -- One message, in either phase.
-use Rattle.std.proofs.Common.{◌≡◌, ℕ, Bool, true, false, List, [], ◌∷◌, ◌++◌, Option, None, Result, Err, refl, ap, sym, ◌∙◌, arith}
+use Rattle.std.proofs.Common.{◌≡◌, ◌⊎◌, inl, inr, ℕ, Bool, true, false, List, [], ◌∷◌, ◌++◌, Option, None, Result, Err, refl, ap, sym, subst, ◌∙◌, arith}
 use Rattle.std.proofs.lemmas.List.{append-nil}
 use Rattle.ei_spec.specs.declared.handle.Handle.{Handle}
 use Rattle.ei_spec.specs.Message.{Raw, Whole, front, all_bytes}
-use Rattle.ei_backend.specs.Outside.{SinkView}
+use Rattle.ei_backend.specs.Outside.{Rose, SinkView}
 use Rattle.ei_spec.specs.Stream.{Reading, Accepted}
 use Rattle.ei_spec.proofs.GoesOn.{read_accepted}
 use Rattle.ei_session.specs.Setup.{Setup}
@@ -22,14 +22,15 @@ use Rattle.ei_types.specs.declared.error.Error.TheVariants as error
 use Rattle.ei_serve.specs.declared.phase.Phase.{Phase}
 use Rattle.ei_serve.specs.declared.phase.Step.{Step}
 use Rattle.ei_serve.specs.Around.{Around, around, no_source}
-use Rattle.ei_serve.specs.Steps.{Refuses, RefusesStep, IsTold, IsToldInPart, Goes, Breaks, TellsFinish, TellsFinishInPart, IsCutOff, ConnectsPhase, Steps}
+use Rattle.ei_serve.specs.Steps.{Refuses, RefusesStep, IsTold, IsToldInPart, Goes, Breaks, BreaksFull, TellsFinish, TellsFinishInPart, CutsOff, ConnectsPhase, Steps}
 use Rattle.ei_serve.proofs.Puts.{puts_one}
-use Rattle.ei_serve.proofs.Going.{goes_none, gives_none as gave_none, replies_none, breaks_here, extends}
+use Rattle.ei_serve.proofs.Going.{goes_none, gives_none as gave_none, replies_none, extends}
+use Rattle.ei_serve.proofs.Wanted.{fine_of, full_here, full_of_sink}
 
 pub refused_step : (setup : Setup) (past : List Raw) (times rest : List ℕ) (e : Error) (x : Around) → Refuses setup past rest e → RefusesStep setup past times rest e x x
 refused_step setup past times rest error.WriteFault x h = absurd h
 refused_step setup past times rest error.IdsExhausted x h = absurd h
-refused_step setup past times rest error.NoMemory x h = breaks_here setup past times rest x
+refused_step setup past times rest error.NoMemory x h = full_here setup past rest h times x
 refused_step setup past times rest e x h = (h, goes_none setup past times x)
 
 -- ---- what a message gives
@@ -49,7 +50,7 @@ module _ (setup : Setup) (past : List Raw) (m : Raw) (events : List Raw) (times 
   goes_told told = record {
     behind = (m ∷ [], refl);
     gives = gave_none setup past (m ∷ past) times out (λ given. framed_quiet setup given past m i);
-    replies = record { told = λ held h. (events, replied setup past m events r, told.told held h); puts = puts_one setup past m (all_bytes events) old.puts new.puts (ap all_bytes (sym r)) told.puts };
+    replies = record { told = λ held h. (events, replied setup past m events r, told.told held h); puts = puts_one setup past m (all_bytes events) old.puts new.puts (ap all_bytes (sym r)) told.puts; wants = told.wants };
     drawn = λ told is. refl;
     leaves = λ told is. is;
     frames = omega (arith, frames_none setup past m i);
@@ -72,11 +73,9 @@ module _ (setup : Setup) (past : List Raw) (m : Raw) (events : List Raw) (times 
         most = omega (arith, frames_none setup past m i);
       }
 
-  -- the sink was cut off while it was told
-  pub cut_off : (rest after : List ℕ) (e : Error) → front rest ≡ Whole m after → judge setup past m ≡ Accepted → IsCutOff e → IsToldInPart events old new → RefusesStep setup past times rest e (around no_source out old readings) (around no_source out new readings)
-  cut_off rest after error.WriteFault w j c told = breaks_told rest after w j told
-  cut_off rest after error.NoMemory w j c told = breaks_told rest after w j told
-  cut_off rest after e w j c told = absurd c
+  -- for want of memory of the sink
+  full_told : (rest after : List ℕ) → front rest ≡ Whole m after → judge setup past m ≡ Accepted → Rose old.wants new.wants → IsToldInPart events old new → BreaksFull setup past times rest (around no_source out old readings) (around no_source out new readings)
+  full_told rest after w j rose told = full_of_sink setup past times rest (around no_source out old readings) (around no_source out new readings) (breaks_told rest after w j told) rose
 
 -- ---- during the handshake
 
@@ -108,9 +107,26 @@ goes_finish setup past m times out readings old new e f told = goes_told setup p
 pub steps_refused : (setup : Setup) (past : List Raw) (times rest : List ℕ) (handles : List Handle) (r : Result Step Error) (p : Phase) (e : Error) (x : Around) → r ≡ Err e → Refuses setup past rest e → Steps setup past times rest handles r p x x
 steps_refused setup past times rest handles r p e x same h = rw same (refused_step setup past times rest e x h)
 
-pub steps_cut_off : (setup : Setup) (past : List Raw) (times rest : List ℕ) (handles : List Handle) (r : Result Step Error) (p : Phase) (m : Raw) (after : List ℕ) (e : Error) (out : List EisRequest) (readings : Option (List ℕ)) (old new : SinkView) → r ≡ Err e → connected past ≡ false → front rest ≡ Whole m after → judge setup past m ≡ Accepted → is_finish m ≡ true → IsCutOff e × TellsFinishInPart setup past old new → Steps setup past times rest handles r p (around no_source out old readings) (around no_source out new readings)
-steps_cut_off setup past times rest handles r p m after e out readings old new same u w j f c =
-    rw same (cut_off setup past m (finish_events setup past) times out readings old new (early_item past m u) (finish_reply setup past m u f) rest after e w j c.0 c.1)
+-- where not all the events of the finish were told
+module _ (setup : Setup) (past : List Raw) (m : Raw) (times rest after : List ℕ) (out : List EisRequest) (readings : Option (List ℕ)) (old new : SinkView) (u : connected past ≡ false) (w : front rest ≡ Whole m after) (j : judge setup past m ≡ Accepted) (f : is_finish m ≡ true) where
+  abbrev seen : SinkView → Around
+  seen sink = around no_source out sink readings
 
-pub connect_cut_off : (setup : Setup) (before : List Raw) (finish : Raw) (after : List ℕ) (handles : List Handle) (r : Result Unit Error) (p : Phase) (e : Error) (old new : SinkView) → r ≡ Err e → IsCutOff e × TellsFinishInPart setup before old new → ConnectsPhase setup before finish after handles r p old new
+  untold_finish : BreaksFull setup past times rest (seen old) (seen old)
+  untold_finish = full_here setup past rest (record { m = m; after = after; front_is = w; wants = inl (fine_of setup past m j) }) times (seen old)
+
+  finish_full : (new ≡ old) ⊎ (Rose old.wants new.wants × TellsFinishInPart setup past old new) → BreaksFull setup past times rest (seen old) (seen new)
+  finish_full (inl same) = subst (λ (s : SinkView). BreaksFull setup past times rest (seen old) (seen s)) (sym same) untold_finish
+  finish_full (inr told) = full_told setup past m (finish_events setup past) times out readings old new (early_item past m u) (finish_reply setup past m u f) rest after w j told.0 told.1
+
+  finish_cut : (e : Error) → CutsOff setup past e old new → RefusesStep setup past times rest e (seen old) (seen new)
+  finish_cut error.WriteFault told = breaks_told setup past m (finish_events setup past) times out readings old new (early_item past m u) (finish_reply setup past m u f) rest after w j told
+  finish_cut error.NoMemory c = finish_full c
+  finish_cut e c = absurd c
+
+pub steps_cut_off : (setup : Setup) (past : List Raw) (times rest : List ℕ) (handles : List Handle) (r : Result Step Error) (p : Phase) (m : Raw) (after : List ℕ) (e : Error) (out : List EisRequest) (readings : Option (List ℕ)) (old new : SinkView) → r ≡ Err e → connected past ≡ false → front rest ≡ Whole m after → judge setup past m ≡ Accepted → is_finish m ≡ true → CutsOff setup past e old new → Steps setup past times rest handles r p (around no_source out old readings) (around no_source out new readings)
+steps_cut_off setup past times rest handles r p m after e out readings old new same u w j f c =
+    rw same (finish_cut setup past m times rest after out readings old new u w j f e c)
+
+pub connect_cut_off : (setup : Setup) (before : List Raw) (finish : Raw) (after : List ℕ) (handles : List Handle) (r : Result Unit Error) (p : Phase) (e : Error) (old new : SinkView) → r ≡ Err e → CutsOff setup before e old new → ConnectsPhase setup before finish after handles r p old new
 connect_cut_off setup before finish after handles r p e old new same h = rw same h

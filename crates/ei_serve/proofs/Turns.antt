@@ -26,14 +26,15 @@ use Rattle.ei_serve.specs.declared.session.Turn.{Turn}
 use Rattle.ei_serve.specs.declared.session.Turn.TheVariants as turn
 use Rattle.ei_serve.specs.Standing.{Stands, StandsAt, terms_of}
 use Rattle.ei_serve.specs.Around.{Around, around, no_source}
-use Rattle.ei_serve.specs.Steps.{Goes, GoesInPart, Breaks}
+use Rattle.ei_serve.specs.Steps.{Goes, Breaks, BreaksFull}
 use Rattle.ei_backend.specs.Outside.{SourceView, SinkView}
 use Rattle.ei_backend.specs.Incoming.{Hands, HasNone}
 use Rattle.ei_serve.specs.Taking.{with_next, ReadsPhase, Holds, TakesPiece, piece_came}
 use Rattle.ei_serve.specs.Refusing.{refusal_of}
-use Rattle.ei_serve.specs.Turning.{HandlesOn, HandlesTo, HandlesToRefusal, HandlesAll, Closes, ClosesRefused, GoesOn, BreaksOff, Turns, IsAtEnd}
+use Rattle.ei_serve.specs.Turning.{HandlesOn, HandlesTo, HandlesToRefusal, HandlesAll, Closes, ClosesRefused, GoesOn, BreaksOff, BreaksOffFull, Turns, IsAtEnd}
 use Rattle.ei_serve.specs.Turning.{at_end as ended_by, goes_on as going_on}
-use Rattle.ei_serve.proofs.Going.{goes_none, goes_beside, breaks_beside}
+use Rattle.ei_serve.proofs.Going.{goes_none, goes_beside, breaks_to}
+use Rattle.ei_serve.proofs.Wanted.{wanted_since}
 use Rattle.ei_serve.proofs.Histories.{count_more, reading_more, goes_on_more, going, stopped, too_many_pieces, too_many_handles_come, IsStopped, not_waiting}
 
 -- ---- taking a piece
@@ -236,16 +237,27 @@ module _ (setup : Setup) (pieces : List Piece) (times : List ℕ) (s t u : Sessi
       record { piece = piece; used = h.used; hands = hands; stands = made; goes = subst (λ (r : Reading Cause). Goes setup before r.past times h.used start finish) (sym same) goes }
 
   breaks : Breaks setup before times unread x y → BreaksOff setup pieces times start finish
-  breaks g =
-      let goes = breaks_beside setup before (read (judge setup) before unread).past times x y source_old source_new g in
-      record { piece = piece; hands = hands; room = holds_it.room; few = holds_it.few; goes = subst (λ (r : Reading Cause). GoesInPart setup before r.past times start finish) (sym same) goes }
+  breaks g = record {
+    piece = piece;
+    hands = hands;
+    room = holds_it.room;
+    few = holds_it.few;
+    goes = breaks_to setup before (read (judge setup) before unread).past (reading_of setup (stream (with_next pieces piece))).past times x y source_old source_new (ap (λ (r : Reading Cause). r.past) same) g;
+  }
+
+  breaks_full : BreaksFull setup before times unread x y → BreaksOffFull setup pieces times start finish
+  unfolding breaks breaks_to
+  breaks_full g = record {
+    breaks = breaks g.breaks;
+    wanted = wanted_since (reading_of setup (stream (with_next pieces piece))) (read (judge setup) before unread) g.breaks.reached x.sink x.sink y.sink same (omega arith) g.wanted;
+  }
 
   pub handled : (r : Result Turn Error) → u.start.terms ≡ t.start.terms → u.taken ≡ t.taken → HandlesAll setup before times unread holds_it.unread r u.phase x y → Turns setup pieces times r u start finish
   handled (Ok turn.GoOn) same_setup same_taken h = goes_on_with same_setup same_taken h
   handled (Ok turn.Disconnect) same_setup same_taken h = closes Disconnect tt h
   handled (Ok turn.End) same_setup same_taken h = absurd h
   handled (Err error.WriteFault) same_setup same_taken h = breaks h
-  handled (Err error.NoMemory) same_setup same_taken h = inr (breaks h)
+  handled (Err error.NoMemory) same_setup same_taken h = inr (breaks_full h)
   handled (Err error.IdsExhausted) same_setup same_taken h = closes IdsExhausted tt h
   handled (Err error.ReadFault) same_setup same_taken h = absurd h
   handled (Err error.UnexpectedEof) same_setup same_taken h = absurd h

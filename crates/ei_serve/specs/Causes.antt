@@ -1,5 +1,5 @@
 -- What the answers of a session say of the outside.
-use Rattle.std.specs.Prelude.{◌≡◌, ℕ, ◌≤◌, [], length, take, Option, Some, Result, Ok, Err}
+use Rattle.std.specs.Prelude.{◌≡◌, ℕ, ◌≤◌, [], length, take, Some, Result, Ok, Err}
 use Rattle.ei_spec.specs.Piece.{Piece}
 use Rattle.ei_spec.specs.Message.{bytes_of}
 use Rattle.ei_backend.specs.Outside.{SinkView, with_more}
@@ -13,6 +13,7 @@ use Rattle.ei_types.specs.declared.error.Error.TheVariants as error
 pub record Greeted (old new : SinkView) : Type 0 where
   pub told : (held : Piece) → old.taken ≡ Some held → new.taken ≡ Some (with_more (bytes_of greeting) [] held)
   pub puts : IsPutOf (bytes_only (bytes_of greeting)) old.puts new.puts
+  pub wants : old.wants ≤ new.wants
 
 -- or only the front of the greeting
 pub record GreetedInPart (old new : SinkView) : Type 0 where

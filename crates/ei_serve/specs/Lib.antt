@@ -5,6 +5,7 @@ pub mod Refusing
 pub mod Around
 pub mod SessionCode
 pub mod Standing
+pub mod Wanting
 pub mod Steps
 pub mod Taking
 pub mod Turning
@@ -21,5 +22,6 @@ pub use Rattle.ei_session.specs.Handshake
 pub use Rattle.ei_session.specs.Served
 pub use Rattle.ei_session.specs.Setup
 pub use Rattle.ei_backend.specs.Lent
+pub use Rattle.ei_backend.specs.Message as ReadMessage
 pub use Rattle.ei_backend.specs.Outside
 pub use Rattle.ei_request.specs.Held

@@ -5,7 +5,7 @@ use Rattle.ei_spec.specs.Piece.{Piece, stream}
 use Rattle.ei_session.specs.Setup.{Setup}
 use Rattle.ei_session.specs.Requests.{slot, framed}
 use Rattle.ei_session.specs.Events.{replies}
-use Rattle.ei_session.specs.Served.{Answer, Disconnect, End, UnexpectedEof, IdsExhausted, PieceLimit, HandleLimit, is_over, accepted, session, IsValid}
+use Rattle.ei_session.specs.Served.{Answer, Disconnect, End, UnexpectedEof, IdsExhausted, PieceLimit, HandleLimit, is_over, is_waiting, read_first, accepted, session, IsValid}
 use Rattle.ei_backend.specs.Outside.{SourceView, SinkView, Rose, with_more}
 use Rattle.ei_backend.specs.Pieces.{TookPieces}
 use Rattle.ei_session.specs.Complete.{AreComplete}
@@ -13,6 +13,7 @@ use Rattle.ei_backend.specs.Outgoing.{IsLeftOf}
 use Rattle.std.specs.List.{All}
 use Rattle.ei_session.specs.Replies.{greeting}
 use Rattle.ei_serve.specs.Steps.{bytes_only, IsLeftOfAnswer}
+use Rattle.ei_serve.specs.Wanting.{IsWanted}
 use Rattle.ei_spec.specs.History.{each}
 use Rattle.ei_spec.specs.Groups.{frames_made}
 use Rattle.ei_standing.specs.Standing.{request_in_code}
@@ -103,6 +104,7 @@ PutsReplies setup messages old new = (puts : List Piece) → old ≡ Some puts �
 pub record Replied (setup : Setup) (messages : List Raw) (old new : SinkView) : Type 0 where
   pub told : (held : Piece) → old.taken ≡ Some held → new.taken ≡ Some (with_more (all_bytes (replies setup messages)) [] held)
   pub puts : PutsReplies setup messages old.puts new.puts
+  pub wants : old.wants ≤ new.wants
 
 -- or a front of them
 pub record RepliedInPart (setup : Setup) (messages : List Raw) (old new : SinkView) : Type 0 where
@@ -160,6 +162,11 @@ pub record CutShort (setup : Setup) (told : List Piece) (left : Option (List Pie
   pub replies : RepliedInPart setup reached sink_old sink_new
   pub readings_left : LeftReadingsInPart setup reached readings readings_new
   pub replied : 0 < k → RepliedAtLeast setup (accepted setup (stream (take (k - 1) told))) sink_old sink_new
+
+-- The same, for want of memory: where the session is over with the pieces taken, it was wanted.
+pub record CutFull (setup : Setup) (told : List Piece) (left : Option (List Piece)) (readings readings_new : Option (List ℕ)) (out_old out_new : List EisRequest) (sink_old sink_new : SinkView) : Type 0 where
+  pub cut : CutShort setup told left readings readings_new out_old out_new sink_old sink_new
+  pub wanted : is_waiting (read_first setup told cut.k).stop ≡ false → IsWanted (read_first setup told cut.k) cut.reached sink_old sink_new
 
 -- Over pieces that make a good end sure, with no fault of the source and none of the sink, an error is want of memory.
 abbrev pub EndsWell : Setup → List Piece → SourceView → SourceView → SinkView → SinkView → Result HowEnded Error → Type 0

@@ -1,5 +1,5 @@
 -- What becomes of the message at the front.
-use Rattle.std.specs.Prelude.{◌≡◌, ℕ, ◌+◌, Bool, true, false, ◌<◌, ◌≤◌, ◌^◌, List, [], ◌∷◌, ◌++◌, take, map, length, codes, is_some, Option, Some}
+use Rattle.std.specs.Prelude.{◌≡◌, ◌⊎◌, ℕ, ◌+◌, Bool, true, false, ◌<◌, ◌≤◌, ◌^◌, List, [], ◌∷◌, ◌++◌, take, map, length, codes, is_some, Option, Some}
 use Rattle.std.specs.Prelude.{None, Result, Ok, Err}
 use Rattle.std.specs.List.{All}
 use Rattle.ei_spec.specs.declared.handle.Handle.{Handle}
@@ -21,7 +21,7 @@ use Rattle.ei_session.specs.ByMeaning.{shake_refusal}
 use Rattle.ei_session.specs.Requests.{framed, slot, Request as Asked}
 use Rattle.ei_session.specs.Replies.{finish_events, settled_events, connection_event}
 use Rattle.ei_session.specs.Events.{reply, replies}
-use Rattle.ei_backend.specs.Outside.{SinkView, with_more}
+use Rattle.ei_backend.specs.Outside.{Rose, SinkView, with_more}
 use Rattle.ei_backend.specs.Outgoing.{IsLeftOf, IsPutOf}
 use Rattle.ei_backend.specs.Endpoint.{Endpoint, endpoint_of}
 use Rattle.ei_backend.specs.Backend.{BackendView}
@@ -41,6 +41,7 @@ use Rattle.ei_serve.specs.declared.phase.Rejected.{Rejected}
 use Rattle.ei_serve.specs.declared.phase.Step.{Step}
 use Rattle.ei_serve.specs.declared.phase.Step.TheVariants as step
 use Rattle.ei_serve.specs.Refusing.{refusal_of}
+use Rattle.ei_serve.specs.Wanting.{MayWant, IsWanted}
 use Rattle.ei_serve.specs.Around.{Around, around, no_source, AreDrawn, LeavesReadings}
 use Rattle.ei_serve.specs.Standing.{StandsAt, ShakesHands, IsConnected, most_capacity, quiet, connection_object, connection_table}
 
@@ -60,10 +61,12 @@ pub record GivesOut (setup : Setup) (before reached : List Raw) (times used : Li
 abbrev pub bytes_only : List ℕ → Piece
 bytes_only bytes = record { bytes = bytes; handles = [] }
 
--- A sink that told what it held has these messages behind that. At each call it was put what was left of them.
+-- A sink that told what it held has these messages behind that. At each call it was put what was left of them. Its count of wants
+-- has not fallen.
 pub record IsTold (messages : List Raw) (old new : SinkView) : Type 0 where
   pub told : (held : Piece) → old.taken ≡ Some held → new.taken ≡ Some (with_more (all_bytes messages) [] held)
   pub puts : IsPutOf (bytes_only (all_bytes messages)) old.puts new.puts
+  pub wants : old.wants ≤ new.wants
 
 -- or only a front of their bytes
 pub record IsToldInPart (messages : List Raw) (old new : SinkView) : Type 0 where
@@ -91,6 +94,7 @@ PutsAnswers setup before reached old new = (puts : List Piece) → old ≡ Some 
 pub record Replies (setup : Setup) (before reached : List Raw) (old new : SinkView) : Type 0 where
   pub told : (held : Piece) → old.taken ≡ Some held → (more : List Raw) × (replies setup reached ≡ replies setup before ++ more) × (new.taken ≡ Some (with_more (all_bytes more) [] held))
   pub puts : PutsAnswers setup before reached old.puts new.puts
+  pub wants : old.wants ≤ new.wants
 
 -- or only a front of their bytes
 pub record RepliesInPart (setup : Setup) (before reached : List Raw) (old new : SinkView) : Type 0 where
@@ -124,6 +128,11 @@ pub record GoesInPart (setup : Setup) (before last : List Raw) (times : List ℕ
 abbrev pub Breaks : Setup → List Raw → List ℕ → List ℕ → Around → Around → Type 0
 Breaks setup before times rest old new = GoesInPart setup before (read (judge setup) before rest).past times old new
 
+-- the same, for want of memory
+pub record BreaksFull (setup : Setup) (before : List Raw) (times rest : List ℕ) (old new : Around) : Type 0 where
+  pub breaks : Breaks setup before times rest old new
+  pub wanted : IsWanted (read (judge setup) before rest) breaks.reached old.sink new.sink
+
 -- ---- one message
 
 -- what was answered, where why the message is refused stands beside the answer
@@ -139,7 +148,7 @@ RefusesFront setup past rest (Some refusal) = (m : Raw) × (after : List ℕ) ×
 -- how the message at the front is refused
 abbrev pub Refuses : Setup → List Raw → List ℕ → Error → Type 0
 Refuses setup past rest (error.Parse (parse_error.HeaderLength n)) = front rest ≡ Unlawful n
-Refuses setup past rest error.NoMemory = Unit {0}
+Refuses setup past rest error.NoMemory = MayWant setup past rest
 Refuses setup past rest e = RefusesFront setup past rest (refusal_of e)
 
 -- an endpoint that has nothing but these messages to send
@@ -181,16 +190,16 @@ TellsFinish setup before old new = IsTold (finish_events setup before) old new
 abbrev pub TellsFinishInPart : Setup → List Raw → SinkView → SinkView → Type 0
 TellsFinishInPart setup before old new = IsToldInPart (finish_events setup before) old new
 
--- how a sink can't be told
-abbrev pub IsCutOff : Error → Type 0
-IsCutOff error.WriteFault = Unit {0}
-IsCutOff error.NoMemory = Unit {0}
-IsCutOff e = ⊥
+-- how the sink isn't told all of them: it was cut off, or there was no memory before the first
+abbrev pub CutsOff : Setup → List Raw → Error → SinkView → SinkView → Type 0
+CutsOff setup before error.WriteFault old new = TellsFinishInPart setup before old new
+CutsOff setup before error.NoMemory old new = (new ≡ old) ⊎ (Rose old.wants new.wants × TellsFinishInPart setup before old new)
+CutsOff setup before e old new = ⊥
 
--- the connection stands and the sink was told, or it was cut off
+-- the connection stands and the sink was told, or it wasn't told all
 abbrev pub Connects : Setup → List Raw → Raw → List ℕ → List Handle → Result ConverterView Error → SinkView → SinkView → Type 0
 Connects setup before finish after handles (Ok c) old new = IsConnected setup (finish ∷ before) [] after handles c × TellsFinish setup before old new
-Connects setup before finish after handles (Err e) old new = IsCutOff e × TellsFinishInPart setup before old new
+Connects setup before finish after handles (Err e) old new = CutsOff setup before e old new
 
 -- the same of a phase that shakes hands still
 abbrev pub HandsOverIn : Setup → List Raw → List ℕ → List Handle → EisHandshakeResp → Phase → Type 0
@@ -200,7 +209,7 @@ HandsOverIn setup before after handles resp phase.Over = ⊥
 
 abbrev pub ConnectsPhase : Setup → List Raw → Raw → List ℕ → List Handle → Result Unit Error → Phase → SinkView → SinkView → Type 0
 ConnectsPhase setup before finish after handles (Ok x) p old new = StandsAt setup (finish ∷ before) [] after handles p × TellsFinish setup before old new
-ConnectsPhase setup before finish after handles (Err e) p old new = IsCutOff e × TellsFinishInPart setup before old new
+ConnectsPhase setup before finish after handles (Err e) p old new = CutsOff setup before e old new
 
 -- the finish was at the front of a phase that shakes hands still, before which no reading is used
 abbrev pub AsksToFinishIn : Setup → List Raw → List ℕ → List ℕ → List Handle → ObjectView → Phase → Type 0
@@ -238,7 +247,7 @@ pub record EndsWith (setup : Setup) (past : List Raw) (times rest : List ℕ) (e
 -- how a step is refused
 abbrev pub RefusesStep : Setup → List Raw → List ℕ → List ℕ → Error → Around → Around → Type 0
 RefusesStep setup past times rest error.WriteFault old new = Breaks setup past times rest old new
-RefusesStep setup past times rest error.NoMemory old new = Breaks setup past times rest old new
+RefusesStep setup past times rest error.NoMemory old new = BreaksFull setup past times rest old new
 RefusesStep setup past times rest error.IdsExhausted old new = EndsWith setup past times rest true old new
 RefusesStep setup past times rest e old new = Refuses setup past rest e × Goes setup past past times [] old new
 

@@ -6,7 +6,7 @@ use Rattle.ei_spec.specs.Piece.{Piece, stream, handle_count}
 use Rattle.ei_spec.specs.Stream.{Waiting, Reading, read}
 use Rattle.ei_session.specs.Setup.{Setup}
 use Rattle.ei_session.specs.Refusals.{Refusal, judge}
-use Rattle.ei_session.specs.Served.{Answer, Disconnect, End, UnexpectedEof, IdsExhausted, PieceLimit, HandleLimit, Refused, answer_at, session, accepted}
+use Rattle.ei_session.specs.Served.{Answer, Disconnect, End, UnexpectedEof, IdsExhausted, PieceLimit, HandleLimit, Refused, answer_at, session, accepted, reading_of}
 use Rattle.ei_types.specs.declared.error.Error.{Error}
 use Rattle.ei_types.specs.declared.error.Error.TheVariants as error
 use Rattle.ei_serve.specs.declared.phase.Phase.{Phase}
@@ -16,7 +16,8 @@ use Rattle.ei_serve.specs.declared.session.Turn.TheVariants as turn
 use Rattle.ei_serve.specs.Refusing.{refusal_of}
 use Rattle.ei_serve.specs.Around.{Around}
 use Rattle.ei_serve.specs.Standing.{Stands, StandsAt}
-use Rattle.ei_serve.specs.Steps.{Goes, GoesInPart, Breaks}
+use Rattle.ei_serve.specs.Steps.{Goes, GoesInPart, Breaks, BreaksFull}
+use Rattle.ei_serve.specs.Wanting.{IsWanted}
 use Rattle.ei_backend.specs.Incoming.{Hands, HasNone, Keeps}
 use Rattle.ei_serve.specs.Taking.{with_next}
 use Rattle.ei_spec.specs.declared.limits.TheConstants.{MOST_UNREAD_HANDLES}
@@ -48,7 +49,7 @@ HandlesToRefusal setup past times rest (Some refusal) old new = HandlesTo setup 
 -- how handling every whole message is refused
 abbrev pub RefusesAll : Setup → List Raw → List ℕ → List ℕ → Error → Around → Around → Type 0
 RefusesAll setup past times rest error.WriteFault old new = Breaks setup past times rest old new
-RefusesAll setup past times rest error.NoMemory old new = Breaks setup past times rest old new
+RefusesAll setup past times rest error.NoMemory old new = BreaksFull setup past times rest old new
 RefusesAll setup past times rest error.IdsExhausted old new = HandlesTo setup past times rest IdsExhausted old new
 RefusesAll setup past times rest e old new = HandlesToRefusal setup past times rest (refusal_of e) old new
 
@@ -103,6 +104,11 @@ pub record BreaksOff (setup : Setup) (pieces : List Piece) (times : List ℕ) (o
   pub few : handle_count (with_next pieces piece) ≤ MOST_UNREAD_HANDLES
   pub goes : GoesInPart setup (accepted setup (stream pieces)) (accepted setup (stream (with_next pieces piece))) times old new
 
+-- the same, for want of memory
+pub record BreaksOffFull (setup : Setup) (pieces : List Piece) (times : List ℕ) (old new : Around) : Type 0 where
+  pub breaks : BreaksOff setup pieces times old new
+  pub wanted : IsWanted (reading_of setup (stream (with_next pieces breaks.piece))) breaks.goes.reached old.sink new.sink
+
 -- what a turn answers, over a session that stands for these pieces and readings
 abbrev pub Turns : Setup → List Piece → List ℕ → Result Turn Error → SessionState → Around → Around → Type 0
 Turns setup pieces times (Ok turn.GoOn) t old new = GoesOn setup pieces times t old new
@@ -114,7 +120,7 @@ Turns setup pieces times (Err error.HandleLimit) t old new = Closes setup pieces
 Turns setup pieces times (Err error.IdsExhausted) t old new = Closes setup pieces times IdsExhausted old new
 Turns setup pieces times (Err error.ReadFault) t old new = Stays old new
 Turns setup pieces times (Err error.WriteFault) t old new = BreaksOff setup pieces times old new
-Turns setup pieces times (Err error.NoMemory) t old new = Stays old new ⊎ BreaksOff setup pieces times old new
+Turns setup pieces times (Err error.NoMemory) t old new = Stays old new ⊎ BreaksOffFull setup pieces times old new
 Turns setup pieces times (Err e) t old new = ClosesRefused setup pieces times (refusal_of e) old new
 
 -- what the source's end means, after the connection or before it

@@ -7,7 +7,7 @@ use Rattle.ei_types.specs.declared.error.Error.{Error}
 use Rattle.ei_types.specs.declared.error.Error.TheVariants as error
 use Rattle.ei_serve.specs.declared.session.Ended.{Ended as HowEnded}
 use Rattle.ei_serve.specs.Around.{Around}
-use Rattle.ei_serve.specs.Serving.{AnswersAs, TookAllOf, HandsOut, LeftReadings, Replied, ReadValid, Handled, CutShort}
+use Rattle.ei_serve.specs.Serving.{AnswersAs, TookAllOf, HandsOut, LeftReadings, Replied, ReadValid, Handled, CutShort, CutFull}
 use Rattle.ei_backend.specs.Pieces.{TookPieces}
 use Rattle.ei_types.specs.Decided.{IsDecided, IsCutShort}
 
@@ -22,3 +22,4 @@ pub record Serves (setup : Setup) (told : List Piece) (left : Option (List Piece
   pub pieces : (k : ℕ) × (k ≤ setup.pieces + 1) × TookPieces told left k
   pub handled : IsErrOf result error.ReadFault → Handled setup told left old.readings new.readings old.out new.out old.sink new.sink
   pub cut_short : IsCutShort result → CutShort setup told left old.readings new.readings old.out new.out old.sink new.sink
+  pub full : IsErrOf result error.NoMemory → CutFull setup told left old.readings new.readings old.out new.out old.sink new.sink

@@ -1,6 +1,6 @@
 //! The connection, message by message.
 
-ghost use Rattle.std.specs.Prelude.{◌≡◌, ◌++◌, List, [], ℕ, Option, IfErr, IsErrOf, OnErr, OnOk, IfOk, None, true, false};
+ghost use Rattle.std.specs.Prelude.{◌≡◌, ◌++◌, List, [], ℕ, length, Option, IfErr, IsErrOf, OnErr, OnOk, IfOk, None, true, false};
 ghost use Rattle.ei_spec.specs.declared.handle.Handle.{Handle};
 ghost use Rattle.ei_spec.specs.Message.{Raw};
 ghost use Rattle.ei_types.specs.declared.error.Error.TheVariants as error;
@@ -11,7 +11,7 @@ ghost use Rattle.ei_serve.specs.Around.{beside};
 ghost use Rattle.ei_serve.specs.Standing.{IsConnected, terms_of};
 ghost use Rattle.ei_serve.specs.Steps.{HandsOver, Connects, Steps, told};
 ghost use Rattle.ei_serve.specs.AtFront.{IsAsked};
-ghost use Rattle.ei_serve.specs.HandedOut.{IsHandedOut};
+ghost use Rattle.ei_serve.specs.HandedOut.{IsHandedOut, handed_at};
 ghost use Rattle.ei_serve.specs.Policy.{policy_behind};
 ghost use Rattle.ei_serve.specs.declared.phase.Phase.TheVariants as phases;
 ghost use Rattle.ei_serve.specs.declared.policy.Policy.TheVariants as policies;
@@ -26,7 +26,7 @@ use ei_handshake::EisHandshakeResp;
 use ei_request::{EisRequest, EisRequestConverter};
 use ei_server::{Context, Request};
 use ei_types::Error;
-use ei_wire::NoMemory;
+use ei_wire::{NoMemory, SendError};
 
 /// Goes over to the connection, and announces the seat.
 pub(crate) fn connect<K: Sink>(
@@ -113,12 +113,13 @@ fn take_request<K: Sink, C: Clock>(
     if let Err(error) = converter.handle_request(clock, request) {
         return Err(refuse(why, error));
     }
+    let handed = out.as_slice().len();
     let may_follow = match hand_out(converter, out) {
         Ok(may_follow) => may_follow,
         Err(_) => return Err(refuse_memory(why)),
     };
     if may_follow {
-        return follow(converter, sink, out, why);
+        return follow(converter, sink, out, handed, why);
     }
     let handle = converter.handle_mut();
     if let Err(error) = handle.flush(sink) {
@@ -146,26 +147,29 @@ fn hand_out(
     Ok(may_follow_any(out))
 }
 
-/// Does what the policy does behind the last of the requests that were handed out, and sends what this makes.
+/// Does what the policy does behind the last of the requests that were handed out, and sends what this makes. Where memory
+/// runs out for it, those behind the first `handed` are taken back.
 // What it makes on the way is large, and few requests ask for it.
 #[inline(never)]
 fn follow<K: Sink>(
     converter: &mut EisRequestConverter,
     sink: &mut K,
-    out: &[EisRequest],
+    out: &mut Vec<EisRequest>,
+    handed: usize,
     why: &mut Error,
 ) -> Result<Step, Rejected>
     ensures follows { (setup : Started) (past : List Raw) (times rest : List ℕ) (handles : List Handle) →
-        (before : List EisRequest) (read read_now : Option (List ℕ)) →
-        IsHandedOut setup past times rest handles before out.now read read_now converter.old →
+        (before : List EisRequest) (read read_now : Option (List ℕ)) → handed ≡ length before →
+        IsHandedOut setup past times rest handles before out.old.items read read_now converter.old →
         Steps setup past times rest handles (told result why.new) (phases.Connected converter.new)
-        (beside before (K.view sink.old) read) (beside out.now (K.view sink.new) read_now) }
+        (beside before (K.view sink.old) read) (beside out.new.items (K.view sink.new) read_now) }
     ensures sink { LentSink K.view K.later (IsErrOf (told result why.new) error.WriteFault) sink.old sink.new }
     ensures no_read_fault { IsErrOf (told result why.new) error.ReadFault → ⊥ }
 {
     let policy = policy_behind(out);
     let handle = converter.handle_mut();
     if let Err(error) = policy.follow(handle) {
+        take_back(out, handed, &error);
         return Err(refuse_send(why, error));
     }
     if let Err(error) = handle.flush(sink) {
@@ -175,4 +179,13 @@ fn follow<K: Sink>(
         Policy::End => Step::Disconnect,
         _ => Step::Handled,
     })
+}
+
+/// Takes back what was handed out behind the first `handed` requests, where memory ran out for what answers them.
+fn take_back(out: &mut Vec<EisRequest>, handed: usize, error: &SendError)
+    ensures { out.new.items ≡ handed_at error.now handed out.old.items }
+{
+    if matches!(error, SendError::NoMemory) {
+        out.truncate(handed);
+    }
 }

@@ -8,11 +8,11 @@ ghost use Rattle.ei_serve.specs.Causes.{NoFault};
 ghost use Rattle.ei_serve.specs.Standing.{ShakesHands};
 ghost use Rattle.ei_serve.specs.Steps.{Shakes, told};
 
-use crate::phase::{Rejected, refuse, refuse_memory, refuse_object, refuse_parse};
+use crate::phase::{Rejected, refuse, refuse_handshake, refuse_memory, refuse_parse};
 use ei_backend::PendingRequestResult;
 use ei_handshake::EisHandshaker;
 use ei_server::{Context, Handshake};
-use ei_types::Error;
+use ei_types::{Error, HandshakeError};
 use ei_wire::NoMemory;
 
 /// What became of the message at the front during the handshake, where it wasn't refused.
@@ -45,7 +45,9 @@ pub(crate) fn shake(
         },
         Ok(None) => Ok(Shaken::Waiting),
         Ok(Some(PendingRequestResult::ParseError(error))) => Err(refuse_parse(why, error)),
-        Ok(Some(PendingRequestResult::InvalidObject(id))) => Err(refuse_object(why, id)),
+        Ok(Some(PendingRequestResult::InvalidObject(id))) => {
+            Err(refuse_handshake(why, HandshakeError::InvalidObject(id)))
+        }
         Err(NoMemory) => Err(refuse_memory(why)),
     }
 }

@@ -7,7 +7,6 @@ ghost use Rattle.ei_spec.specs.Message.{Raw};
 ghost use Rattle.ei_types.specs.Capability.{all_bits};
 ghost use Rattle.ei_types.specs.Errors.{error_of_flush, error_of_send};
 ghost use Rattle.ei_types.specs.declared.error.Error.TheVariants as error;
-ghost use Rattle.ei_types.specs.declared.error.HandshakeError.TheVariants as handshake_error;
 ghost use Rattle.ei_wire.specs.declared.error.ReadError.TheVariants as read_error;
 ghost use Rattle.ei_backend.specs.Outside.{Piece};
 ghost use Rattle.ei_backend.specs.Lent.{LentSource, LentSink, LentClock};
@@ -78,12 +77,12 @@ pub(crate) fn refuse_parse(why: &mut Error, fault: ParseError) -> Rejected
     refuse(why, Error::Parse(fault))
 }
 
-/// The same: no object has the id that it is to.
+/// The same: the handshake doesn't allow it.
 #[inline(never)]
-pub(crate) fn refuse_object(why: &mut Error, id: u64) -> Rejected
-    ensures { why.new ≡ error.Handshake (handshake_error.InvalidObject id) }
+pub(crate) fn refuse_handshake(why: &mut Error, fault: HandshakeError) -> Rejected
+    ensures { why.new ≡ error.Handshake fault }
 {
-    refuse(why, Error::Handshake(HandshakeError::InvalidObject(id)))
+    refuse(why, Error::Handshake(fault))
 }
 
 /// The same: what it asks for can't be sent.
@@ -277,6 +276,10 @@ impl Phase {
         let Phase::Handshake(context, handshaker) = self else {
             unreachable!();
         };
+        // Where it is refused it takes no memory.
+        if !handshaker.has_required() {
+            return Err(refuse_handshake(why, HandshakeError::MissingInterface));
+        }
         match handshaker.finish(context, handshake) {
             Ok(resp) => match self.connect(start, resp, sink) {
                 Ok(()) => Ok(Step::Handled),

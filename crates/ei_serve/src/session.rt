@@ -185,7 +185,8 @@ impl Session {
     /// At the source's end it answers `End` after the connection, and `UnexpectedEof` before it.
     /// `PieceLimit` where the setup's number of pieces was taken and one more came, which isn't handled;
     /// `HandleLimit` where more than 4096 handles would be unread; `ReadFault` where the source failed,
-    /// `WriteFault` where the sink failed, and `NoMemory` where memory ran out or the sink wants it.
+    /// `WriteFault` where the sink failed, and `NoMemory` where memory ran out or the sink wants it: in place of a refusal
+    /// only where the message that is refused has a text or announces an object.
     ///
     /// At any time `Parse` of a header of unlawful length, and of what can't be read in a message: an
     /// opcode that the interface doesn't have, an argument that isn't spelled, an id that the client may

@@ -1,8 +1,10 @@
 //! The server's endpoint.
 
 ghost use Rattle.std.specs.Prelude.{◌≡◌, ◌<◌, ◌≤◌, ◌+◌, ℕ, List, [], Some, None, Ok, IsOk, IfOk, OnOk, OnErr, IsErrOf, true, false, length};
+ghost use Rattle.ei_spec.specs.Message.{front};
 ghost use Rattle.ei_backend.specs.Table.{found, new_table, first_server_id};
 ghost use Rattle.ei_backend.specs.Outgoing.{Flushes};
+ghost use Rattle.ei_backend.specs.Message.{front_wants};
 ghost use Rattle.ei_backend.specs.Backend.{new_backend, Reads, Answers, Brings, Shortens, next, unsent_of, with_unsent};
 ghost use Rattle.ei_spec.specs.declared.limits.TheConstants.{MOST_MESSAGE_BYTES};
 ghost use Rattle.ei_server.specs.Request.{target_of, opcode_of, values_of, announced_of};
@@ -119,7 +121,8 @@ impl Context {
     /// The next request that is whole, taken out, if there is one.
     ///
     /// A message to no object and one that is refused are taken out too. An unlawful length takes nothing
-    /// out. Where memory runs out, nothing changes.
+    /// out. Where memory runs out, nothing changes; that is only where the message has a text or announces an
+    /// object, or its target's interface isn't a known one.
     #[inline(always)]
     pub fn pending_request(&mut self) -> Result<Option<PendingRequestResult<Request>>, NoMemory>
         ensures ok { IfOk result (λ answer. Answers target_of opcode_of values_of answer self.new
@@ -128,6 +131,7 @@ impl Context {
         ensures shorter { IfOk result (λ answer. Shortens self.old.unread self.new.unread answer) }
         ensures few_left { result ≡ Ok None → length self.new.unread < MOST_MESSAGE_BYTES }
         ensures err { OnErr result (self.new ≡ self.old) }
+        ensures memory { OnErr result (front_wants false self.old.table (front self.old.unread) ≡ true) }
     {
         self.backend.pending()
     }

@@ -1,10 +1,11 @@
 //! What the requests of each interface promise.
 
-ghost use Rattle.std.specs.Prelude.{◌≡◌, ℕ, List, Option, None, IfSome, IfOk, OnErr, map, false};
+ghost use Rattle.std.specs.Prelude.{◌≡◌, ℕ, List, Option, None, IfSome, IfOk, IfErr, OnErr, map, true, false};
 ghost use Rattle.ei_spec.specs.Value.{Value};
 ghost use Rattle.ei_spec.specs.Interface.{ObjectView, Known};
 ghost use Rattle.ei_spec.specs.declared.interface.KnownInterface.{KnownInterface};
-ghost use Rattle.ei_wire.specs.Gives.{value_of_arg};
+ghost use Rattle.ei_wire.specs.Gives.{value_of_arg, WhereFull};
+ghost use Rattle.ei_backend.specs.Message.{message_wants};
 ghost use Rattle.ei_backend.specs.Proxies.{Announced, ReadsRow, ReadsWhole, Shows};
 
 use ei_backend::Table;
@@ -31,7 +32,8 @@ pub(crate) trait Message: Sized {
         ensures read { ReadsRow values false KNOWN opcode bytes.old bytes.new objects.old objects.new result }
         ensures code { IfOk result (λ m. code m ≡ opcode) }
         ensures announced { IfOk result (λ m. Announced (announced m) objects.old objects.new) }
-        ensures err { OnErr result (objects.new ≡ objects.old) };
+        ensures err { OnErr result (objects.new ≡ objects.old) }
+        ensures memory { IfErr result (WhereFull (message_wants false (Known KNOWN) opcode ≡ true)) };
 
     /// Reads the same, if it is lawful, announces nothing, and nothing is left.
     fn parse_lawful(opcode: u32, bytes: &mut ByteStream<'_>) -> Option<Self>

@@ -19,9 +19,7 @@ pub use arg::{Arg, OwnedArg, RawFloat};
 pub use ei_spec::{Handle, KnownInterface};
 pub use error::{FlushError, NoMemory, ParseError, ReadError, SendError};
 pub use header::Header;
-pub use rows::{
-    lawful_none, lawful_one, lawful_three, lawful_two, read_five, read_one, read_three, read_two,
-};
+pub use rows::{lawful_none, lawful_one, lawful_three, lawful_two};
 pub use sealed::Sealed;
 pub use stream::ByteStream;
 pub use text::EiText;

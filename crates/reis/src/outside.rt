@@ -2,6 +2,7 @@
 //! keeps nothing gave or took is noted by `GivenPieces`, `Given` and `TakenPiece`, which take no memory.
 
 pub use ei_backend::{
-    Clock, Fault, Given, GivenPieces, Input, LastAnswer, MemoryText, Pieces, PutError, Readings,
-    Sink, Source, Taken, TakenPiece, Tray,
+    Clock, Fault, GivenPieces, LastAnswer, Pieces, PutError, Readings, Sink, Source, Taken,
+    TakenPiece, Tray,
 };
+pub use reis_lines::{Given, Input, MemoryText};

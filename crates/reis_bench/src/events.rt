@@ -24,19 +24,33 @@ pub(crate) fn row(alloc: Global, count: u32) -> Result<Outcome, Error> {
 fn convert_bytes(alloc: Global, bytes: &[u8]) -> Result<Outcome, Error> {
     let mut source = Cut::new(bytes, PIECE);
     let mut context = Context::new(alloc)?;
-    let _count = context.read(&mut source)?;
-    let resp = connected(alloc, &mut context)?;
+    convert_source(alloc, &mut context, &mut source)
+}
+
+/// Converts what a source hands out. The handshake ends in its first piece.
+fn convert_source(
+    alloc: Global,
+    context: &mut Context,
+    source: &mut Cut<'_>,
+) -> Result<Outcome, Error> {
+    let _count = context.read(source)?;
+    let resp = connected(alloc, context)?;
     let mut converter = EiEventConverter::new(alloc, resp);
+    convert_by(alloc, &mut converter, context, source)
+}
+
+/// The same, by this converter.
+fn convert_by(
+    alloc: Global,
+    converter: &mut EiEventConverter,
+    context: &mut Context,
+    source: &mut Cut<'_>,
+) -> Result<Outcome, Error> {
     let mut clock = Readings::new(alloc, &[])?;
     let mut told = Vec::new(alloc);
     let mut tally = Tally::new();
     convert_events(
-        &mut converter,
-        &mut context,
-        &mut source,
-        &mut clock,
-        &mut told,
-        &mut tally,
+        converter, context, source, &mut clock, &mut told, &mut tally,
     )?;
     Ok(Outcome::Read(tally))
 }
@@ -88,27 +102,28 @@ fn convert_unread(
     told: &mut Vec<EiEvent>,
     tally: &mut Tally,
 ) -> Result<(), Error> {
-    for _message in 0..context.unread_len() {
-        let Some(read) = context.pending_event()? else {
-            break;
-        };
-        tally.count(&read);
-        convert_one(converter, context, clock, read)?;
+    let mut messages = context.unread_len();
+    for message in 0..messages {
+        match context.pending_event()? {
+            Some(PendingRequestResult::Request(event)) => {
+                converter.handle_event(context, clock, event)?;
+            }
+            Some(refused) => count_refused(refused, tally),
+            None => {
+                messages = message;
+                break;
+            }
+        }
     }
+    tally.count_messages(messages as u64);
     converter.drain_into(told)?;
     told.clear();
     Ok(())
 }
 
-/// Converts a message, if it was read.
-fn convert_one(
-    converter: &mut EiEventConverter,
-    context: &mut Context,
-    clock: &mut Readings,
-    read: PendingRequestResult<Event>,
-) -> Result<(), Error> {
-    let PendingRequestResult::Request(event) = read else {
-        return Ok(());
-    };
-    converter.handle_event(context, clock, event)
+/// Counts a message that is no event.
+#[inline(never)]
+fn count_refused(refused: PendingRequestResult<Event>, tally: &mut Tally) {
+    drop(refused);
+    tally.count_refusal();
 }

@@ -26,6 +26,22 @@ impl Tally {
         }
     }
 
+    /// Counts so many messages.
+    pub(crate) fn count_messages(&mut self, messages: u64)
+        ensures messages { self.new.messages ≡ min (self.old.messages + messages) (2 ^ 64 - 1) }
+        ensures refused { self.new.refused ≡ self.old.refused }
+    {
+        self.messages = self.messages.saturating_add(messages);
+    }
+
+    /// Counts one of them as refused.
+    pub(crate) fn count_refusal(&mut self)
+        ensures messages { self.new.messages ≡ self.old.messages }
+        ensures refused { self.new.refused ≡ min (self.old.refused + 1) (2 ^ 64 - 1) }
+    {
+        self.refused = self.refused.saturating_add(1);
+    }
+
     /// Counts a message by what was read of it.
     pub(crate) fn count<T>(&mut self, read: &PendingRequestResult<T>)
         ensures messages { self.new.messages ≡ min (self.old.messages + 1) (2 ^ 64 - 1) }

@@ -20,7 +20,7 @@ use Rattle.ei_serve.specs.Causes.{RefusesToStart}
 use Rattle.ei_types.specs.Decided.{IsDecided}
 use Rattle.ei_serve.specs.Refusing.{refusal_of}
 use Rattle.ei_serve.specs.Steps.{GivesOut, Goes, GoesInPart}
-use Rattle.ei_serve.specs.Turning.{Closes, ClosesRefused, Finds, Stays, BreaksOff, Turns}
+use Rattle.ei_serve.specs.Turning.{Closes, ClosesRefused, Finds, Stays, BreaksOff, BreaksOffFull, Turns}
 use Rattle.ei_serve.proofs.Running.{Running}
 use Rattle.reis_demo.specs.declared.tally.Tally.{Tally}
 use Rattle.reis_demo.specs.Summary.{is_input_request}
@@ -90,6 +90,10 @@ module _ (setup : Setup) (pieces : List Piece) (times : List ℕ) (t : SessionSt
   breaks_off_behind : BreaksOff setup pieces times y z → BreaksOff setup pieces times start finish
   breaks_off_behind h = record { piece = h.piece; hands = h.hands; room = h.room; few = h.few; goes = breaks_behind _ _ h.goes }
 
+  full_behind : BreaksOffFull setup pieces times y z → BreaksOffFull setup pieces times start finish
+  unfolding breaks_off_behind breaks_behind
+  full_behind h = record { breaks = breaks_off_behind h.breaks; wanted = h.wanted }
+
   pub turns_behind : (r : Result Turn Error) → Turns setup pieces times r t y z → Turns setup pieces times r t start finish
   turns_behind (Ok turn.GoOn) h = record { piece = h.piece; used = h.used; hands = h.hands; stands = h.stands; goes = goes_behind _ _ h.used h.goes }
   turns_behind (Ok turn.Disconnect) h = closes_behind Disconnect h
@@ -101,7 +105,7 @@ module _ (setup : Setup) (pieces : List Piece) (times : List ℕ) (t : SessionSt
   turns_behind (Err error.ReadFault) h = stays_behind h
   turns_behind (Err error.WriteFault) h = breaks_off_behind h
   turns_behind (Err error.NoMemory) (inl h) = inl (stays_behind h)
-  turns_behind (Err error.NoMemory) (inr h) = inr (breaks_off_behind h)
+  turns_behind (Err error.NoMemory) (inr h) = inr (full_behind h)
   turns_behind (Err e) h = refused_behind (refusal_of e) h
 
 -- ---- a session that isn't started

@@ -1,9 +1,11 @@
 -- The bytes that an input gave, behind those held.
-use Rattle.std.proofs.Common.{◌≡◌, ◌≤◌, ◌⊎◌, inl, inr, ℕ, ◌+◌, zero, suc, List, [], ◌++◌, length, take, drop, refl, ap, sym, ◌∙◌, append_assoc, arith}
+use Rattle.std.proofs.Common.{◌≡◌, ◌≤◌, ◌⊎◌, inl, inr, ℕ, ◌+◌, zero, suc, List, [], ◌∷◌, ◌++◌, length, take, drop, refl, ap, sym, ◌∙◌, append_assoc, arith}
 use Rattle.std.proofs.lemmas.List.{append-nil, take-append-le, length-take-le, drop-append-le}
 use Rattle.std.proofs.Math.Seq.{take-append-add, drop-append_seam}
 use Rattle.std.specs.Prelude.{Option, Some, None, is_some, true, false, Result, Ok, Err, IfOk, OnErr}
-use Rattle.ei_backend.specs.Outside.{InputView, Gives, answer_at, is_end}
+use Rattle.ei_backend.specs.Outside.{answer_at, is_end}
+use Rattle.reis_lines.specs.Input.{Fetched, InputView, Gives, answer_with}
+use Rattle.reis_lines.specs.Held.{AnswersBehind}
 use Rattle.ei_backend.specs.declared.outside.Fault.{Fault}
 use Rattle.ei_backend.specs.declared.outside.LastAnswer.{LastAnswer}
 use Rattle.reis_lines.specs.Given.{GaveBehind, came_to_end, given_since}
@@ -26,6 +28,25 @@ pub fetched_none : (r : Result ℕ Fault) (bytes old new : List ℕ) → Gives o
 fetched_none (Err x) bytes old new g = g
 fetched_none (Ok n) bytes old new g = tt
 
+-- and what it answered
+pub fetched_answer : (r : Result ℕ Fault) (room bytes post : List ℕ) (old new : List Fetched) (e : ℕ) → e ≤ length room → IfOk r (λ n. n ≤ length bytes) →
+    new ≡ old ++ answer_with r bytes ∷ [] → IfOk r (λ n. AnswersBehind old new (take e room) (take (e + n) (take e room ++ (bytes ++ post))) n)
+fetched_answer (Err x) room bytes post old new e le lt is = tt
+fetched_answer (Ok n) room bytes post old new e le lt is =
+    let len : length (take e room) ≡ e = length-take-le e room le in
+    record {
+      bytes = take n bytes;
+      answered = is;
+      size = length-take-le n bytes lt;
+      held =
+          ap (λ k. take (k + n) (take e room ++ (bytes ++ post))) (sym len) ∙ take-append-add (take e room) (bytes ++ post) n
+          ∙ ap (λ t. take e room ++ t) (take-append-le n bytes post lt);
+    }
+
+pub fetched_fault : (r : Result ℕ Fault) (bytes : List ℕ) (old new : List Fetched) → new ≡ old ++ answer_with r bytes ∷ [] → OnErr r (new ≡ old ++ Err (record {}) ∷ [])
+fetched_fault (Err x) bytes old new is = is
+fetched_fault (Ok n) bytes old new is = tt
+
 -- nothing was given
 pub gave_none : (old new a b : List ℕ) → new ≡ old → b ≡ a → GaveBehind old new a b
 gave_none old new a b same held = record { bytes = []; gave = same ∙ sym (append-nil old); held = held ∙ sym (append-nil a) }
@@ -36,6 +57,17 @@ pub read_gave : (moved b held old new : List ℕ) (s e n : ℕ) → drop s (take
 read_gave moved b held old new s e n is order within g = record {
   bytes = g.bytes;
   gave = g.gave;
+  held =
+      let len : length (take e moved) ≡ e = length-take-le e moved within in
+      ap (drop s) g.held ∙ drop-append-le s (take e moved) g.bytes (omega (arith, len)) ∙ ap (λ t. t ++ g.bytes) is;
+}
+
+pub read_answer : (moved b held : List ℕ) (old new : List Fetched) (s e n : ℕ) → drop s (take e moved) ≡ held → s ≤ e → e ≤ length moved →
+    AnswersBehind old new (take e moved) (take (e + n) b) n → AnswersBehind old new held (drop s (take (e + n) b)) n
+read_answer moved b held old new s e n is order within g = record {
+  bytes = g.bytes;
+  answered = g.answered;
+  size = g.size;
   held =
       let len : length (take e moved) ≡ e = length-take-le e moved within in
       ap (drop s) g.held ∙ drop-append-le s (take e moved) g.bytes (omega (arith, len)) ∙ ap (λ t. t ++ g.bytes) is;

@@ -18,7 +18,7 @@ split_lines [] t e = refl
 split_lines (l ∷ ls) t e =
     ap split (append_assoc l (joined_lines ls) t) ∙ split_ended l (joined_lines ls ++ t) e.0 ∙ ap (λ v. before_newline l ∷ v) (split_lines ls t e.1)
 
-not_ended : (ended : Bool) → ended ≡ false → ended ≡ true → ⊥
+pub not_ended : (ended : Bool) → ended ≡ false → ended ≡ true → ⊥
 not_ended ended f t = cc
 
 -- lines that were handed out before the input answered its end have their newlines

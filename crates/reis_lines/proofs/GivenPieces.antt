@@ -1,9 +1,10 @@
 -- The pieces and the bad line of what an input gave, with whatever may follow it. The input may tell its text or not, and nothing
 -- follows where its end is known.
 use Rattle.std.proofs.Common.{◌≡◌, inl, inr, ℕ, ◌+◌, ◌-◌, ◌^◌, List, [], ◌∷◌, ◌++◌, length, map, refl, ap, sym, ◌∙◌, append_assoc, arith, Some}
-use Rattle.std.specs.Prelude.{min, Option, None, Bool, true, false}
+use Rattle.std.specs.Prelude.{min, None, Bool, true, false}
 use Rattle.std.specs.Option.{option_map}
-use Rattle.ei_backend.specs.Outside.{InputView, is_end}
+use Rattle.ei_backend.specs.Outside.{is_end}
+use Rattle.reis_lines.specs.Input.{InputView}
 use Rattle.reis_lines.specs.Text.{before_newline, Spell, pieces_of, bad_line_of, number_from, whole_lines}
 use Rattle.reis_lines.specs.Given.{given_since}
 use Rattle.reis_lines.specs.HexSource.{Reading, joined_lines, HoldsBadLine, LaterReading, IsAtEnd, HoldsEnd, HoldsNoLine}

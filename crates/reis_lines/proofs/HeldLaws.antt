@@ -5,7 +5,7 @@ use Rattle.std.proofs.lemmas.List.Edits.{take-paste}
 use Rattle.std.proofs.Math.Seq.{take-append-add}
 use Rattle.std.specs.List.{copy_within}
 use Rattle.std.specs.Prelude.{Option, None, true, false, is_some, Result, Ok, Err, IfOk}
-use Rattle.ei_backend.specs.Outside.{Fetches}
+use Rattle.reis_lines.specs.Input.{Fetches}
 use Rattle.ei_backend.specs.declared.outside.Fault.{Fault}
 use Rattle.reis_lines.specs.Text.{has_newline}
 use Rattle.reis_lines.specs.Held.{IsBuffer, FindsNewline, Moves, ReadsBehind}

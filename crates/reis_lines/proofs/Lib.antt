@@ -1,4 +1,5 @@
 pub mod HeldLaws
+pub mod AskingLaws
 pub mod SourceLaws
 pub mod TextLaws
 pub mod GivenLaws
@@ -7,5 +8,6 @@ pub mod NewlineLaws
 pub mod GaveLaws
 pub mod ToldLaws
 pub mod MetLaws
+pub mod GivenParts
 pub mod GivenPieces
 pub mod TextBegins

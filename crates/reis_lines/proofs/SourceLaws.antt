@@ -8,10 +8,11 @@ use Rattle.std.specs.Prelude.{Bool, true, false, slice_get}
 use Rattle.std.specs.Option.{option_map}
 use Rattle.ei_spec.specs.declared.handle.Handle.{Handle}
 use Rattle.ei_spec.specs.Piece.{Piece}
-use Rattle.ei_backend.specs.Outside.{InputView, HandsOut}
+use Rattle.ei_backend.specs.Outside.{HandsOut}
+use Rattle.reis_lines.specs.Input.{InputView}
 use Rattle.reis_lines.specs.Text.{has_newline, before_newline, line_bytes, piece_before, pieces_of}
 use Rattle.reis_lines.specs.Held.{FindsNewline, Moves, line_len, line_skip}
-use Rattle.reis_lines.specs.HexSource.{Reading, unless_ended, AreLines, LaterLines, KnowsEnd, LeftBehind, HoldsBadLine, LaterReading, HandsLine}
+use Rattle.reis_lines.specs.HexSource.{Reading, unless_ended, AreLines, LaterLines, KnowsEnd, LeftBehind, HoldsBadLine, LaterFetches, LaterReading, HandsLine}
 use Rattle.reis_lines.specs.HexSource.{unread, IsAtEnd, HoldsEnd}
 use Rattle.reis_lines.specs.declared.held.TheConstants.{ROOM}
 use Rattle.reis_lines.proofs.TextLaws.{has_newline-append, pieces_of-first, full_or, too_long, spelled_none, before_all, before_of_quiet, ended_at}
@@ -149,7 +150,7 @@ first_before None mid f = before_all mid f ∙ sym (take_all (length mid) mid (o
 first_before (Some n) mid f =
     ap before_newline (sym (take-append-drop n mid) ∙ ap (λ t. take n mid ++ t) f.here) ∙ before_of_quiet (take n mid) (drop (n + 1) mid) f.before
 
-newline_in : (n : ℕ) (mid : List ℕ) → FindsNewline (Some n) mid → has_newline mid ≡ true
+pub newline_in : (n : ℕ) (mid : List ℕ) → FindsNewline (Some n) mid → has_newline mid ≡ true
 newline_in n mid f =
     ap has_newline (sym (take-append-drop n mid) ∙ ap (λ t. take n mid ++ t) f.here) ∙ has_newline-append (take n mid) (10 ∷ drop (n + 1) mid) f.before
 
@@ -236,6 +237,7 @@ pub record GoesOn {I : Type 0} (view : I → InputView) (later : I → I → Typ
   pub bytes : List ℕ
   pub gave : (view y.input).given ≡ (view x.input).given ++ bytes
   pub lines : LaterLines x.held bytes y.held x.line y.line y.ended
+  pub fetched : LaterFetches (view x.input).fetches (view y.input).fetches x.held bytes lines.lines y.ended
   pub pieces : y.pieces ≡ x.pieces ++ lines.pieces
   pub left : LeftBehind (unread view x) bytes (unread view y)
   pub told : (t : List ℕ) → unread view x ≡ Some t → (view x.input).left ≡ Some t → (view y.input).left ≡ unread view y
@@ -254,6 +256,7 @@ unmet_later view later x y none same same_faults g =
       bytes = g.bytes;
       gave = g.gave;
       lines = g.lines;
+      fetched = g.fetched;
       pieces = g.pieces;
       left = g.left;
       told = g.told;

@@ -2,7 +2,7 @@
 use Rattle.std.proofs.Common.{◌≡◌, inl, inr, ℕ, List, [], ◌++◌, Some, refl, ap, sym, ◌∙◌}
 use Rattle.std.specs.Prelude.{Option, Bool, true}
 use Rattle.std.proofs.lemmas.List.{append-nil}
-use Rattle.ei_backend.specs.Outside.{InputView}
+use Rattle.reis_lines.specs.Input.{InputView}
 use Rattle.reis_lines.specs.Given.{given_since}
 use Rattle.reis_lines.specs.HexSource.{Reading, fresh, LaterReading}
 use Rattle.reis_lines.specs.InputText.{IsTold, BeginsAsGiven, IsText}

@@ -5,7 +5,7 @@ use Rattle.std.proofs.lemmas.List.{append-nil}
 use Rattle.std.specs.Prelude.{min, ◌==◌, Option, None, Bool, true, false}
 use Rattle.std.specs.Option.{option_map}
 use Rattle.ei_spec.specs.Piece.{Piece}
-use Rattle.ei_backend.specs.Outside.{InputView}
+use Rattle.reis_lines.specs.Input.{InputView}
 use Rattle.reis_lines.specs.Text.{has_newline, before_newline, onto, split, line_bytes, piece_of_line, piece_before, Spell, pieces_of_lines, pieces_of}
 use Rattle.reis_lines.specs.Text.{bad_line_before, bad_line_of_lines, bad_line_of, number_from}
 use Rattle.reis_lines.specs.HexSource.{Reading, unread, left_of, joined_lines, AreLines, HoldsBadLine, LaterReading}

@@ -1,7 +1,9 @@
 -- The bytes that an input gave, whatever it tells of its text, and the bad line among them.
-use Rattle.std.specs.Prelude.{◌≡◌, ◌<◌, ◌≤◌, ◌⊎◌, ℕ, ◌-◌, ◌^◌, min, nat_le, Bool, true, false, List, [], ◌++◌, length, drop, get_or, Option, Some, None}
+use Rattle.std.specs.Prelude.{◌≡◌, ◌<◌, ◌≤◌, ◌⊎◌, ℕ, ◌-◌, ◌^◌, min, nat_le, Bool, true, false, List, [], ◌++◌, length, take, drop, get_or, Option, Some, None}
 use Rattle.std.specs.Prelude.{Result, Ok}
-use Rattle.ei_backend.specs.Outside.{InputView, is_end}
+use Rattle.ei_backend.specs.Outside.{is_end}
+use Rattle.reis_lines.specs.Input.{InputView}
+use Rattle.reis_lines.specs.Asking.{given_in, says_end, last_is, fetches_since}
 use Rattle.ei_backend.specs.declared.outside.Fault.{Fault}
 use Rattle.reis_lines.specs.Text.{split, bad_line_of, whole_lines}
 use Rattle.reis_lines.specs.declared.held.TheConstants.{LONGEST_LINE}
@@ -32,8 +34,11 @@ pub record HasBadLine (bytes : List ℕ) (ended : Bool) (place : ℕ) : Type 0 w
   pub whole : (place ≤ length (whole_lines bytes)) ⊎ ((LONGEST_LINE < length (line_at bytes place)) ⊎ (ended ≡ true))
 
 -- The bytes that an input gave from one state to another have a first bad line, which is whole, and this is its number: its place,
--- up to the last value of 64 bits. Nothing follows where the input's last answer was its end.
+-- up to the last value of 64 bits. Nothing follows where the input's last answer was its end. The line wasn't there with fewer of the
+-- answers that the input gave: it was asked until it was, and no more.
 pub record MetBadLine {I : Type 0} (view : I → InputView) (old new : I) (n : ℕ) : Type 0 where
   pub place : ℕ
   pub bad : HasBadLine (given_since view old new) (is_end (view new).last) place
+  pub no_sooner : (k : ℕ) → k < length (fetches_since view old new) →
+      HasBadLine (given_in (take k (fetches_since view old new))) (last_is says_end (take k (fetches_since view old new))) place → ⊥
   pub number : n ≡ min place (2 ^ 64 - 1)

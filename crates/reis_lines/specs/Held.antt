@@ -1,5 +1,6 @@
 -- The bytes of a text that were read and not yet handed out.
-use Rattle.std.specs.Prelude.{◌≡◌, ◌<◌, ◌≤◌, ◌+◌, ◌-◌, ℕ, List, [], ◌∷◌, ◌++◌, length, take, drop, false, Option, Some, None}
+use Rattle.std.specs.Prelude.{◌≡◌, ◌<◌, ◌≤◌, ◌+◌, ◌-◌, ℕ, List, [], ◌∷◌, ◌++◌, length, take, drop, false, Option, Some, None, Ok}
+use Rattle.reis_lines.specs.Input.{Fetched}
 use Rattle.reis_lines.specs.Text.{has_newline}
 use Rattle.reis_lines.specs.declared.held.TheConstants.{ROOM}
 
@@ -33,6 +34,13 @@ pub record ReadsBehind (held_old text held_new : List ℕ) (left : Option (List 
   pub left_is : left ≡ Some (drop n text)
   pub held : held_new ≡ held_old ++ take n text
   pub ends : n ≡ 0 → text ≡ []
+
+-- one answer more was given, of so many bytes, and these went behind the bytes held
+pub record AnswersBehind (old new : List Fetched) (held_old held_new : List ℕ) (n : ℕ) : Type 0 where
+  pub bytes : List ℕ
+  pub answered : new ≡ old ++ Ok bytes ∷ []
+  pub size : length bytes ≡ n
+  pub held : held_new ≡ held_old ++ bytes
 
 -- how long the first line is
 abbrev pub line_len : Option ℕ → List ℕ → ℕ

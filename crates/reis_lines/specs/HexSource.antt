@@ -4,7 +4,9 @@ use Rattle.std.specs.Prelude.{Option, Some, None, IsSome, Result, Ok, Err, Bool,
 use Rattle.std.specs.Option.{option_map}
 use Rattle.std.specs.Borrow.{GName}
 use Rattle.ei_spec.specs.Piece.{Piece}
-use Rattle.ei_backend.specs.Outside.{SourceView, InputView, Rose, given_with, is_end}
+use Rattle.ei_backend.specs.Outside.{SourceView, Rose, given_with, is_end}
+use Rattle.reis_lines.specs.Input.{Fetched, InputView}
+use Rattle.reis_lines.specs.Asking.{given_in, says_end, last_is, HasLine}
 use Rattle.ei_backend.specs.declared.outside.Fault.{Fault}
 use Rattle.ei_backend.specs.declared.outside.LastAnswer.{LastAnswer}
 use Rattle.ei_backend.specs.declared.outside.LastAnswer.TheVariants as answers
@@ -121,10 +123,39 @@ KnowsEnd view x y = ((y.input ≡ x.input) × (y.ended ≡ x.ended)) ⊎ (y.ende
 abbrev pub LeftBehind : Option (List ℕ) → List ℕ → Option (List ℕ) → Type 0
 LeftBehind old bytes new = (t : List ℕ) → old ≡ Some t → (rest : List ℕ) × (new ≡ Some rest) × (t ≡ bytes ++ rest)
 
+-- the input's end is known; or with these answers a line is there, or the last of them has no byte
+abbrev pub EndsOrHasLine : Bool → List ℕ → List Fetched → Type 0
+EndsOrHasLine ended held fetches = (ended ≡ true) ⊎ HasLine held fetches
+
+-- the same, or a bad line was met
+abbrev pub AsksNoMore : {I : Type 0} → Reading I → List Fetched → Type 0
+AsksNoMore r fetches = IsSome r.bad ⊎ EndsOrHasLine r.ended r.held fetches
+
+-- Of the bytes seen lines went, the first of these, and what is behind them holds no line.
+pub record WantsLine (seen : List ℕ) (lines : List (List ℕ)) : Type 0 where
+  pub went : List (List ℕ)
+  pub others : List (List ℕ)
+  pub first : lines ≡ went ++ others
+  pub rest : List ℕ
+  pub same : seen ≡ joined_lines went ++ rest
+  pub quiet : has_newline rest ≡ false
+  pub short : length rest ≤ LONGEST_LINE
+
+-- The input gave these bytes in answers of which each was asked for where no line was there behind those that went, and no end was
+-- answered before. An end that it answered last is known.
+pub record LaterFetches (old new : List Fetched) (held bytes : List ℕ) (lines : List (List ℕ)) (ended : Bool) : Type 0 where
+  pub fetches : List Fetched
+  pub answered : new ≡ old ++ fetches
+  pub given : bytes ≡ given_in fetches
+  pub open_yet : (n : ℕ) → n < length fetches → last_is says_end (take n fetches) ≡ false
+  pub needed : (n : ℕ) → n < length fetches → WantsLine (held ++ given_in (take n fetches)) lines
+  pub ends : last_is says_end fetches ≡ true → ended ≡ true
+
 -- A reading goes on. Whatever the input tells, the bytes that it gave are lines that went and the bytes held, and the pieces given
--- since are those that the lines spell; a text that it told is these bytes and then what is left. The input isn't asked behind its
--- end, and no more bytes are held than a buffer has room for. A bad line that is met stands at the front of the bytes held, and
--- behind it nothing is read. The input's count of faults has not fallen, nor that of the faults for the bad line.
+-- since are those that the lines spell; a text that it told is these bytes and then what is left. The input is asked only where no
+-- line is there, and not behind its end, and no more bytes are held than a buffer has room for. A bad line that is met stands at the
+-- front of the bytes held, and behind it nothing is read. The input's count of faults has not fallen, nor that of the faults for the
+-- bad line.
 pub record LaterReading
     {I : Type 0} (view : I → InputView) (later : I → I → Type 0) (x y : Reading I)
     : Type 0 where
@@ -133,6 +164,7 @@ pub record LaterReading
   pub bytes : List ℕ
   pub gave : (view y.input).given ≡ (view x.input).given ++ bytes
   pub lines : LaterLines x.held bytes y.held x.line y.line y.ended
+  pub fetched : LaterFetches (view x.input).fetches (view y.input).fetches x.held bytes lines.lines y.ended
   pub pieces : y.pieces ≡ x.pieces ++ lines.pieces
   pub left : LeftBehind (unread view x) bytes (unread view y)
   pub told : (t : List ℕ) → unread view x ≡ Some t → (view x.input).left ≡ Some t → (view y.input).left ≡ unread view y

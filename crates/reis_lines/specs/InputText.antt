@@ -1,6 +1,7 @@
 -- The text of an input that was read: the one that it told, or the bytes that it gave with any behind them.
 use Rattle.std.specs.Prelude.{◌≡◌, ◌⊎◌, ℕ, true, List, [], ◌++◌, Option, Some}
-use Rattle.ei_backend.specs.Outside.{InputView, is_end}
+use Rattle.ei_backend.specs.Outside.{is_end}
+use Rattle.reis_lines.specs.Input.{InputView}
 use Rattle.reis_lines.specs.Given.{given_since}
 
 -- the input told this text, and has those bytes left

@@ -1,14 +1,17 @@
 -- Readings of a source go on: in no step, and in two steps as in one. These are proofs; they stand here since the
 -- ghost members of `HexSource` name them, and such a member names nothing of its own crate but what stands in `specs`.
-use Rattle.std.specs.Prelude.{◌≡◌, ◌⊎◌, ℕ, Bool, true, List, [], ◌∷◌, ◌++◌, ◌+◌, ◌-◌, ◌^◌, min, length, map, drop, Option, Some, None, refl}
+use Rattle.std.specs.Prelude.{◌≡◌, ◌<◌, ◌≤◌, ◌⊎◌, ℕ, Bool, true, false, List, [], ◌∷◌, ◌++◌, ◌+◌, ◌-◌, ◌^◌, min, length, map, take, drop, Option, Some, None, refl}
 use Rattle.std.proofs.Common.{◌∙◌, sym, ap, append_assoc, arith, length-append, inl, inr, subst}
-use Rattle.std.proofs.lemmas.List.{append-nil}
-use Rattle.std.proofs.Math.Seq.{drop-append_seam}
-use Rattle.ei_backend.specs.Outside.{InputView, Rose, is_end}
+use Rattle.std.proofs.lemmas.List.{append-nil, take-append-le}
+use Rattle.std.proofs.lemmas.List.Concat.{flat_map-append}
+use Rattle.std.proofs.Math.Seq.{drop-append_seam, take-append-add}
+use Rattle.ei_backend.specs.Outside.{Rose, is_end}
+use Rattle.reis_lines.specs.Input.{Fetched, InputView}
+use Rattle.reis_lines.specs.Asking.{bytes_in, given_in, says_end, last_is}
 use Rattle.ei_spec.specs.Piece.{Piece}
 use Rattle.reis_lines.specs.Text.{before_newline, line_bytes, piece_of_line, Spell}
 use Rattle.reis_lines.specs.HexSource.{Reading, text_reading, unread, joined_lines, AreLines, LaterLines, HoldsBadLine, Stands, KnowsEnd}
-use Rattle.reis_lines.specs.HexSource.{LeftBehind, LaterReading, LaterSource}
+use Rattle.reis_lines.specs.HexSource.{LeftBehind, WantsLine, LaterFetches, LaterReading, LaterSource}
 use Rattle.reis_lines.specs.declared.hex_source.HexSource.{HexSource}
 
 joined_lines-append : (a b : List (List ℕ)) → joined_lines (a ++ b) ≡ joined_lines a ++ joined_lines b
@@ -97,10 +100,111 @@ LaterLines-trans a given b more c i j k e f p q on none = record {
   grown = omega (arith, p.grown, q.grown, length-append p.lines q.lines);
 }
 
--- the same bytes were given: no more came behind them
-none_given : (a more b : List ℕ) → b ≡ a ++ more → b ≡ a → more ≡ []
+-- the same was given: no more came behind it
+none_given : {A : Type 0} (a more b : List A) → b ≡ a ++ more → b ≡ a → more ≡ []
 none_given a more b gave same =
     sym (drop-append_seam a more) ∙ ap (drop (length a)) (sym gave ∙ same ∙ sym (append-nil a)) ∙ drop-append_seam a []
+
+-- ---- the answers of the input
+
+last_behind : (test : Fetched → Bool) (a : List Fetched) (f : Fetched) (b : List Fetched) → last_is test (a ++ f ∷ b) ≡ last_is test (f ∷ b)
+last_behind test [] f b = refl
+last_behind test (g ∷ []) f b = refl
+last_behind test (g ∷ h ∷ a) f b = last_behind test (h ∷ a) f b
+
+open_of : (t : Bool) → (t ≡ true → ⊥) → t ≡ false
+open_of true not = absurd (not refl)
+open_of false not = refl
+
+open_behind : (p r : List Fetched) → (last_is says_end p ≡ true → ⊥) → last_is says_end r ≡ false → last_is says_end (p ++ r) ≡ false
+open_behind p [] not open_yet = ap (last_is says_end) (append-nil p) ∙ open_of (last_is says_end p) not
+open_behind p (f ∷ r) not open_yet = last_behind says_end p f r ∙ open_yet
+
+ends_behind : (p q : List Fetched) (e f : Bool) → (last_is says_end p ≡ true → e ≡ true) → (last_is says_end q ≡ true → f ≡ true) → (e ≡ true → f ≡ true) →
+    last_is says_end (p ++ q) ≡ true → f ≡ true
+ends_behind p [] e f first second on is = on (first (ap (last_is says_end) (sym (append-nil p)) ∙ is))
+ends_behind p (g ∷ q) e f first second on is = second (sym (last_behind says_end p g q) ∙ is)
+
+pub not_behind : {A : Type 0} (q : List A) (k : ℕ) → q ≡ [] → k < length q → ⊥
+not_behind q k none lt = omega (arith, ap length none, lt)
+
+less_or : (n k : ℕ) → (n < k) ⊎ (k ≤ n)
+less_or n k = grind arith
+
+before_or : (n k : ℕ) → (n < k) ⊎ ((j : ℕ) × (n ≡ k + j))
+before_or n k = elim (less_or n k) [ inl less ↦ inl less | inr more ↦ inr (n - k, omega (arith, more)) ]
+
+-- no answer came
+unfoldable pub LaterFetches-none : (answers : List Fetched) (held : List ℕ) (lines : List (List ℕ)) (ended : Bool) → LaterFetches answers answers held [] lines ended
+LaterFetches-none answers held lines ended = record {
+  fetches = [];
+  answered = sym (append-nil answers);
+  given = refl;
+  open_yet = λ n lt. absurd (not_behind {A = Fetched} [] n refl lt);
+  needed = λ n lt. absurd (not_behind {A = Fetched} [] n refl lt);
+  ends = λ e. cc;
+}
+
+-- and then more
+wants_before : (seen : List ℕ) (l m : List (List ℕ)) → WantsLine seen l → WantsLine seen (l ++ m)
+wants_before seen l m w = record {
+  went = w.went;
+  others = w.others ++ m;
+  first = ap (λ v. v ++ m) w.first ∙ append_assoc w.went w.others m;
+  rest = w.rest;
+  same = w.same;
+  quiet = w.quiet;
+  short = w.short;
+}
+
+wants_behind : (a b : List ℕ) (l m : List (List ℕ)) (p r : List Fetched) → a ++ given_in p ≡ joined_lines l ++ b → WantsLine (b ++ given_in r) m →
+    WantsLine (a ++ given_in (p ++ r)) (l ++ m)
+wants_behind a b l m p r same w = record {
+  went = l ++ w.went;
+  others = w.others;
+  first = ap (λ v. l ++ v) w.first ∙ sym (append_assoc l w.went w.others);
+  rest = w.rest;
+  same =
+      ap (λ v. a ++ v) (flat_map-append bytes_in p r) ∙ sym (append_assoc a (given_in p) (given_in r)) ∙ ap (λ v. v ++ given_in r) same
+      ∙ append_assoc (joined_lines l) b (given_in r) ∙ ap (λ v. joined_lines l ++ v) w.same
+      ∙ sym (append_assoc (joined_lines l) (joined_lines w.went) w.rest) ∙ ap (λ v. v ++ w.rest) (sym (joined_lines-append l w.went));
+  quiet = w.quiet;
+  short = w.short;
+}
+
+-- The answers before a place among those of two readings: some of the first's, or all of these and some of the second's.
+data Before (p q : List Fetched) (n : ℕ) : Type 0 where
+  Within : n < length p → take n (p ++ q) ≡ take n p → Before p q n
+  Behind : (k : ℕ) → k < length q → take n (p ++ q) ≡ p ++ take k q → Before p q n
+
+before : (p q : List Fetched) (n : ℕ) → n < length (p ++ q) → Before p q n
+before p q n lt = elim (before_or n (length p)) [
+  | inl less ↦ Within less (take-append-le n p q (omega (arith, less)))
+  | inr behind ↦
+      Behind behind.0 (omega (arith, lt, behind.1, length-append p q)) (ap (λ (k : ℕ). take k (p ++ q)) behind.1 ∙ take-append-add p q behind.0)
+]
+
+unfoldable LaterFetches-trans : (old mid new : List Fetched) (a bytes b more : List ℕ) (l m : List (List ℕ)) (e f : Bool) →
+    LaterFetches old mid a bytes l e → LaterFetches mid new b more m f → a ++ bytes ≡ joined_lines l ++ b → (e ≡ true → f ≡ true) → (e ≡ true → new ≡ mid) →
+    LaterFetches old new a (bytes ++ more) (l ++ m) f
+LaterFetches-trans old mid new a bytes b more l m e f p q same on still =
+    let none : e ≡ true → q.fetches ≡ [] = λ end. none_given mid q.fetches new q.answered (still end) in
+    let not_ended : (k : ℕ) → k < length q.fetches → last_is says_end p.fetches ≡ true → ⊥ = λ k lt is. not_behind q.fetches k (none (p.ends is)) lt in
+    let seen : a ++ given_in p.fetches ≡ joined_lines l ++ b = ap (λ v. a ++ v) (sym p.given) ∙ same in
+    record {
+      fetches = p.fetches ++ q.fetches;
+      answered = q.answered ∙ ap (λ v. v ++ q.fetches) p.answered ∙ append_assoc old p.fetches q.fetches;
+      given = ap (λ v. v ++ more) p.given ∙ ap (λ v. given_in p.fetches ++ v) q.given ∙ sym (flat_map-append bytes_in p.fetches q.fetches);
+      open_yet = λ n lt. elim (before p.fetches q.fetches n lt) [
+        | Within less is ↦ ap (last_is says_end) is ∙ p.open_yet n less
+        | Behind k less is ↦ ap (last_is says_end) is ∙ open_behind p.fetches (take k q.fetches) (not_ended k less) (q.open_yet k less)
+      ];
+      needed = λ n lt. elim (before p.fetches q.fetches n lt) [
+        | Within less is ↦ subst (λ (v : List Fetched). WantsLine (a ++ given_in v) (l ++ m)) (sym is) (wants_before (a ++ given_in (take n p.fetches)) l m (p.needed n less))
+        | Behind k less is ↦ subst (λ (v : List Fetched). WantsLine (a ++ given_in v) (l ++ m)) (sym is) (wants_behind a b l m p.fetches (take k q.fetches) seen (q.needed k less))
+      ];
+      ends = ends_behind p.fetches q.fetches e f p.ends q.ends on;
+    }
 
 left_on : (x y z : Option (List ℕ)) (a b : List ℕ) → LeftBehind x a y → LeftBehind y b z → LeftBehind x (a ++ b) z
 left_on x y z a b p q = λ t is.
@@ -134,13 +238,14 @@ module _ {I : Type 0} (view : I → InputView) (later : I → I → Type 0) wher
   Later = LaterReading view later
 
   LaterReading-refl : ((x : I) → later x x) → (x : Reading I) → x.bad ≡ x.bad → Later x x
-  unfolding LaterLines-none
+  unfolding LaterLines-none LaterFetches-none
   LaterReading-refl r x same = record {
     input = r x.input;
     count = omega arith;
     bytes = [];
     gave = sym (append-nil (view x.input).given);
     lines = LaterLines-none x.held [] x.held x.line x.line x.ended (sym (append-nil x.held)) refl;
+    fetched = LaterFetches-none (view x.input).fetches x.held [] x.ended;
     pieces = sym (append-nil x.pieces);
     left = left_all (unread view x);
     told = λ t left is. is ∙ sym left;
@@ -182,7 +287,7 @@ module _ {I : Type 0} (view : I → InputView) (later : I → I → Type 0) wher
 
   LaterReading-trans : ((x y z : I) → later x y → later y z → later x z) →
       (x y z : Reading I) → Later x y → Later y z → Later x z
-  unfolding LaterLines-trans
+  unfolding LaterLines-trans LaterFetches-trans
   LaterReading-trans r x y z a b = record {
     input = r x.input y.input z.input a.input b.input;
     count = omega (arith, a.count, b.count);
@@ -190,6 +295,8 @@ module _ {I : Type 0} (view : I → InputView) (later : I → I → Type 0) wher
     gave = b.gave ∙ ap (λ v. v ++ b.bytes) a.gave ∙ append_assoc (view x.input).given a.bytes b.bytes;
     lines = LaterLines-trans x.held a.bytes y.held b.bytes z.held x.line y.line z.line y.ended z.ended a.lines b.lines (λ is. (b.ended is).1)
         (λ is. none_given (view y.input).given b.bytes (view z.input).given b.gave (ap (λ i. (view i).given) (b.ended is).0));
+    fetched = LaterFetches-trans (view x.input).fetches (view y.input).fetches (view z.input).fetches x.held a.bytes y.held b.bytes a.lines.lines b.lines.lines y.ended z.ended
+        a.fetched b.fetched a.lines.same (λ is. (b.ended is).1) (λ is. ap (λ i. (view i).fetches) (b.ended is).0);
     pieces = b.pieces ∙ ap (λ v. v ++ b.lines.pieces) a.pieces ∙ append_assoc x.pieces a.lines.pieces b.lines.pieces;
     left = left_on (unread view x) (unread view y) (unread view z) a.bytes b.bytes a.left b.left;
     told = λ t left is. let p = a.left t left in b.told p.0 p.1 (a.told t left is ∙ p.1);

@@ -1,6 +1,8 @@
+pub mod Asking
 pub mod Given
 pub mod Held
 pub mod HexSource
+pub mod Input
 pub mod InputText
 pub mod LaterReadings
 pub mod Lent

@@ -1,14 +1,17 @@
 //! The bytes of a text that were read and not yet handed out.
 
-ghost use Rattle.std.specs.Prelude.{◌≡◌, ◌<◌, ◌≤◌, ◌+◌, ◌-◌, ◌↔◌, ℕ, List, [], ◌++◌, Some, None, Ok, true, false, length, vec_len, take, drop, IfOk, OnErr};
+ghost use Rattle.std.specs.Prelude.{◌≡◌, ◌<◌, ◌≤◌, ◌+◌, ◌-◌, ◌↔◌, ℕ, List, [], ◌∷◌, ◌++◌, Some, None, Ok, Err, true, false, length, vec_len, take, drop, IfOk, OnErr};
 ghost use Rattle.std.specs.Prelude.{IsTrue, ◌⊎◌};
-ghost use Rattle.ei_backend.specs.Outside.{HasCause, is_end, last_fetched};
+ghost use Rattle.ei_backend.specs.Outside.{HasCause, is_end};
+ghost use Rattle.reis_lines.specs.Input.{last_fetched};
 ghost use Rattle.ei_backend.specs.declared.outside.LastAnswer.TheVariants as answers;
 ghost use Rattle.reis_lines.specs.Given.{GaveBehind, came_to_end};
 ghost use Rattle.reis_lines.specs.Text.{has_newline};
-ghost use Rattle.reis_lines.specs.Held.{Moves, ReadsBehind, FindsNewline, line_len, line_skip};
+ghost use Rattle.reis_lines.specs.Asking.{HasLine, AskedBehind};
+ghost use Rattle.reis_lines.specs.Held.{Moves, ReadsBehind, AnswersBehind, FindsNewline, line_len, line_skip};
 
-use ei_backend::{Fault, Input};
+use crate::input::Input;
+use ei_backend::Fault;
 use ei_spec::limits::MOST_PIECE_BYTES;
 use ei_wire::NoMemory;
 use memchr::memchr;
@@ -93,6 +96,9 @@ fn fetch_behind<I: Input>(input: &mut I, room: &mut [u8], end: usize) -> Result<
     ensures given { IfOk result (λ n. GaveBehind (I.view input.old).given (I.view input.new).given (take end room.old)
         (take (end + n) room.new)) }
     ensures none_given { OnErr result ((I.view input.new).given ≡ (I.view input.old).given) }
+    ensures answered { IfOk result (λ n. AnswersBehind (I.view input.old).fetches (I.view input.new).fetches
+        (take end room.old) (take (end + n) room.new) n) }
+    ensures faulted { OnErr result ((I.view input.new).fetches ≡ (I.view input.old).fetches ++ Err (record {}) ∷ []) }
     ensures last { (I.view input.new).last ≡ last_fetched result }
     ensures cause { HasCause (I.view input.old).faults (I.view input.new).faults result }
     ensures later { I.later input.old input.new }
@@ -164,6 +170,10 @@ impl Held {
         ensures given { IfOk result (λ n. GaveBehind (I.view input.old).given
             (I.view input.new).given self.old self.new) }
         ensures none_given { OnErr result ((I.view input.new).given ≡ (I.view input.old).given) }
+        ensures answered { IfOk result (λ n. AnswersBehind (I.view input.old).fetches
+            (I.view input.new).fetches self.old self.new n) }
+        ensures faulted { OnErr result ((I.view input.new).fetches ≡
+            (I.view input.old).fetches ++ Err (record {}) ∷ []) }
         ensures last { (I.view input.new).last ≡ last_fetched result }
         ensures count { IfOk result (λ n. length self.new ≡ length self.old + n) }
         ensures none { result ≡ Ok 0 → self.new ≡ self.old }
@@ -189,6 +199,9 @@ impl Held {
         ensures given { GaveBehind (I.view input.old).given (I.view input.new).given self.old self.new }
         ensures asked { ((input.new ≡ input.old) × (came_to_end result (length self.new) ≡ false))
             ⊎ (is_end (I.view input.new).last ≡ came_to_end result (length self.new)) }
+        // and how often it was asked: until a line was there, or no byte came
+        ensures fetched { AskedBehind (HasLine self.old) I.view input.old input.new self.old self.new
+            (came_to_end result (length self.new)) }
         ensures place { IfOk result (λ found. FindsNewline found self.new) }
         ensures ends { result ≡ Ok None → length self.new < TOO_LONG →
             (text : List ℕ) → (I.view input.old).left ≡ Some text → (I.view input.new).left ≡ Some [] }

@@ -7,7 +7,8 @@ ghost use Rattle.ei_spec.specs.declared.limits.TheConstants.{MOST_PIECE_BYTES};
 
 use crate::digits::decode_line;
 use crate::held::{Held, LONGEST_LINE, line_extent};
-use ei_backend::{Fault, GivenPieces, Input, LastAnswer, Source, Taken};
+use crate::input::Input;
+use ei_backend::{Fault, GivenPieces, LastAnswer, Source, Taken};
 use ei_spec::Handle;
 use ei_wire::NoMemory;
 use std::alloc::Global;
@@ -40,7 +41,8 @@ impl<'a, I: Input> HexSource<'a, I> {
     ghost use Rattle.reis_lines.specs.Given.{GaveBehind};
     ghost use Rattle.reis_lines.specs.Held.{FindsNewline, Moves, line_skip};
     ghost use Rattle.reis_lines.specs.HexSource.{reference_of, text_reading, answer_of, fresh, unread, faults_of, LaterReading, NextPiece, GivesLine};
-    ghost use Rattle.reis_lines.specs.HexSource.{KnowsEnd, HoldsEnd, FailsHere};
+    ghost use Rattle.reis_lines.specs.HexSource.{KnowsEnd, HoldsEnd, FailsHere, EndsOrHasLine, AsksNoMore};
+    ghost use Rattle.reis_lines.specs.Asking.{AskedUntil, AskedBehind};
     ghost use Rattle.reis_lines.specs.declared.held.TheConstants.{ROOM};
 
     /// `NoMemory` where there is none for the longest line.
@@ -100,6 +102,9 @@ impl<'a, I: Input> HexSource<'a, I> {
             (I.view (text_reading self.new).input).given
             (text_reading self.old).held (text_reading self.new).held }
         ensures asked { KnowsEnd I.view (text_reading self.old) (text_reading self.new) }
+        ensures fetched { AskedBehind (EndsOrHasLine (text_reading self.old).ended (text_reading self.old).held) I.view
+            (text_reading self.old).input (text_reading self.new).input
+            (text_reading self.old).held (text_reading self.new).held (text_reading self.new).ended }
         ensures place { IfOk result (λ found. FindsNewline found (text_reading self.new).held) }
         ensures within { IfOk result (λ found. line_skip found (text_reading self.new).held ≤
             length (text_reading self.new).held) }
@@ -139,6 +144,8 @@ impl<'a, I: Input> HexSource<'a, I> {
         ensures given { GivesLine (text_reading self.old).pieces (text_reading self.new).pieces result bytes.new }
         ensures end { result ≡ Ok 0 → HoldsEnd (text_reading self.new).held (text_reading self.new).ended }
         ensures fault { IsErr result → FailsHere I.view (text_reading self.new) ⊎ IsSome (text_reading self.new).bad }
+        ensures fetched { AskedUntil (AsksNoMore (text_reading self.old)) I.view
+            (text_reading self.old).input (text_reading self.new).input }
         ensures unasked { has_newline (text_reading self.old).held ≡ true →
             (text_reading self.new).input ≡ (text_reading self.old).input }
         ensures behind_end { (text_reading self.old).ended ≡ true →
@@ -183,11 +190,12 @@ impl<'a, I: Input> HexSource<'a, I> {
 }
 
 impl<'a, I: Input> Source for HexSource<'a, I> {
-    ghost use Rattle.std.specs.Prelude.{◌≡◌, ◌≤◌, ◌+◌, ℕ, Some, None, length, IfOk, IsErr, true};
+    ghost use Rattle.std.specs.Prelude.{◌≡◌, ◌≤◌, ◌+◌, ◌⊎◌, ℕ, Some, None, length, IfOk, IsErr, true};
     ghost use Rattle.ei_backend.specs.Memory.{counted};
     ghost use Rattle.ei_backend.specs.Outside.{HasCause, IsPieceSize, IsTake};
     ghost use Rattle.reis_lines.specs.Text.{has_newline};
-    ghost use Rattle.reis_lines.specs.HexSource.{text_reading, source_of, faults_of, LaterSource};
+    ghost use Rattle.reis_lines.specs.HexSource.{text_reading, source_of, faults_of, AsksNoMore, LaterSource};
+    ghost use Rattle.reis_lines.specs.Asking.{AskedUntil};
     ghost use Rattle.reis_lines.specs.LaterReadings.{LaterSource-refl, LaterSource-trans};
 
     ghost view = { source_of I.view };
@@ -204,10 +212,10 @@ impl<'a, I: Input> Source for HexSource<'a, I> {
         ensures size { IfOk result IsPieceSize }
         ensures takes { IsTake (source_of I.view self.old) (source_of I.view self.new) result bytes.new _handles.new }
         ensures later { LaterSource I.view I.later self.old self.new }
-        // the input isn't asked while a whole line is held, nor behind its end, nor behind a bad line
-        ensures unasked { has_newline (text_reading self.old).held ≡ true →
-            (text_reading self.new).input ≡ (text_reading self.old).input }
-        ensures behind_end { (text_reading self.old).ended ≡ true →
+        // the input is asked until a line is there or an answer has no byte, and no more; nor behind its end, nor behind a bad line
+        ensures fetched { AskedUntil (AsksNoMore (text_reading self.old)) I.view
+            (text_reading self.old).input (text_reading self.new).input }
+        ensures unasked { (has_newline (text_reading self.old).held ≡ true) ⊎ ((text_reading self.old).ended ≡ true) →
             (text_reading self.new).input ≡ (text_reading self.old).input }
         ensures refused { (n : ℕ) → (text_reading self.old).bad ≡ Some n →
             IsErr result × ((text_reading self.new).input ≡ (text_reading self.old).input) }

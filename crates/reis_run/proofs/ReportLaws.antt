@@ -10,7 +10,8 @@ use Rattle.ei_session.specs.Served.{Answer, Disconnect, End, UnexpectedEof, IdsE
 use Rattle.ei_session.specs.Complete.{AreComplete}
 use Rattle.ei_session.proofs.Completing.{complete_ends}
 use Rattle.ei_backend.specs.Memory.{TrayView, never_failing, sink_of}
-use Rattle.ei_backend.specs.Outside.{InputView, with_more}
+use Rattle.ei_backend.specs.Outside.{with_more}
+use Rattle.reis_lines.specs.Input.{Fetched, InputView}
 use Rattle.ei_standing.specs.Standing.{request_in_code}
 use Rattle.ei_request.specs.declared.event.EisRequest.{EisRequest}
 use Rattle.ei_serve.specs.declared.session.Ended.{Ended as HowEnded}
@@ -76,10 +77,10 @@ is_of_given setup text left readings readings_new tray after reply old out reque
   is_of = is_of setup (accepted setup (stream h.pieces)) readings tray after reply old out requests last k h.requests h.replies;
 }
 
-pub is_of_first : (setup : Setup) (text given : List ℕ) (left readings readings_new : Option (List ℕ)) (tray : TrayView) (after : TrayView) (reply : List ℕ) (old out requests : List EisRequest) (last : LastLine) → Kept tray after.held reply old out requests →
-    TookLines text given left (λ pieces. CutShort setup (pieces_of text) pieces readings readings_new old out (sink_of tray) (sink_of after)) →
-    TookLines text given left (IsOfFirst setup (pieces_of text) readings (record { reply = reply; requests = requests; last = last }))
-is_of_first setup text given left readings readings_new tray after reply old out requests last k w =
+pub is_of_first : (setup : Setup) (text : List ℕ) (fetches : List Fetched) (left readings readings_new : Option (List ℕ)) (tray : TrayView) (after : TrayView) (reply : List ℕ) (old out requests : List EisRequest) (last : LastLine) → Kept tray after.held reply old out requests →
+    TookLines text fetches left (λ pieces. CutShort setup (pieces_of text) pieces readings readings_new old out (sink_of tray) (sink_of after)) →
+    TookLines text fetches left (IsOfFirst setup (pieces_of text) readings (record { reply = reply; requests = requests; last = last }))
+is_of_first setup text fetches left readings readings_new tray after reply old out requests last k w =
     let h = w.took in
     let r = h.replies.told tray.held refl in
     record {
@@ -229,7 +230,7 @@ module _ {I : Type 0} (view : I → InputView) (old new : I) where
 
   -- and a bad line that it met is met by what it says
   pub seen_met : (n : ℕ) → MetBadLine view old new n → MetBadLine (λ (v : InputView). v) (view old) (view new) n
-  seen_met n met = record { place = met.place; bad = met.bad; number = met.number }
+  seen_met n met = record { place = met.place; bad = met.bad; no_sooner = met.no_sooner; number = met.number }
 
 -- ---- the words
 

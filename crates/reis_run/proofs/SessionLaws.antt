@@ -15,7 +15,9 @@ use Rattle.ei_session.specs.Served.{Answer, Disconnect, End, UnexpectedEof, IdsE
 use Rattle.ei_session.specs.Served.{Outcome, at_end, read_first, session, accepted, is_over}
 use Rattle.ei_session.proofs.AllParts.{session_end}
 use Rattle.ei_backend.specs.Lent.{LentSource}
-use Rattle.ei_backend.specs.Outside.{Rose, SourceView, SinkView, InputView, with_more}
+use Rattle.ei_backend.specs.Outside.{Rose, SourceView, SinkView, with_more}
+use Rattle.reis_lines.specs.Asking.{given_in, fetches_since}
+use Rattle.reis_lines.specs.Input.{Fetched, InputView}
 use Rattle.ei_standing.specs.Standing.{request_in_code}
 use Rattle.ei_request.specs.declared.event.EisRequest.{EisRequest}
 use Rattle.ei_serve.specs.declared.session.Ended.{Ended as HowEnded}
@@ -387,14 +389,14 @@ module _
   line_clock (Some n) d = absurd d
 
   -- the lines that were taken, and what waits behind them
-  took_lines : (Took : Option (List Piece) → Type 0) → Took (Some behind_text) → TookLines t (given_since view input after) left Took
+  took_lines : (Took : Option (List Piece) → Type 0) → Took (Some behind_text) → TookLines t (fetches_since view input after) left Took
   took_lines Took so =
       let lines = gave_lines view later input (text_reading y) s.went.reading in
       let spent : pieces_left y.held left ≡ Some behind_text = ap (pieces_left y.held) s.begins.left_is in
       record {
         pieces = (text_reading y).pieces;
         waiting = y.held;
-        gave = subst (λ (a : I). GaveLines (given_since view input a) (text_reading y).pieces y.held) (sym s.went.same) lines;
+        gave = subst (λ (a : I). GaveLines (fetches_since view input a) (text_reading y).pieces y.held) (sym s.went.same) lines;
         more = behind_text;
         first = pieces_are s.went s.begins;
         left_is = spent;
@@ -402,12 +404,12 @@ module _
       }
 
   pub line_cut : (bad : Option ℕ) → IsCutShortLine (last_line_of bad answer) →
-      TookLines t (given_since view input after) left (λ pieces. CutShort setup (pieces_of t) pieces readings readings_left old new took_old took_new)
+      TookLines t (fetches_since view input after) left (λ pieces. CutShort setup (pieces_of t) pieces readings readings_left old new took_old took_new)
   line_cut None d = took_lines (λ pieces. CutShort setup (pieces_of t) pieces readings readings_left old new took_old took_new) (s.says.cut d)
   line_cut (Some n) d = absurd d
 
   pub line_took : (bad : Option ℕ) → bad ≡ (text_reading y).bad → IsDecidedLine (last_line_of bad answer) →
-      TookLines t (given_since view input after) left (TookAllAs setup (pieces_of t) (last_line_of bad answer))
+      TookLines t (fetches_since view input after) left (TookAllAs setup (pieces_of t) (last_line_of bad answer))
   line_took None is d = took_lines (TookAllAs setup (pieces_of t) (last_line.Answer answer)) (s.says.taken d)
   line_took (Some n) is d =
       took_lines (TookAllAs setup (pieces_of t) (last_line.BadLine n))
@@ -456,22 +458,29 @@ none_owed setup pieces lt = absurd (omega arith)
 none_replied : (setup : Setup) (pieces : List Piece) (took : SinkView) → 0 < 0 → RepliedAtLeast setup (accepted setup (stream (take (0 - 1) pieces))) took took
 none_replied setup pieces took lt = absurd (omega arith)
 
--- nothing was given
-pub given_none : {I : Type 0} (view : I → InputView) (input : I) → given_since view input input ≡ []
-given_none view input = drop_all (length (view input).given) (view input).given (omega arith)
+-- nothing was asked for
+pub fetched_none : {I : Type 0} (view : I → InputView) (input : I) → fetches_since view input input ≡ []
+fetched_none view input = drop_all (length (view input).fetches) (view input).fetches (omega arith)
 
-none_gave : (bytes : List ℕ) → bytes ≡ [] → GaveLines bytes [] []
-none_gave bytes none = record { lines = []; same = none; spelled = refl; room = omega arith }
+none_gave : (fetches : List Fetched) → fetches ≡ [] → GaveLines fetches [] []
+none_gave fetches none = record {
+  lines = [];
+  same = ap given_in none;
+  spelled = refl;
+  room = omega arith;
+  open_yet = λ k lt. absurd (omega (arith, ap length none, lt));
+  needed = λ k lt. absurd (omega (arith, ap length none, lt));
+}
 
 -- no piece was taken, and no message handled
-pub nothing_handled : (setup : Setup) (text given : List ℕ) (left readings : Option (List ℕ)) (out : List EisRequest) (took : SinkView) → given ≡ [] → left ≡ Some text →
-    TookLines text given left (λ pieces. CutShort setup (pieces_of text) pieces readings readings out out took took)
-nothing_handled setup text given left readings out took none told =
+pub nothing_handled : (setup : Setup) (text : List ℕ) (fetches : List Fetched) (left readings : Option (List ℕ)) (out : List EisRequest) (took : SinkView) → fetches ≡ [] → left ≡ Some text →
+    TookLines text fetches left (λ pieces. CutShort setup (pieces_of text) pieces readings readings out out took took)
+nothing_handled setup text fetches left readings out took none told =
     let r = readings_of readings in
     record {
       pieces = [];
       waiting = [];
-      gave = none_gave given none;
+      gave = none_gave fetches none;
       more = pieces_of text;
       first = refl;
       left_is = ap (pieces_left []) told;

@@ -1,7 +1,9 @@
 -- What the program's outside says.
 use Rattle.std.specs.Prelude.{ℕ, List, Option}
-use Rattle.ei_backend.specs.Outside.{InputView, SinkView, Rose}
-use Rattle.reis_lines.specs.Given.{given_since, MetBadLine}
+use Rattle.ei_backend.specs.Outside.{SinkView, Rose}
+use Rattle.reis_lines.specs.Input.{Fetched, InputView}
+use Rattle.reis_lines.specs.Asking.{fetches_since}
+use Rattle.reis_lines.specs.Given.{MetBadLine}
 use Rattle.reis_lines.specs.InputText.{IsText}
 
 -- What the input and the output say of themselves, and the readings that the clock has left, where it tells them.
@@ -18,11 +20,11 @@ outside input output readings = record { input = input; output = output; reading
 abbrev pub IsTextOf : Outside → Outside → List ℕ → Option (List ℕ) → Type 0
 IsTextOf before after = IsText (λ (v : InputView). v) before.input after.input
 
--- the bytes that the input gave from the first to the second
-abbrev pub given_by : Outside → Outside → List ℕ
-given_by before after = given_since (λ (v : InputView). v) before.input after.input
+-- what the input answered from the first to the second
+abbrev pub fetches_by : Outside → Outside → List Fetched
+fetches_by before after = fetches_since (λ (v : InputView). v) before.input after.input
 
--- the bytes that the input gave have a first bad line, which is whole, and this is its number
+-- the bytes that the input gave have a first bad line, which is whole, and wasn't there with fewer answers; this is its number
 abbrev pub MetLineOf : Outside → Outside → ℕ → Type 0
 MetLineOf before after = MetBadLine (λ (v : InputView). v) before.input after.input
 

@@ -16,10 +16,12 @@ use Rattle.ei_types.specs.Decided.{IsDecided, IsCutShort}
 use Rattle.ei_types.specs.declared.error.Error.{Error}
 use Rattle.ei_types.specs.declared.error.Error.TheVariants as error
 use Rattle.ei_backend.specs.declared.outside.LastAnswer.TheVariants as answers
-use Rattle.ei_backend.specs.Outside.{SinkView, InputView, Rose}
+use Rattle.ei_backend.specs.Outside.{SinkView, Rose}
+use Rattle.reis_lines.specs.Input.{InputView}
 use Rattle.reis_lines.specs.InputText.{ForEachText}
+use Rattle.reis_lines.specs.Input.{Fetched}
 use Rattle.reis_lines.specs.Taken.{GaveLines}
-use Rattle.reis_run.specs.ProgramOutside.{Outside, IsTextOf, MetLineOf, InputRose, given_by}
+use Rattle.reis_run.specs.ProgramOutside.{Outside, IsTextOf, MetLineOf, InputRose, fetches_by}
 use Rattle.reis_lines.specs.Text.{pieces_of, bad_line_of, number_from, AreGiven}
 use Rattle.reis_run.specs.Tell.{Report}
 use Rattle.reis_run.specs.declared.session.LastLine.{LastLine}
@@ -102,12 +104,12 @@ abbrev pub TookAllAs : Setup → List Piece → LastLine → Option (List Piece)
 TookAllAs setup told (last_line.Answer result) left = TookAllOf setup told left result
 TookAllAs setup told (last_line.BadLine n) left = TookToTheEnd setup told left
 
--- What was taken of a text. The bytes that the input gave are the lines of the pieces that were taken, which are the first of the
--- text, and behind them bytes that wait; of the pieces left, with these bytes, this is so.
-pub record TookLines (text given : List ℕ) (left : Option (List ℕ)) (Took : Option (List Piece) → Type 0) : Type 0 where
+-- What was taken of a text. The bytes that the input gave in these answers are the lines of the pieces that were taken, which are the
+-- first of the text, and behind them bytes that wait; of the pieces left, with these bytes, this is so.
+pub record TookLines (text : List ℕ) (fetches : List Fetched) (left : Option (List ℕ)) (Took : Option (List Piece) → Type 0) : Type 0 where
   pub pieces : List Piece
   pub waiting : List ℕ
-  pub gave : GaveLines given pieces waiting
+  pub gave : GaveLines fetches pieces waiting
   pub more : List Piece
   pub first : pieces_of text ≡ pieces ++ more
   pub left_is : pieces_left waiting left ≡ Some more
@@ -125,15 +127,15 @@ beside out sink readings = record { out = out; sink = sink; readings = readings 
 -- The session over the lines of a text, of which this is left: how it ended, what it handed out and replied, which readings it took,
 -- and which lines. Where the input failed it is the session over the lines given, and where it was cut short a front of it.
 pub record ServesText
-    (setup : Setup) (gave text : List ℕ) (left : Option (List ℕ)) (last : LastLine) (old new : Beside) : Type 0 where
+    (setup : Setup) (fetches : List Fetched) (text : List ℕ) (left : Option (List ℕ)) (last : LastLine) (old new : Beside) : Type 0 where
   pub ends : IsDecidedLine last → EndsAs (end_of setup text) last
   pub requests : IsDecidedLine last → HandsOut setup (session setup (pieces_of text)).handled old.readings old.out new.out
   pub replies : IsDecidedLine last → Replied setup (session setup (pieces_of text)).handled old.sink new.sink
   pub readings : IsAnswered last → LeftReadings setup (session setup (pieces_of text)).handled old.readings new.readings
   pub given : IsReadFault last → HandledGiven setup text left old.readings new.readings old.out new.out old.sink new.sink
-  pub cut_short : IsCutShortLine last → TookLines text gave left (λ pieces.
+  pub cut_short : IsCutShortLine last → TookLines text fetches left (λ pieces.
       CutShort setup (pieces_of text) pieces old.readings new.readings old.out new.out old.sink new.sink)
-  pub taken : IsDecidedLine last → TookLines text gave left (TookAllAs setup (pieces_of text) last)
+  pub taken : IsDecidedLine last → TookLines text fetches left (TookAllAs setup (pieces_of text) last)
 
 -- the input counted a fault, and answered it last
 pub record FailedLast {I : Type 0} (view : I → InputView) (old new : I) : Type 0 where
@@ -178,9 +180,10 @@ pub record IsOfFirst (setup : Setup) (pieces : List Piece) (readings : Option (L
   pub requests_are : AreRequests setup reached readings report.requests
 
 -- The report is that of the session over each text of an input: one that it told, or the bytes that it gave with any behind them.
--- Where the input failed it is that of the lines given, and where memory ran out that of the first messages. Nothing was read behind
--- the last line that the session took but what a buffer has room for. A read fault is reported only where the input failed, last of
--- all, and a bad line only where one was met; and one of them is wherever the input's count of faults rose.
+-- Where the input failed it is that of the lines given, and where memory ran out that of the first messages. The input was asked only
+-- where no line was there behind the first of those that the session took, and not behind its end; at a bad line it was asked until
+-- that line was there, and no more. A read fault is reported only where the input failed, last of all, and a bad line only where one
+-- was met; and one of them is wherever the input's count of faults rose.
 pub record IsReport (setup : Setup) (before after : Outside) (report : Report) : Type 0 where
   pub ends : ForEachText (IsTextOf before after) (λ text left. IsDecidedLine report.last → EndsAs (end_of setup text) report.last)
   pub decided : ForEachText (IsTextOf before after) (λ text left.
@@ -188,10 +191,10 @@ pub record IsReport (setup : Setup) (before after : Outside) (report : Report) :
   pub clock : ForEachText (IsTextOf before after) (λ text left.
       IsAnswered report.last → LeftReadings setup (session setup (pieces_of text)).handled before.readings after.readings)
   pub taken : ForEachText (IsTextOf before after) (λ text left.
-      IsDecidedLine report.last → TookLines text (given_by before after) left (TookAllAs setup (pieces_of text) report.last))
+      IsDecidedLine report.last → TookLines text (fetches_by before after) left (TookAllAs setup (pieces_of text) report.last))
   pub given : ForEachText (IsTextOf before after) (λ text left. IsReadFault report.last → IsOfGiven setup text left before.readings report)
   pub cut_short : ForEachText (IsTextOf before after) (λ text left.
-      IsCutShortLine report.last → TookLines text (given_by before after) left (IsOfFirst setup (pieces_of text) before.readings report))
+      IsCutShortLine report.last → TookLines text (fetches_by before after) left (IsOfFirst setup (pieces_of text) before.readings report))
   pub fault : IsReadFault report.last → InputRose before after
   pub fault_last : IsReadFault report.last → after.input.last ≡ answers.Fault
   pub risen : before.input.faults < after.input.faults → TellsFault report.last

@@ -19,11 +19,12 @@ use crate::session::serve_lines;
 pub use crate::tell::NO_MEMORY;
 use crate::tell::{DONE, Form, tell, tell_session};
 use crate::words::{Command, USAGE};
-use ei_backend::{Clock, Input, Sink, Tray};
+use ei_backend::{Clock, Sink, Tray};
 use ei_serve::Setup;
 use ei_types::DeviceCapabilities;
 use ei_wire::{EiText, NoMemory};
 use reis_demo::demo;
+use reis_lines::Input;
 use std::alloc::Global;
 
 /// The words are no command.

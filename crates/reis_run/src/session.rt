@@ -5,17 +5,18 @@ ghost use Rattle.ei_types.specs.Capability.{bits_of, all_bits};
 ghost use Rattle.ei_backend.specs.Lent.{LentClock};
 ghost use Rattle.ei_backend.specs.Memory.{sink_of};
 ghost use Rattle.ei_serve.specs.Standing.{setup_of};
-ghost use Rattle.reis_lines.specs.Given.{given_since, MetBadLine};
+ghost use Rattle.reis_lines.specs.Asking.{fetches_since};
+ghost use Rattle.reis_lines.specs.Given.{MetBadLine};
 ghost use Rattle.reis_lines.specs.InputText.{ForText};
 ghost use Rattle.reis_lines.specs.Lent.{LentInput};
 ghost use Rattle.reis_run.specs.Session.{beside, last_line_of, ServesText, FailedLast, IsReadFault, IsBadLine, TellsFault};
 
-use ei_backend::{Clock, Input, Tray};
+use ei_backend::{Clock, Tray};
 use ei_request::EisRequest;
 use ei_serve::{Ended, Setup, serve};
 use ei_types::Error;
 use ei_wire::NoMemory;
-use reis_lines::{Held, HexSource};
+use reis_lines::{Held, HexSource, Input};
 use std::alloc::Global;
 
 /// How a session over lines ended: what the last line of its report says.
@@ -49,7 +50,7 @@ pub(crate) fn serve_lines<I: Input, C: Clock>(
     requires lawful { bits_of setup.capabilities ≤ all_bits }
     // over a text of the input, told or given: the session over its pieces, or its first bad line
     ensures serves { ForText I.view input.old input.new (λ text left.
-        ServesText (setup_of setup) (given_since I.view input.old input.new) text left result
+        ServesText (setup_of setup) (fetches_since I.view input.old input.new) text left result
         (beside requests.old.items (sink_of reply.old) (C.view clock.old).left)
         (beside requests.new.items (sink_of reply.new) (C.view clock.new).left)) }
     // over any input

@@ -1,18 +1,20 @@
 //! Standard input, standard output and the clock, as the outside of the program.
 //!
-//! Standard input tells the text that its reader has left, where the reader tells that, and says what it gave. Standard output
-//! says what it took, and a writer that tells what it holds holds that. The clock tells nothing of what it will show. Each error
-//! of theirs counts as a fault.
+//! Standard input tells the text that its reader has left, where the reader tells that, and says what each fetch gave. Standard
+//! output says what it took, and a writer that tells what it holds holds that. The clock tells nothing of what it will show. Each
+//! error of theirs counts as a fault.
 
-ghost use Rattle.std.specs.Prelude.{◌≡◌, ◌<◌, ◌≤◌, ℕ, List, [], None, Some, IfOk, IfSome, length};
+ghost use Rattle.std.specs.Prelude.{◌≡◌, ◌<◌, ◌≤◌, ℕ, List, [], ◌∷◌, ◌++◌, None, Some, IfOk, IfSome, length};
 ghost use Rattle.std.specs.Duration.{as_nanos};
 ghost use Rattle.ei_backend.specs.Memory.{counted};
-ghost use Rattle.ei_backend.specs.Outside.{HasCause, HasPutCause, HasPutWant, CountsOne, Fetches, Gives, last_fetched, Puts, IsPutSize, IsReading};
+ghost use Rattle.ei_backend.specs.Outside.{HasCause, HasPutCause, HasPutWant, CountsOne, Puts, IsPutSize, IsReading};
+ghost use Rattle.reis_lines.specs.Input.{Fetches, Gives, answer_with, last_fetched};
 ghost use Rattle.ei_backend.specs.declared.outside.LastAnswer.TheVariants as answers;
 ghost use Rattle.reis_run.specs.StdIo.{Counts, IsSince, ReadsOrRepeats, faults_of_start, whole_micros};
 
-use ei_backend::{Clock, Fault, Given, Input, LastAnswer, PutError, Sink, TakenPiece};
+use ei_backend::{Clock, Fault, LastAnswer, PutError, Sink, TakenPiece};
 use ei_spec::Handle;
+use reis_lines::{Given, Input};
 use std::io::{Read, Write};
 use std::time::{Clock as TimeSource, Duration, Instant};
 
@@ -39,6 +41,7 @@ impl<R: Read + Drop> StdInput<R> {
     pub fn new(reader: R) -> Self
         ensures reader { result.reader ≡ reader }
         ensures given { result.given.bytes ≡ [] }
+        ensures fetches { result.given.fetches ≡ [] }
         ensures last { result.last ≡ answers.Nothing }
         ensures faults { result.faults ≡ 0 }
     {
@@ -56,6 +59,7 @@ impl<R: Read + Drop> Input for StdInput<R> {
     ghost view = { λ s. record {
       left = R.remaining s.reader;
       given = s.given.bytes;
+      fetches = s.given.fetches;
       faults = s.faults;
       asked = s.asked;
       last = s.last;
@@ -72,6 +76,7 @@ impl<R: Read + Drop> Input for StdInput<R> {
         ensures size { IfOk result (λ n. n ≤ length bytes.new) }
         ensures text { Fetches (R.remaining self.old.reader) (R.remaining self.new.reader) result bytes.new }
         ensures given { Gives self.old.given.bytes self.new.given.bytes result bytes.new }
+        ensures fetches { self.new.given.fetches ≡ self.old.given.fetches ++ answer_with result bytes.new ∷ [] }
         ensures last { self.new.last ≡ last_fetched result }
         ensures cause { HasCause self.old.faults self.new.faults result }
         ensures asked { CountsOne self.old.asked self.new.asked }
@@ -86,6 +91,7 @@ impl<R: Read + Drop> Input for StdInput<R> {
                 Ok(n)
             }
             Err(_) => {
+                self.given.note_fault();
                 count_fault(&mut self.faults);
                 self.last = LastAnswer::Fault;
                 Err(Fault)

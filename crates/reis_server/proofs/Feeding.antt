@@ -340,7 +340,7 @@ module _ (setup : Setup) (fed : List Fed) (sent : Piece) (given ready coming : L
       took_one (Err error.ReadFault) ok h = absurd ok
       took_one (Err error.WriteFault) ok h = absurd ok
       took_one (Err error.NoMemory) ok (inl h) = (breaks (stays h), λ e. e)
-      took_one (Err error.NoMemory) ok (inr h) = (breaks (broke h), λ e. e)
+      took_one (Err error.NoMemory) ok (inr h) = (breaks (broke h.breaks), λ e. e)
       took_one (Err e) ok h = let c = refused (refusal_of e) h in (ends (Err e) c.used c.answer_is tt c.goes, λ e. e)
 
   -- ---- at the end
@@ -411,5 +411,5 @@ module _ (setup : Setup) (fed : List Fed) (sent : Piece) (given ready coming : L
     took_none (Err error.ReadFault) ok h = absurd ok
     took_none (Err error.WriteFault) ok h = absurd ok
     took_none (Err error.NoMemory) ok (inl h) = (stopped_short h, tt)
-    took_none (Err error.NoMemory) ok (inr h) = no_piece h.piece h.hands
+    took_none (Err error.NoMemory) ok (inr h) = no_piece h.breaks.piece h.breaks.hands
     took_none (Err e) ok h = none_refused (refusal_of e) h

@@ -10,6 +10,7 @@ use Rattle.ei_request.specs.declared.event.EisRequest.{EisRequest}
 use Rattle.ei_types.specs.declared.error.Error.{Error}
 use Rattle.ei_types.specs.declared.error.Error.TheVariants as error
 use Rattle.ei_serve.specs.declared.session.Ended.{Ended}
+use Rattle.ei_input.specs.Queue.{first_of, rest_of}
 use Rattle.reis_server.specs.Fed.{Fed}
 use Rattle.reis_server.specs.Queue.{IsNext}
 use Rattle.reis_server.specs.View.{ServerView}
@@ -54,6 +55,11 @@ pub sent_front : (setup : Setup) (fed : List Fed) (sent : Piece) (given : List E
 sent_front setup fed sent given s bytes handles h =
     taken setup fed sent (with_more (take bytes s.unsent.bytes) (take handles s.unsent.handles) sent) given given s (unsent_after bytes handles s.unsent) s.requests
     (piece_is _ _ _ _ (split_at bytes sent.bytes s.unsent.bytes) (split_at handles sent.handles s.unsent.handles)) refl h
+
+-- it is the oldest
+pub next_is : (old new : List EisRequest) (next : Option EisRequest) → next ≡ first_of old → new ≡ rest_of old → IsNext next old new
+next_is [] new next f r = rw f (refl, r)
+next_is (x ∷ old) new next f r = rw f (rw r refl)
 
 next_same : (given old new : List EisRequest) (next : Option EisRequest) → IsNext next old new → (given ++ option_to_list next) ++ new ≡ given ++ old
 next_same given old new None h = append_assoc given [] new ∙ ap (λ (x : List EisRequest). given ++ x) (h.1 ∙ sym h.0)

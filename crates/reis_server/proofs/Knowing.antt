@@ -1,5 +1,5 @@
 -- What a server knows of its client.
-use Rattle.std.proofs.Common.{◌≡◌, ℕ, List, Option, Some, None, Result, ap, sym, subst, ◌∙◌}
+use Rattle.std.proofs.Common.{◌≡◌, ℕ, List, Option, None, Result, ap, sym, subst, ◌∙◌}
 use Rattle.ei_spec.specs.Message.{Raw}
 use Rattle.ei_spec.specs.Piece.{Piece, stream}
 use Rattle.ei_session.specs.Setup.{Setup}
@@ -7,7 +7,6 @@ use Rattle.ei_session.specs.Served.{accepted}
 use Rattle.ei_request.specs.Connection.{ConnectionView}
 use Rattle.ei_request.specs.declared.event.EisRequest.{EisRequest}
 use Rattle.ei_types.specs.declared.error.Error.{Error}
-use Rattle.ei_serve.specs.declared.session.Session.{Session}
 use Rattle.ei_serve.specs.declared.session.Ended.{Ended}
 use Rattle.ei_serve.specs.Standing.{Stands, IsClientAfter}
 use Rattle.reis_server.specs.Fed.{Fed, pieces_of, readings_of, handled}

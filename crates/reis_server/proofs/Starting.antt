@@ -24,7 +24,6 @@ use Rattle.ei_serve.proofs.Histories.{going}
 use Rattle.ei_serve.proofs.Running.{nothing_read}
 use Rattle.ei_serve.proofs.Serves.{greeted}
 use Rattle.reis_server.specs.Fed.{handled, frames, readings_of}
-use Rattle.reis_server.specs.Queue.{queued}
 use Rattle.reis_server.specs.Serving.{nothing, bytes_alone, GoesOn, IsServing}
 
 none_handled : (setup : Setup) → handled setup [] ≡ []
@@ -66,9 +65,8 @@ only_memory error.NoMemory h n = refl
 only_memory e h n = absurd h
 
 -- with a queue that has none
-pub starts_queued : (setup : Setup) (s : Session) (old unsent : Piece) (front behind : List EisRequest) → old ≡ nothing → front ≡ [] → behind ≡ [] → Stands setup [] [] s → Greeted (replies_view old) (replies_view unsent) →
-    IsServing setup [] nothing [] (record { session = s; unsent = unsent; requests = queued front behind; answer = None })
-starts_queued setup s old unsent front behind e f b stands h =
-    let none : queued front behind ≡ [] = rw (f, b) refl in
+pub starts_queued : (setup : Setup) (s : Session) (old unsent : Piece) (queue : List EisRequest) → old ≡ nothing → queue ≡ [] → Stands setup [] [] s → Greeted (replies_view old) (replies_view unsent) →
+    IsServing setup [] nothing [] (record { session = s; unsent = unsent; requests = queue; answer = None })
+starts_queued setup s old unsent queue e none stands h =
     subst (λ (r : List EisRequest). GoesOn setup [] nothing [] (record { session = s; unsent = unsent; requests = r; answer = None })) (sym none)
     (starts setup s unsent stands (subst (λ (p : Piece). Greeted (replies_view p) (replies_view unsent)) e h))

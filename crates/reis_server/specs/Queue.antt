@@ -1,9 +1,5 @@
--- What a queue holds, and what its next one is.
-use Rattle.std.specs.Prelude.{◌≡◌, List, [], ◌∷◌, ◌++◌, reverse, Option, Some, None}
-
--- the front, turned round, and what follows it
-abbrev pub queued : {A : Type 0} → List A → List A → List A
-queued front behind = reverse front ++ behind
+-- What the next one of those that wait is.
+use Rattle.std.specs.Prelude.{◌≡◌, List, [], ◌∷◌, Option, Some, None}
 
 -- the first one was taken out, or there was none
 abbrev pub IsNext : {A : Type 0} → Option A → List A → List A → Type 0

@@ -7,7 +7,6 @@
 
 mod moment;
 mod one_piece;
-mod queue;
 mod replies;
 mod server;
 

@@ -15,8 +15,8 @@ ghost use Rattle.reis_server.specs.Queue.{IsNext};
 
 use crate::moment::Moment;
 use crate::one_piece::OnePiece;
-use crate::queue::next_of;
 use crate::replies::Replies;
+use ei_input::Queue;
 use ei_request::{Connection, EisRequest};
 use ei_serve::{Ended, Session, Setup, ended_by};
 use ei_spec::Handle;
@@ -48,14 +48,11 @@ pub enum CallError {
 pub struct Server {
     session: Session,
     replies: Replies,
-    // the requests that wait: the first ones, turned round, and those behind them
-    ready: Vec<EisRequest>,
-    coming: Vec<EisRequest>,
+    requests: Queue<EisRequest>,
     answer: Option<Result<Ended, Error>>,
 }
 
 impl Model for Server {
-    ghost use Rattle.reis_server.specs.Queue.{queued};
     ghost use Rattle.reis_server.specs.View.{ServerView, server_code};
 
     ghost Value = { ServerView };
@@ -67,14 +64,14 @@ impl Model for Server {
     ghost view = { λ s. record {
       session = s.session;
       unsent = s.replies;
-      requests = queued s.ready.items s.coming.items;
+      requests = s.requests.items;
       answer = s.answer;
     } };
 
     ghost invariant = { λ s. HasServed (record {
       session = s.session;
       unsent = s.replies;
-      requests = queued s.ready.items s.coming.items;
+      requests = s.requests.items;
       answer = s.answer;
     }) };
 }
@@ -99,8 +96,7 @@ impl Server {
         Ok(Server {
             session,
             replies,
-            ready: Vec::new(alloc),
-            coming: Vec::new(alloc),
+            requests: Queue::new(alloc),
             answer: None,
         })
     }
@@ -126,8 +122,7 @@ impl Server {
         Ok(Server {
             session,
             replies,
-            ready: Vec::new(alloc),
-            coming: Vec::new(alloc),
+            requests: Queue::new(alloc),
             answer: None,
         })
     }
@@ -243,7 +238,7 @@ impl Server {
             IsServing setup fed sent given self.old →
             IsServing setup fed sent (given ++ option_to_list result) self.new }
     {
-        next_of(&mut self.ready, &mut self.coming)
+        self.requests.take_first()
     }
 
     /// How the session ended; `None` while it goes on.
@@ -272,12 +267,11 @@ impl Server {
     {
         let mut source = OnePiece::of(bytes, handles);
         let mut clock = Moment::at(time);
-        let turned = self.session.turn(
-            &mut source,
-            &mut self.replies,
-            &mut clock,
-            &mut self.coming,
-        );
+        let mut newest = self.requests.take_newest();
+        let turned = self
+            .session
+            .turn(&mut source, &mut self.replies, &mut clock, &mut newest);
+        self.requests.put_newest(newest);
         self.answer = ended_by(turned);
     }
 }

@@ -2,9 +2,10 @@
 
 ghost use Rattle.std.specs.Prelude.{◌≡◌, IfOk, vec_len};
 
-use ei_backend::{Clock, Fault, Input, MemoryText, Pieces, Readings, Sink, Source, Taken, Tray};
+use ei_backend::{Clock, Fault, Pieces, Readings, Sink, Source, Taken, Tray};
 use ei_spec::Handle;
 use ei_wire::NoMemory;
+use reis_lines::{Input, MemoryText};
 use std::alloc::Global;
 use test_table::Stop;
 

@@ -1,7 +1,8 @@
 //! The ring of the bytes that are unread: messages that lie across its end, and how it grows.
 
-use crate::version::{InterfaceVersion, PIECE, give, next};
+use crate::version::{PIECE, give, next};
 use ei_backend::{Backend, PendingRequestResult, Pieces};
+use ei_server::{Request, handshake};
 use ei_wire::NoMemory;
 use std::alloc::Global;
 use test_table::Stop;
@@ -77,12 +78,14 @@ fn is_name(name: &[u8], len: u32) -> bool {
 }
 
 /// Whether the answer to a message of that length is right.
-fn is_right(answer: &Option<PendingRequestResult<InterfaceVersion>>, len: u32) -> bool {
+fn is_right(answer: &Option<PendingRequestResult<Request>>, len: u32) -> bool {
     match answer {
         Some(PendingRequestResult::InvalidObject(id)) => !is_version(len) && *id == NOBODY,
-        Some(PendingRequestResult::Request(request)) => {
-            request.version == VERSION && is_name(request.name.as_str().as_bytes(), len)
-        }
+        Some(
+            PendingRequestResult::Request(
+                Request::Handshake(_, handshake::Request::InterfaceVersion { name, version }),
+            ),
+        ) => *version == VERSION && is_name(name.as_str().as_bytes(), len),
         _ => false,
     }
 }

@@ -1,75 +1,14 @@
-//! The `interface_version` of the handshake, the one message that is read, fresh endpoints, and pieces of bytes.
+//! The requests of a handshake that are read, fresh endpoints, and pieces of bytes.
 
-ghost use Rattle.std.specs.Prelude.{[], ◌∷◌, false};
-ghost use Rattle.ei_spec.specs.Value.{Word, Letters};
-
-use ei_backend::{
-    Backend, FIRST_SERVER_ID, MessageEnum, Object, PendingRequestResult, Pieces, Table,
-};
-use ei_spec::{Handle, KnownInterface};
-use ei_wire::{Arg, ByteStream, EiText, NoMemory, ParseError};
+use ei_backend::{Backend, FIRST_SERVER_ID, PendingRequestResult, Pieces};
+use ei_server::{Request, handshake};
+use ei_spec::Handle;
+use ei_wire::NoMemory;
 use std::alloc::Global;
 use test_table::Stop;
 
 /// The most bytes of a piece.
 pub(crate) const PIECE: usize = 65536;
-
-/// An interface, and its version at the peer. Every other message is refused as want of memory.
-#[derive(Debug, Drop)]
-pub(crate) struct InterfaceVersion {
-    object: Object,
-    pub(crate) name: EiText,
-    pub(crate) version: u32,
-}
-
-impl MessageEnum for InterfaceVersion {
-    ghost events = { false };
-
-    ghost target = { λ m. m.object };
-
-    ghost code = { λ _. 4 };
-
-    ghost values = { λ m. Letters m.name ∷ Word m.version ∷ [] };
-
-    fn parse(
-        _alloc: Global,
-        object: Object,
-        opcode: u32,
-        bytes: &mut ByteStream<'_>,
-        _table: &mut Table,
-    ) -> Result<InterfaceVersion, ParseError> {
-        let Some(KnownInterface::Handshake) = object.known_interface() else {
-            return Err(ParseError::NoMemory);
-        };
-        if opcode != 4 {
-            return Err(ParseError::NoMemory);
-        }
-        let name = bytes.read_arg()?;
-        let version = bytes.read_arg()?;
-        Ok(InterfaceVersion {
-            object,
-            name,
-            version,
-        })
-    }
-
-    // No test here shows the arguments.
-    fn arguments(&self, _alloc: Global) -> Result<Vec<Arg<'_>>, NoMemory> {
-        Err(NoMemory)
-    }
-
-    fn args(&self, _alloc: Global) -> Result<Vec<Arg<'_>>, NoMemory> {
-        Err(NoMemory)
-    }
-
-    fn object(&self) -> &Object {
-        &self.object
-    }
-
-    fn opcode(&self) -> u32 {
-        4
-    }
-}
 
 /// A fresh endpoint of that kind: a server or a client, or one whose own ids begin at its last one, or behind it.
 pub(crate) fn endpoint_of(alloc: Global, kind: &str) -> Result<Backend, Stop> {
@@ -95,7 +34,7 @@ pub(crate) fn give(pieces: &mut Pieces, bytes: &[u8], handles: &[Handle]) -> Res
 /// What the next message is read as.
 pub(crate) fn next(
     backend: &mut Backend,
-) -> Result<Option<PendingRequestResult<InterfaceVersion>>, NoMemory> {
+) -> Result<Option<PendingRequestResult<Request>>, NoMemory> {
     backend.pending()
 }
 
@@ -110,8 +49,17 @@ pub(crate) fn pending(alloc: Global, backend: &mut Backend) -> Result<String, St
             Ok(format!(in alloc; "no object {id:x}")?)
         }
         Some(PendingRequestResult::ParseError(error)) => Ok(format!(in alloc; "{error:?}")?),
-        Some(PendingRequestResult::Request(message)) => {
-            Ok(format!(in alloc; "{} {}", message.name.as_str(), message.version)?)
+        Some(PendingRequestResult::Request(request)) => shown(alloc, &request),
+    }
+}
+
+/// The interface and the version that a request tells, or the finish: no other is sent here.
+fn shown(alloc: Global, request: &Request) -> Result<String, Stop> {
+    match request {
+        Request::Handshake(_, handshake::Request::InterfaceVersion { name, version }) => {
+            Ok(format!(in alloc; "{} {version}", name.as_str())?)
         }
+        Request::Handshake(_, handshake::Request::Finish) => Ok(String::from_str(alloc, "finish")?),
+        _ => Err(Stop::Line),
     }
 }

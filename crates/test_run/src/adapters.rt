@@ -2,7 +2,8 @@
 
 use crate::options::Row;
 use crate::texts::shown;
-use ei_backend::{Clock, Fault, Input, PutError, Sink};
+use ei_backend::{Clock, Fault, PutError, Sink};
+use reis_lines::Input;
 use reis_run::std_io::{StdClock, StdInput, StdOutput};
 use std::alloc::{AllocError, Global};
 use std::cell::Cell;

@@ -2,8 +2,9 @@
 
 use crate::fakes::{Reader, Ticks, Writer};
 use crate::texts::text_of;
-use ei_backend::{MemoryText, Readings, Tray};
+use ei_backend::{Readings, Tray};
 use ei_wire::EiText;
+use reis_lines::MemoryText;
 use std::alloc::Global;
 use std::cell::Cell;
 use test_table::{Stop, count, id, number};

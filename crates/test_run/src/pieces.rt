@@ -3,10 +3,10 @@
 ghost use Rattle.std.specs.Prelude.{◌≡◌, IfOk, vec_len};
 
 use crate::options::Row;
-use ei_backend::{Fault, Input, Source};
+use ei_backend::{Fault, Source};
 use ei_spec::Handle;
 use ei_wire::NoMemory;
-use reis_lines::HexSource;
+use reis_lines::{HexSource, Input};
 use reis_run::std_io::StdInput;
 use std::alloc::Global;
 use std::cell::Cell;

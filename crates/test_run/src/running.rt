@@ -4,6 +4,7 @@ use crate::fakes::{Ticks, Writer};
 use crate::options::{Options, Row};
 use crate::texts::shown;
 use ei_wire::EiText;
+use reis_lines::Input;
 use reis_run::run;
 use reis_run::std_io::{StdClock, StdInput, StdOutput};
 use std::alloc::{AllocError, Global};
@@ -100,7 +101,7 @@ impl Trial<'_> {
 }
 
 /// The status of a run over this input, into this writer.
-fn status_over<I: ei_backend::Input>(
+fn status_over<I: Input>(
     alloc: Global,
     words: &[EiText],
     input: &mut I,

@@ -14,12 +14,12 @@ pub returns-in_err-flush-clause-connects : goal.returns-in_err-flush-clause-conn
 returns-in_err-flush-clause-connects g c = λ before finish after handles off is over.
     let p = err_from_is_err_and c.from_residual-in_err-flush.result c.from_residual-in_err-flush.ensures.1 in
     cuts_off (terms_of c.args.start.terms) before after handles c.args.resp c.args.context over finish _ c.new-converter.ensures _ c.handle_mut-handle.ensures.value c.args.start.terms.capabilities refl _ c.in_ok-add_seat.ensures.ok c.in_ok-add_seat.ensures.ring _ c.context_mut.ensures.value off is
-    _ _ _ _ _ _ c.in_err-flush.ensures.flushes.went p.1 p.2
+    _ _ _ _ _ _ c.in_err-flush.ensures.flushes.lent.want c.in_err-flush.ensures.flushes.went p.1 p.2
 
 pub returns-clause-connects : goal.returns-clause-connects
 returns-clause-connects g c = λ before finish after handles off is over.
     connects (terms_of c.args.start.terms) before after handles c.args.resp c.args.context over finish _ c.new-converter.ensures _ c.handle_mut-handle.ensures.value c.args.start.terms.capabilities refl _ c.in_ok-add_seat.ensures.ok c.in_ok-add_seat.ensures.ring _ c.context_mut.ensures.value off is
-    c.flush.new.self _ _ c.in_ok-flush.ensures.flushes.stops c.in_ok-flush.ensures.kept c.in_ok-flush.ensures.flushes.went
+    c.flush.new.self _ _ c.in_ok-flush.ensures.flushes.stops c.in_ok-flush.ensures.kept c.in_ok-flush.ensures.flushes.went c.in_ok-flush.ensures.flushes.lent.lent.write_wants
 
 pub returns-in_err-add_seat-clause-sink : goal.returns-in_err-add_seat-clause-sink
 returns-in_err-add_seat-clause-sink g c =

@@ -1,7 +1,6 @@
-use Rattle.std.proofs.Common.{Err, refl, sym, ap, ◌∙◌}
+use Rattle.std.proofs.Common.{length, Err, refl, sym, ap}
 use Rattle.ei_serve.specs.declared.phase.Phase.TheVariants.{Over}
 use Rattle.ei_serve.specs.declared.policy.Policy.TheVariants.{Nothing}
-use Rattle.ei_serve.specs.Policy.{policy_behind}
 use Rattle.ei_serve.proofs.ConversingTakes.{refuses, unqueued, unflushed, answers_on, none_lacks}
 use Rattle.ei_serve.proofs.connected.take_request.Goals as goal
 
@@ -15,23 +14,23 @@ returns-in-Err-hand_out-clause-takes g c = λ setup past times rest handles a.
 
 pub returns-then-may_follow-clause-takes : goal.returns-then-may_follow-clause-takes
 returns-then-may_follow-clause-takes g c = λ setup past times rest handles a.
-    rw (← c.deref.ensures.value) (c.follow.ensures.follows setup past times rest handles c.args.out.now.items _ _ (record {
+    c.follow.ensures.follows setup past times rest handles c.args.out.now.items _ _ (ap length c.as_slice-handed.ensures.value) (record {
       request = c.args.request;
       old = c.args.converter.now;
       taken = c.handle_request.new.self;
       asked = a;
       takes = c.in_default.ensures.handles;
-      grown = c.deref.ensures.value ∙ c.in-Ok.ensures.hands_out;
-      last = ap policy_behind c.deref.ensures.value ∙ c.in-Ok.ensures.last c.if-may_follow.true;
+      grown = c.in-Ok.ensures.hands_out;
+      last = c.in-Ok.ensures.last c.if-may_follow.true;
       emptied = c.in-Ok.ensures.queue;
-    }))
+    })
 
 pub returns-in-Err-flush-clause-takes : goal.returns-in-Err-flush-clause-takes
 returns-in-Err-flush-clause-takes g c = λ setup past times rest handles a.
     unflushed setup past times rest handles c.args.request c.args.converter.now a c.handle_request.new.self _ _ c.in_default.ensures.handles _ _ c.in-Ok.ensures.hands_out Nothing (sym (c.in-Ok.ensures.nothing c.if-may_follow.false)) _ c.in-Ok.ensures.queue _ c.handle_mut-handle.ensures.value
-    (none_lacks c.args.converter.now.handle) _ refl refl c.in-Err-flush.error c.refuse_flush.new.why Over _ _ _ (Err c.refuse_flush.new.why) refl c.refuse_flush.ensures c.in-Err-flush.ensures.flushes.went
+    (none_lacks c.args.converter.now.handle) _ refl refl c.in-Err-flush.error c.refuse_flush.new.why Over _ _ _ (Err c.refuse_flush.new.why) refl c.refuse_flush.ensures c.in-Err-flush.ensures.flushes.lent.want c.in-Err-flush.ensures.flushes.went
 
 pub returns-clause-takes : goal.returns-clause-takes
 returns-clause-takes g c = λ setup past times rest handles a.
     answers_on setup past times rest handles c.args.request c.args.converter.now a c.handle_request.new.self _ _ c.in_default.ensures.handles _ _ c.in-Ok.ensures.hands_out Nothing (sym (c.in-Ok.ensures.nothing c.if-may_follow.false)) _ c.in-Ok.ensures.queue _ c.handle_mut-handle.ensures.value
-    (none_lacks c.args.converter.now.handle) _ refl refl c.flush.new.self c.in_default-flush.ensures.flushes.stops c.in_default-flush.ensures.kept _ _ c.in_default-flush.ensures.flushes.went _ refl _ refl (λ e. absurd cc)
+    (none_lacks c.args.converter.now.handle) _ refl refl c.flush.new.self c.in_default-flush.ensures.flushes.stops c.in_default-flush.ensures.kept _ _ c.in_default-flush.ensures.flushes.went c.in_default-flush.ensures.flushes.lent.lent.write_wants _ refl _ refl (λ e. absurd cc)

@@ -12,5 +12,6 @@ loop-done-preserved g c =
       written = λ held told.
           put_on held text _ done _ _ _ (c.loop-done.invariant.written held told) (take_all _ (drop done text) (omega (arith, length-drop done text))) c.in_ok-done.ensures.puts.taken;
       kept = c.in_ok-done.ensures.puts.cause.kept ∙ c.loop-done.invariant.kept;
+      wants = c.in_ok-done.ensures.puts.want.kept ∙ c.loop-done.invariant.wants;
       later = g.met.O.Sink.later_trans _ _ _ c.loop-done.invariant.later c.in_ok-done.ensures.later;
     }

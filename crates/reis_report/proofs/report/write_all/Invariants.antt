@@ -8,6 +8,7 @@ invariant-loop-done g l = record {
   within : l.done ≤ length l.text;
   written : (held : Piece) → (g.O.Sink.view l.fn.output).taken ≡ Some held → Holds held (take l.done l.text) (g.O.Sink.view l.output).taken;
   kept : (g.O.Sink.view l.output).faults ≡ (g.O.Sink.view l.fn.output).faults;
+  wants : (g.O.Sink.view l.output).wants ≡ (g.O.Sink.view l.fn.output).wants;
   later : g.O.Sink.later l.fn.output l.output;
 }
 

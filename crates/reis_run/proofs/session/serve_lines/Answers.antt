@@ -2,11 +2,11 @@ use Rattle.std.proofs.Common.{sym, ◌∙◌, subst, arith}
 use Rattle.ei_serve.specs.Standing.{setup_of}
 use Rattle.reis_lines.proofs.TextBegins.{unread_text}
 use Rattle.reis_run.specs.Session.{end_of, EndsAs, IsDecidedLine, TellsFault, TookLines, TookAllAs}
-use Rattle.reis_lines.specs.Given.{given_since}
+use Rattle.reis_lines.specs.Asking.{fetches_since}
 use Rattle.reis_lines.specs.Text.{pieces_of}
 use Rattle.reis_run.specs.declared.session.LastLine.{LastLine}
 use Rattle.reis_run.proofs.SessionLaws.{went, went_input, served, line_ends, line_handles, line_clock}
-use Rattle.reis_run.proofs.SessionLaws.{line_cut, line_took, line_fault, line_last, line_risen, line_met, line_given, given_none, nothing_handled}
+use Rattle.reis_run.proofs.SessionLaws.{line_cut, line_took, line_fault, line_last, line_risen, line_met, line_given, fetched_none, nothing_handled}
 use Rattle.reis_run.proofs.session.serve_lines.Goals as goal
 
 pub returns-clause-serves : goal.returns-clause-serves
@@ -34,7 +34,7 @@ returns-clause-serves g c = λ text left is.
       readings = λ d. line_clock s c.bad_line-bad.result (rw c.last_line.ensures at d);
       given = λ d. line_given s c.bad_line-bad.result c.bad_line-bad.ensures (sym c.last_line.ensures ∙ d);
       cut_short = λ d. line_cut s c.bad_line-bad.result (rw c.last_line.ensures at d);
-      taken = λ d. subst (λ (l : LastLine). TookLines text (given_since g.I.Input.view c.args.input.now c.input-1.given.0) left (TookAllAs (setup_of c.args.setup) (pieces_of text) l)) (sym c.last_line.ensures) (line_took s c.bad_line-bad.result c.bad_line-bad.ensures (rw c.last_line.ensures at d));
+      taken = λ d. subst (λ (l : LastLine). TookLines text (fetches_since g.I.Input.view c.args.input.now c.input-1.given.0) left (TookAllAs (setup_of c.args.setup) (pieces_of text) l)) (sym c.last_line.ensures) (line_took s c.bad_line-bad.result c.bad_line-bad.ensures (rw c.last_line.ensures at d));
     }
 
 pub returns-clause-fault : goal.returns-clause-fault
@@ -76,6 +76,6 @@ returns-in-Err-clause-serves g c = λ text left is.
       replies = elim [ ];
       readings = elim [ ];
       given = λ e. grind arith;
-      cut_short = λ e. nothing_handled _ text _ left _ _ _ (given_none g.I.Input.view _) (unread_text g.I.Input.view _ text left is);
+      cut_short = λ e. nothing_handled _ text _ left _ _ _ (fetched_none g.I.Input.view _) (unread_text g.I.Input.view _ text left is);
       taken = elim [ ];
     }

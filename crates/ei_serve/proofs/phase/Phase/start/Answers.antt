@@ -19,7 +19,7 @@ pub returns-in_err-flush-clause-greeted_in_part : goal.returns-in_err-flush-clau
 returns-in_err-flush-clause-greeted_in_part g c = on_err _ (GreetedInPart _ _) (greeted_in_part _ _ _ _ _ (greets _ _ c.in_ok-context.ensures c.in_ok-handshaker.ensures.greets) c.in_err-flush.ensures.flushes.went)
 
 pub returns-clause-greeted : goal.returns-clause-greeted
-returns-clause-greeted g c = greeted _ _ _ _ (greets _ _ c.in_ok-context.ensures c.in_ok-handshaker.ensures.greets) c.in_ok-flush.ensures.flushes.went
+returns-clause-greeted g c = greeted _ _ _ _ (greets _ _ c.in_ok-context.ensures c.in_ok-handshaker.ensures.greets) c.in_ok-flush.ensures.flushes.went c.in_ok-flush.ensures.flushes.lent.lent.write_wants
 
 pub returns-clause-stands : goal.returns-clause-stands
 returns-clause-stands g c = λ setup lawful same. (refl, starts setup c.args.initial_serial _ _ _ _ c.in_ok-context.ensures c.in_ok-handshaker.ensures.greets c.in_ok-handshaker.ensures.fresh c.in_ok-flush.ensures.flushes.stops c.in_ok-flush.ensures.kept lawful same (omega (arith, c.ranges.initial_serial)))

@@ -1,5 +1,5 @@
 use Rattle.std.proofs.Common.{◌≡◌, arith, ap, ◌∙◌, length, take}
-use Rattle.reis_lines.proofs.GaveLaws.{read_gave}
+use Rattle.reis_lines.proofs.GaveLaws.{read_gave, read_answer}
 use Rattle.reis_lines.proofs.HeldLaws.{read_buffer, read_held, all_written, sees_all, moved_from}
 use Rattle.reis_lines.proofs.held.Held.read.Goals as goal
 
@@ -44,3 +44,17 @@ returns-clause-given g c =
     (moved_from moved c.deref_mut.result.now room.items _ e _ _ c.moved_to_front-start.ensures.same c.deref_mut.ensures.value ∙ c.self.view_is)
     c.moved_to_front-start.ensures.kept_order (omega (arith, c.moved_to_front-start.ensures.room))
     (rw slice at c.in_ok-count.ensures.given))
+
+pub returns-clause-answered : goal.returns-clause-answered
+returns-clause-answered g c =
+    let room = c.self.inside.room in
+    let moved = c.moved_to_front-start.new.room in
+    let e = c.moved_to_front-start.result.1 in
+    let moved_full : length moved ≡ room.len = omega arith in
+    let full : length c.fetch_behind.new.room ≡ room.len = omega arith in
+    let slice : c.deref_mut-2.result.now ≡ moved = sees_all moved _ _ room.len c.deref_mut-2.ensures.value moved_full in
+    rw (all_written c.fetch_behind.new.room _ _ full)
+    (read_answer moved c.fetch_behind.new.room c.args.self.now _ _ _ e _
+    (moved_from moved c.deref_mut.result.now room.items _ e _ _ c.moved_to_front-start.ensures.same c.deref_mut.ensures.value ∙ c.self.view_is)
+    c.moved_to_front-start.ensures.kept_order (omega (arith, c.moved_to_front-start.ensures.room))
+    (rw slice at c.in_ok-count.ensures.answered))

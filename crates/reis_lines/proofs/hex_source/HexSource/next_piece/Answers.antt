@@ -1,7 +1,9 @@
 use Rattle.std.proofs.Common.{◌≡◌, ◌<◌, inl, [], ◌∷◌, ◌++◌, length, take, refl, arith, ap, sym, ◌∙◌, Ok, None, true}
 use Rattle.std.proofs.lemmas.List.{append-nil, length-take-le}
 use Rattle.std.specs.Prelude.{is_some}
-use Rattle.reis_lines.specs.LaterReadings.{LaterLines-none, left_all}
+use Rattle.reis_lines.specs.HexSource.{text_reading}
+use Rattle.reis_lines.specs.LaterReadings.{LaterLines-none, LaterFetches-none, left_all}
+use Rattle.reis_lines.proofs.AskingLaws.{later_fetches, takes_as, takes_none, bad_met}
 use Rattle.reis_lines.proofs.SourceLaws.{some_not_none, none_if_not_some, not_both, first_of, line_is, removed_is, no_line, handed_out, hands_line}
 use Rattle.reis_lines.proofs.SourceLaws.{ends_here, holds_end, holds_bad, left_behind, removed_fits, unmet_later}
 use Rattle.reis_lines.proofs.hex_source.HexSource.next_piece.Goals as goal
@@ -16,6 +18,7 @@ returns-then-is_some-clause-later g c =
       bytes = [];
       gave = sym (append-nil _);
       lines = LaterLines-none _ [] _ _ _ _ (sym (append-nil _)) refl;
+      fetched = LaterFetches-none _ _ _ _;
       pieces = sym (append-nil _);
       left = left_all _;
       told = λ t left is. is ∙ sym left;
@@ -41,6 +44,7 @@ returns-in_err-found-clause-later g c =
       bytes = is.given.bytes;
       gave = is.given.gave;
       lines = LaterLines-none _ _ _ _ _ _ is.given.held is.same_line;
+      fetched = later_fetches g.I.Input.view _ _ _ _ is.given.bytes _ _ _ is.given.held is.fetched;
       pieces = is.same_pieces ∙ sym (append-nil _);
       left = left_behind _ _ _ _ is.given.bytes is.given.held is.text;
       told = is.told;
@@ -61,6 +65,7 @@ returns-then-count-eq0-clause-later g c =
       bytes = is.given.bytes;
       gave = is.given.gave;
       lines = LaterLines-none _ _ _ _ _ _ is.given.held is.same_line;
+      fetched = later_fetches g.I.Input.view _ _ _ _ is.given.bytes _ _ _ is.given.held is.fetched;
       pieces = is.same_pieces ∙ sym (append-nil _);
       left = left_behind _ _ _ _ is.given.bytes is.given.held is.text;
       told = is.told;
@@ -110,6 +115,7 @@ returns-in-Some-clause-later g c =
           (line_is found _ _ _ c.line_extent-count.ensures.count c.bytes-line.ensures) c.in-Some.ensures.spells
           (removed_is found _ _ _ _ c.line_extent-count.ensures.skip c.bytes-line.ensures c.remove.ensures)
           (omega (arith, c.saturating_add-self-in-Some.ensures, is.same_line));
+      fetched = later_fetches g.I.Input.view _ _ _ _ is.given.bytes _ _ _ is.given.held is.fetched;
       pieces = c.note.ensures ∙ ap (λ v. v ++ record { bytes = take c.in-Some.n c.decode_line.new.bytes; handles = [] } ∷ []) is.same_pieces;
       left = left_behind _ _ _ _ is.given.bytes is.given.held is.text;
       told = is.told;
@@ -138,6 +144,7 @@ returns-in-None-clause-later g c =
       bytes = is.given.bytes;
       gave = is.given.gave;
       lines = LaterLines-none _ _ _ _ _ _ is.given.held is.same_line;
+      fetched = later_fetches g.I.Input.view _ _ _ _ is.given.bytes _ _ _ is.given.held is.fetched;
       pieces = is.same_pieces ∙ sym (append-nil _);
       left = left_behind _ _ _ _ is.given.bytes is.given.held is.text;
       told = is.told;
@@ -151,3 +158,18 @@ returns-in-None-clause-later g c =
       bad_count = omega (arith, c.saturating_add-self-in-None.ensures, is.same_faults);
       fits = λ few. is.fits;
     }
+
+pub returns-in_err-found-clause-fetched : goal.returns-in_err-found-clause-fetched
+returns-in_err-found-clause-fetched g c = takes_as g.I.Input.view (text_reading c.args.self.now) _ _ _ (none_if_not_some _ (sym c.is_some.ensures ∙ c.if-is_some.false)) c.in_err-found.ensures.fetched
+
+pub returns-then-count-eq0-clause-fetched : goal.returns-then-count-eq0-clause-fetched
+returns-then-count-eq0-clause-fetched g c = takes_as g.I.Input.view (text_reading c.args.self.now) _ _ _ (none_if_not_some _ (sym c.is_some.ensures ∙ c.if-is_some.false)) c.in_ok-found.ensures.fetched
+
+pub returns-in-Some-clause-fetched : goal.returns-in-Some-clause-fetched
+returns-in-Some-clause-fetched g c = takes_as g.I.Input.view (text_reading c.args.self.now) _ _ _ (none_if_not_some _ (sym c.is_some.ensures ∙ c.if-is_some.false)) c.in_ok-found.ensures.fetched
+
+pub returns-in-None-clause-fetched : goal.returns-in-None-clause-fetched
+returns-in-None-clause-fetched g c = takes_as g.I.Input.view (text_reading c.args.self.now) _ _ _ (none_if_not_some _ (sym c.is_some.ensures ∙ c.if-is_some.false)) c.in_ok-found.ensures.fetched
+
+pub returns-then-is_some-clause-fetched : goal.returns-then-is_some-clause-fetched
+returns-then-is_some-clause-fetched g c = takes_none g.I.Input.view (text_reading c.args.self.now) (bad_met _ (sym c.is_some.ensures ∙ c.if-is_some.true))

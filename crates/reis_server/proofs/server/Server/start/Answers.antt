@@ -10,9 +10,9 @@ invariant_of-result c = record {
   fed = [];
   sent = nothing;
   given = [];
-  serving = starts_queued (setup_of c.args.setup) c.in_ok-session.session _ _ _ _ c.new-replies.ensures c.new.ensures.items c.new-2.ensures.items c.in_ok-session.ensures.stands c.in_ok-session.ensures.greeted;
+  serving = starts_queued (setup_of c.args.setup) c.in_ok-session.session _ _ _ c.new-replies.ensures c.new.ensures c.in_ok-session.ensures.stands c.in_ok-session.ensures.greeted;
 }
 
 pub returns-clause-serves : goal.returns-clause-serves
 returns-clause-serves c =
-    starts_queued (setup_of c.args.setup) c.in_ok-session.session _ _ _ _ c.new-replies.ensures c.new.ensures.items c.new-2.ensures.items c.in_ok-session.ensures.stands c.in_ok-session.ensures.greeted
+    starts_queued (setup_of c.args.setup) c.in_ok-session.session _ _ _ c.new-replies.ensures c.new.ensures c.in_ok-session.ensures.stands c.in_ok-session.ensures.greeted
