@@ -45,7 +45,7 @@ pub enum Event {
     Gesture(Gesture, gesture::Event),
 }
 
-/// Hands the interfaces that bear input, each with its file, to the macro that a call names, behind any others.
+/// Hands the interfaces that bear most inputs, each with its file, to the macro that a call names, behind any others.
 macro_rules! inputs {
     ($write:ident $with:tt $($others:tt)*) => {
         $write! { $with $($others)*
@@ -56,12 +56,11 @@ macro_rules! inputs {
             Button button,
             Keyboard keyboard,
             Touchscreen touchscreen,
-            Gesture gesture,
         }
     };
 }
 
-/// Hands the interfaces that bear none to that macro.
+/// Hands the interfaces that bear none, or few, to that macro.
 macro_rules! others {
     ($write:ident $with:tt) => {
         $write! { $with
@@ -70,11 +69,12 @@ macro_rules! others {
             Callback callback,
             Seat seat,
             Text text,
+            Gesture gesture,
         }
     };
 }
 
-/// Hands the interfaces that bear input to that macro, behind these.
+/// Hands the interfaces that bear most inputs to that macro, behind these.
 macro_rules! inputs_behind {
     (($write:ident $with:tt) $($others:tt)+) => {
         inputs! { $write $with $($others)+ }
@@ -212,7 +212,7 @@ struct Asked<'a> {
     opcode: u32,
 }
 
-/// Reads an event to an object of an interface that bears no input, if it is lawful. What isn't read yet is forked, and the
+/// Reads an event to an object of an interface that bears no input, or few, if it is lawful. What isn't read yet is forked, and the
 /// answer is said to a place of its own first, so that those of the caller needn't be in memory.
 #[inline(always)]
 fn lawful_rare(asked: Asked<'_>, bytes: &mut ByteStream<'_>) -> Option<Event>

@@ -388,7 +388,7 @@ impl Kept {
         let Some(device) = kept_device::added_mut(&mut self.devices, id) else {
             return false;
         };
-        if self.queue.reserve_group(device.waiting()).is_err() {
+        if !self.queue.fits_group(device.waiting()) {
             return false;
         }
         self.connection.keep(serial);
@@ -401,7 +401,7 @@ impl Kept {
         ensures { Ends (refused (core_of self.old) (Inputs id input)) self.old
             (hears_at self.old input (owner self.old id)) result self.new }
     {
-        let Some(device) = self.interfaces.owner(id) else {
+        let Some(device) = self.interfaces.noted_owner(id) else {
             return Err(Error::Event(EventError::DeviceEventBeforeDone));
         };
         match kept_device::added_mut(&mut self.devices, device) {

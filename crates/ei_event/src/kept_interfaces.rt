@@ -74,6 +74,9 @@ impl KeptInterfaces {
         ensures owner { result ≡ owner_of (finite.get self.old id) }
         ensures kept { self.new ≡ self.old }
     {
+        if let Some(device) = self.last_owner(id) {
+            return Some(device);
+        }
         let owner = self.owner(id);
         if let Some(device) = owner {
             self.last = Some((id, device));

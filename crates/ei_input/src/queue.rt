@@ -1,6 +1,6 @@
 //! What waits to be handed out.
 
-ghost use Rattle.std.specs.Prelude.{◌≡◌, ◌≤◌, ◌<◌, ◌+◌, ◌++◌, ◌∷◌, [], OnOk, OnErr, length};
+ghost use Rattle.std.specs.Prelude.{◌≡◌, ◌↔◌, ◌≤◌, ◌<◌, ◌+◌, ◌++◌, ◌∷◌, [], IsTrue, OnOk, OnErr, length};
 ghost use Rattle.ei_input.specs.Queue.{first_of, rest_of};
 
 use std::alloc::{AllocError, Global};
@@ -59,6 +59,15 @@ impl<T: Drop> Queue<T> {
         self.rest.reserve(inputs.saturating_add(2))
     }
 
+    /// Whether there is room for what so many inputs become, for their frame, and for one more.
+    #[inline(always)]
+    pub fn fits_group(&self, inputs: usize) -> bool
+        ensures { IsTrue result ↔ (inputs + 2 ≤ self.now.room) }
+    {
+        let room = self.rest.capacity() - self.rest.len();
+        inputs < room.saturating_sub(1)
+    }
+
     /// Makes room for so many more.
     pub fn reserve(&mut self, additional: usize) -> Result<(), AllocError>
         ensures items { self.new.items ≡ self.old.items }
@@ -115,11 +124,14 @@ impl<T: Drop> Queue<T> {
         ensures kept { OnErr result (out.new.items ≡ out.old.items) }
         ensures stay { OnErr result (self.new.items ≡ self.old.items) }
     {
-        if self.first.is_empty() && out.is_empty() {
+        if !self.first.is_empty() {
+            return self.drain_behind(out);
+        }
+        if out.is_empty() {
             mem::swap(out, &mut self.rest);
             return Ok(());
         }
-        self.drain_behind(out)
+        out.append(&mut self.rest)
     }
 
     /// The same, where some are the first ones, or something is in `out`.

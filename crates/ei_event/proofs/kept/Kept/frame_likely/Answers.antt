@@ -1,6 +1,6 @@
-use Rattle.std.proofs.Common.{sym}
+use Rattle.std.proofs.Common.{refl, sym}
 use Rattle.ei_event.proofs.Setup.{unframed}
 use Rattle.ei_event.proofs.kept.Kept.frame_likely.Goals as goal
 
-pub returns-then-is_err : goal.returns-then-is_err
-returns-then-is_err c = rw (← c.self.view_is) (unframed _ c.args.id c.in-Some.device.now c.reserve_group.new.self.items (sym c.in-Some.ensures.value) c.reserve_group.ensures.items).1
+pub returns-then-not-fits_group : goal.returns-then-not-fits_group
+returns-then-not-fits_group c = rw (← c.self.view_is) (unframed _ c.args.id c.in-Some.device.now _ (sym c.in-Some.ensures.value) refl).1

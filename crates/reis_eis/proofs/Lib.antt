@@ -1,0 +1,11 @@
+pub mod Flushing
+pub mod Firsts
+pub mod Handled
+pub mod Keymaps
+pub mod HeldKeys
+pub mod Obeying
+pub mod Feeding
+pub mod Starting
+pub mod HandshakeRead
+pub mod Announcing
+pub mod Conversing

@@ -1,0 +1,10 @@
+use Rattle.std.proofs.Common.{sym, ◌∙◌}
+use Rattle.reis_eis.specs.Keys.{names_device}
+use Rattle.ei_request.proofs.FirstOnes.{removed_here, none_here, unremoved}
+use Rattle.reis_eis.proofs.keys.take_out_device.Goals as goal
+
+pub returns-in-Some : goal.returns-in-Some
+returns-in-Some c = c.remove.ensures.items ∙ removed_here (names_device c.args.id) c.args.devices.now.items c.deref.result.now c.device_place.result c.in-Some.at c.remove.result c.deref.ensures.value c.device_place.ensures c.in-Some.is
+
+pub returns-in_default : goal.returns-in_default
+returns-in_default c = sym (unremoved (names_device c.args.id) _ (none_here (names_device c.args.id) c.args.devices.now.items c.deref.result.now c.device_place.result c.deref.ensures.value c.device_place.ensures c.in_default.is))

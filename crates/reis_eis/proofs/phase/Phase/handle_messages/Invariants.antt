@@ -1,0 +1,13 @@
+use Rattle.std.proofs.Common.{ℕ, length}
+use Rattle.reis_eis.specs.Words.{IsWhole, context_in, unread_of}
+use Rattle.reis_eis.specs.Feeding.{HandlesSome}
+use Rattle.reis_eis.proofs.phase.Phase.handle_messages.Given as goal
+
+abbrev pub invariant-messages : goal.invariant-messages
+invariant-messages l = record {
+  handled : (n : ℕ) × HandlesSome n l.time l.fn.self l.self;
+  whole : IsWhole l.fn.self → IsWhole l.self;
+}
+
+abbrev pub decreases-messages : goal.decreases-messages
+decreases-messages l = length (unread_of (context_in l.self))

@@ -1,0 +1,24 @@
+//! Tests of a connection for a program with a policy of its own: a table of calls, read from the standard input. Nothing
+//! stands on this program: it holds tests alone.
+//!
+//! A call is made by its name with its arguments; what it answers was typed by hand from the protocol. `start` makes the
+//! connection that the lines below it call. How a line is written: `test_table`.
+//!
+//! The program writes how many lines are as they should be, and each line that isn't above what was found.
+//! Begin with `calls`.
+#![tactic(auto)]
+
+mod acting;
+mod calls;
+mod feeding;
+mod told;
+mod words;
+
+use crate::calls::Calls;
+use test_table::{Stop, count_right};
+
+fn main(rt: HostRuntime) -> Result<(), Stop> {
+    let right = count_right(&rt, &mut Calls { connection: None })?;
+    println!(rt; "as they should be: {right}")?;
+    Ok(())
+}
