@@ -1,4 +1,4 @@
-# libreis: a server's session of the ei protocol, for programs in C and in whatever calls C. GNU make.
+# libreis: a server's end of the ei protocol, for programs in C and in whatever calls C. GNU make.
 #
 #     make                        builds libreis.a and libreis.so in out/
 #     make install PREFIX=..      installs them, with headers, reis.pc, a CMake package, the record of the proof, and the

@@ -1,8 +1,12 @@
-/* A server's session of the ei protocol, for a program with a loop of its own: a compositor, which owns its sockets.
+/* A server's end of the ei protocol, for a program with a loop of its own: a compositor, which owns its sockets.
  *
  * Nothing here reads or writes a socket, looks at a clock or waits. The program hands in what it read from a client, with
- * the time; writes out the bytes and handles that wait for that client; and takes the client's requests one by one. A session
- * is one client's: a program has as many of them as it has clients.
+ * the time; writes out the bytes and handles that wait for that client; and takes the client's requests one by one. It has the
+ * choice between two:
+ *   - a session, reis_session_*, has a policy: one seat, and a device for what a client binds. The program acts on the input;
+ *   - a connection, reis_connection_*, has none: the program announces seats and devices as it likes, with their regions and
+ *     keymaps, takes them away, pauses and resumes them, and tells a receiver of input. "A connection" below begins with its loop.
+ * Either is one client's: a program has as many of them as it has clients.
  *
  *     reis_session session = {0};
  *     reis_session_start(&session, serial, REIS_ALL_CAPABILITIES, REIS_NO_PIECE_LIMIT);
@@ -12,9 +16,9 @@
  *         reis_session_end tells whether the session is over: then close the socket and call reis_session_free;
  *         read from the socket, and call reis_session_feed, or reis_session_end_of_input where nothing more comes.
  *
- * Who owns what. The program owns the `reis_session`, which is one word, and every buffer. No call keeps a pointer that
- * it was given. What a session needs beside its word it takes from the heap, and reis_session_free gives it back. What
- * reis_session_unsent lends is the session's.
+ * Who owns what. The program owns the `reis_session` or the `reis_connection`, which is one word, and every buffer. No call
+ * keeps a pointer that it was given. What a session needs beside its word it takes from the heap, and reis_session_free gives it
+ * back. What reis_session_unsent lends is the session's. All this is so for a connection too.
  *
  * Threads. A session stays on the thread that started it, and one call at a time is made on it. Sessions on other threads
  * don't disturb it. No call is made in a signal handler, or in the forked child of a process with threads.
@@ -91,21 +95,34 @@ typedef struct reis_session {
     uint8_t *at;
 } reis_session;
 
-/* What a call answers. Where it isn't REIS_OK, nothing changed but the counts and lengths that the call says. */
+/* A connection, or none where it is all zero. */
+typedef struct reis_connection {
+    uint8_t *at;
+} reis_connection;
+
+/* What a call answers. Where it isn't REIS_OK, nothing changed but the counts, lengths and ids that the call says. */
 typedef REIS_ENUM(reis_answer) {
     REIS_OK = 0,               /* it did what it says */
-    REIS_NO_SESSION = 1,       /* there is no session: none was started, or it was freed */
-    REIS_HAS_SESSION = 2,      /* start: a session is there already */
-    REIS_CAPABILITIES = 3,     /* start: a bit outside REIS_ALL_CAPABILITIES */
+    REIS_NO_SESSION = 1,       /* there is no session or connection: none was started, or it was freed */
+    REIS_HAS_SESSION = 2,      /* start: one is there already */
+    REIS_CAPABILITIES = 3,     /* a bit outside REIS_ALL_CAPABILITIES, or one that the seat or the device hasn't */
     REIS_NO_MEMORY = 4,        /* memory ran out */
-    REIS_OVER = 5,             /* feed, end_of_input: the session is over */
+    REIS_OVER = 5,             /* the session or the connection is over */
     REIS_EMPTY = 6,            /* feed: no byte */
     REIS_TOO_LONG = 7,         /* feed: more than REIS_MOST_BYTES */
-    REIS_TOO_MANY_HANDLES = 8, /* feed: more than REIS_MOST_HANDLES */
-    REIS_NOTHING = 9,          /* there is no further request, no text, or no connection */
+    REIS_TOO_MANY_HANDLES = 8, /* feed: more than REIS_MOST_HANDLES; add_device: as many would wait */
+    REIS_NOTHING = 9,          /* there is no further request, no text, or no client that is known yet */
     REIS_NO_ROOM = 10,         /* the text has more bytes than there is room for */
     REIS_NOT_UNSENT = 11,      /* sent: so much doesn't wait */
-    REIS_NULL = 12             /* a pointer is NULL, and the count beside it, if it has one, isn't 0 */
+    REIS_NULL = 12,            /* a pointer is NULL, and the count beside it, if it has one, isn't 0 */
+    REIS_NOT_CONNECTED = 13,   /* the handshake isn't done */
+    REIS_GONE = 14,            /* there is no seat or device of that id, or it is there no more */
+    REIS_WRONG_ROLE = 15,      /* the client isn't a receiver */
+    REIS_NO_KEYBOARD = 16,     /* a keymap for a device without a keyboard */
+    REIS_MESSAGE_TOO_LONG = 17, /* a text is so long that its message would have more than 1048576 bytes */
+    REIS_IDS_EXHAUSTED = 18,   /* too few ids are left */
+    REIS_INVALID = 19,         /* a number or a text that stands for nothing: see the call */
+    REIS_SIZE = 20             /* a struct has a size that this library doesn't know */
 } reis_answer;
 
 /* The most that reis_session_feed takes at a time, and the most bytes of the text of a request. */
@@ -340,11 +357,12 @@ reis_answer reis_session_request_text(reis_session *session, uint8_t *text, size
 
 /* ---- the end ---- */
 
-/* How a session ended. */
+/* How a session or a connection ended. */
 typedef REIS_ENUM(reis_end) {
     REIS_END_GOES_ON = 0,         /* it didn't */
     REIS_END_DISCONNECTED = 1,    /* the client disconnected */
-    REIS_END_END_OF_INPUT = 2,    /* no more came, after the connection */
+    REIS_END_END_OF_INPUT = 2,    /* no more came, after the handshake */
+    REIS_END_TOLD = 3,            /* reis_connection_disconnect told the client so */
 
     /* errors */
     REIS_END_ERROR_UNEXPECTED_EOF = 10,             /* no more came, before the connection */
@@ -402,6 +420,189 @@ reis_answer reis_session_end(reis_session *session, reis_end *end);
  * REIS_OK. REIS_NO_ROOM: nothing is written, and the length is that of the text. REIS_NOTHING, with length 0: no error ended
  * it. REIS_NO_MEMORY, with length 0. REIS_NO_SESSION, with length 0. REIS_NULL. */
 reis_answer reis_session_end_text(reis_session *session, uint8_t *text, size_t room, size_t *length);
+
+/* ---- a connection ----
+ *
+ * A client's connection, without a policy:
+ *
+ *     reis_connection connection = {0};
+ *     reis_connection_start(&connection, serial);
+ *     at each turn of the loop:
+ *         act on each request that reis_connection_next_request hands out, until it answers REIS_NOTHING;
+ *         once reis_connection_client answers REIS_OK: add seats, and devices where the client binds;
+ *         write what reis_connection_unsent lends, and say with reis_connection_sent how much of it the socket took;
+ *         reis_connection_end tells whether it is over: then close the socket and call reis_connection_free;
+ *         read from the socket, and call reis_connection_feed, or reis_connection_end_of_input where nothing more comes.
+ *
+ * Seats and devices have ids, which the calls that add them tell; an id isn't given twice by one connection, and is nothing to
+ * another one. Where the client disconnects all seats and devices are gone. Each call that tells the client something only makes
+ * bytes that wait: it answers REIS_NOT_CONNECTED before the handshake is done and REIS_OVER once the connection is over.
+ * A text is UTF-8, and has a pointer and a count of bytes, with no zero behind it; where the count is 0 there is none. */
+
+/* Starts a connection in a word that is zero. Its greeting waits to be written. `serial` is the one that it bears at first.
+ * REIS_OK, REIS_HAS_SESSION, REIS_NO_MEMORY, REIS_NULL. */
+reis_answer reis_connection_start(reis_connection *connection, uint32_t serial);
+
+/* As reis_session_feed: one piece of what came from the client. REIS_OK says that it was taken; it may have ended the
+ * connection: see reis_connection_end. What the client asks waits as requests, and nothing is done about them: a bind makes no
+ * device, and a request after the client's own disconnect doesn't come.
+ * REIS_OK, REIS_NO_SESSION, REIS_OVER, REIS_EMPTY, REIS_TOO_LONG, REIS_TOO_MANY_HANDLES, REIS_NULL. */
+reis_answer reis_connection_feed(reis_connection *connection, const uint8_t *bytes, size_t count, const uint32_t *handles,
+                                 size_t handle_count, uint64_t time);
+
+/* As reis_session_end_of_input.
+ * REIS_OK, REIS_NO_SESSION, REIS_OVER, REIS_NULL. */
+reis_answer reis_connection_end_of_input(reis_connection *connection);
+
+/* As reis_session_unsent: all bytes and handles that wait to be written to the client, until the next call on the connection.
+ * All handles are to be passed with the first of the bytes.
+ * REIS_OK, REIS_NO_SESSION, REIS_NULL. Where nothing waits the counts are 0 and the pointers NULL. */
+reis_answer reis_connection_unsent(reis_connection *connection, const uint8_t **bytes, size_t *count, const uint32_t **handles,
+                                   size_t *handle_count);
+
+/* Says that the first so many bytes were written, and with the first of them all handles that waited: they wait no more. Now
+ * the program may close the descriptors of these handles.
+ * REIS_OK, REIS_NO_SESSION, REIS_NULL. REIS_NOT_UNSENT: so many bytes don't wait, and all wait still. */
+reis_answer reis_connection_sent(reis_connection *connection, size_t bytes);
+
+/* As reis_session_next_request.
+ * REIS_OK, REIS_NO_SESSION, REIS_NOTHING, REIS_NULL; where it isn't REIS_OK the request isn't written. */
+reis_answer reis_connection_next_request(reis_connection *connection, reis_request *request);
+
+/* As reis_session_request_text.
+ * REIS_OK, REIS_NO_ROOM, REIS_NOTHING, REIS_NO_SESSION, REIS_NULL. */
+reis_answer reis_connection_request_text(reis_connection *connection, uint8_t *text, size_t room, size_t *length);
+
+/* As reis_session_client, from the handshake on, also once the connection is over.
+ * REIS_OK, REIS_NO_ROOM, REIS_NOTHING, REIS_NO_SESSION, REIS_NULL. */
+reis_answer reis_connection_client(reis_connection *connection, reis_context_type *context_type, uint8_t *name, size_t room,
+                                   size_t *length);
+
+/* As reis_session_end.
+ * REIS_OK. REIS_NO_SESSION, with `end` REIS_END_GOES_ON. REIS_NULL. */
+reis_answer reis_connection_end(reis_connection *connection, reis_end *end);
+
+/* Why a client is told that its connection ends. Any other number is sent as it is. */
+typedef REIS_ENUM(reis_reason) {
+    REIS_REASON_DISCONNECTED = 0, /* the server is done */
+    REIS_REASON_ERROR = 1,        /* something went wrong */
+    REIS_REASON_MODE = 2,         /* the client did what its context type doesn't allow */
+    REIS_REASON_PROTOCOL = 3,     /* the client broke the protocol */
+    REIS_REASON_VALUE = 4,        /* the client sent a value that isn't allowed */
+    REIS_REASON_TRANSPORT = 5     /* the bytes between the two failed */
+} reis_reason;
+
+/* Tells the client that the connection ends, why, and in a text for people, if there is one. All seats and devices are taken
+ * away before it. The connection is over by that; where it was over, for what the client sent, the client is told all the same,
+ * and reis_connection_end tells what came first.
+ * REIS_OK, REIS_NO_SESSION, REIS_NOT_CONNECTED, REIS_MESSAGE_TOO_LONG, REIS_NO_MEMORY, REIS_NULL. REIS_OVER: the client was
+ * told before. REIS_INVALID: the text isn't UTF-8. */
+reis_answer reis_connection_disconnect(reis_connection *connection, reis_reason reason, const char *explanation, size_t length);
+
+/* As reis_session_free.
+ * REIS_OK, REIS_NO_SESSION, REIS_NULL. */
+reis_answer reis_connection_free(reis_connection *connection);
+
+/* Announces a seat of that name, if it has one, which gives these capabilities, and tells its id.
+ * REIS_OK. Else the id is 0: REIS_NO_SESSION, REIS_OVER, REIS_NOT_CONNECTED, REIS_IDS_EXHAUSTED, REIS_MESSAGE_TOO_LONG,
+ * REIS_NO_MEMORY. REIS_CAPABILITIES: a bit outside REIS_ALL_CAPABILITIES. REIS_INVALID: the name isn't UTF-8. REIS_NULL. */
+reis_answer reis_connection_add_seat(reis_connection *connection, const char *name, size_t length, uint64_t capabilities,
+                                     uint64_t *seat);
+
+/* Takes a seat away, behind its devices.
+ * REIS_OK, REIS_NO_SESSION, REIS_OVER, REIS_NOT_CONNECTED, REIS_GONE, REIS_NO_MEMORY, REIS_NULL. */
+reis_answer reis_connection_remove_seat(reis_connection *connection, uint64_t seat);
+
+/* What a device is. A virtual one has regions, and its distances are in logical pixels; a physical one has a size. */
+typedef REIS_ENUM(reis_device_type) {
+    REIS_DEVICE_VIRTUAL = 1,
+    REIS_DEVICE_PHYSICAL = 2
+} reis_device_type;
+
+typedef REIS_ENUM(reis_keymap_type) {
+    REIS_KEYMAP_NONE = 0,
+    REIS_KEYMAP_XKB = 1 /* the text of a keymap, as libxkbcommon writes it */
+} reis_keymap_type;
+
+/* A region in which a device moves: its corner and its size in logical pixels, and the scale by which the client is to multiply
+ * distances, else 1. Its mapping id, by which a client finds the region in what another program told it of the screen, is a part
+ * of `mapping_ids` of the device: where it begins there, and how many bytes it has; where that is 0 it has none. */
+typedef struct reis_region {
+    uint32_t x;
+    uint32_t y;
+    uint32_t width;
+    uint32_t height;
+    float scale;
+    uint32_t mapping_id;
+    uint32_t mapping_id_length;
+} reis_region;
+
+/* A device as it is announced. `size` is sizeof(reis_device): a later library may know a longer one too. What is 0 isn't there.
+ * `width` and `height` are in millimetres, and are not told where both are 0. The keymap is a file of `keymap_size` bytes behind
+ * a descriptor, of which `keymap` is the handle. */
+typedef struct reis_device {
+    size_t size;
+    const char *name;
+    size_t name_length;
+    uint64_t capabilities; /* a mask of reis_capability */
+    reis_device_type type;
+    uint32_t width;
+    uint32_t height;
+    reis_keymap_type keymap_type;
+    uint32_t keymap;
+    uint32_t keymap_size;
+    const reis_region *regions;
+    size_t region_count;
+    const char *mapping_ids;
+    size_t mapping_ids_length;
+} reis_device;
+
+/* Announces a device of a seat, with an interface for each of its capabilities, and tells its id. It takes no input until
+ * reis_connection_resume.
+ * The handle of a keymap waits with the bytes until they are written, and the program passes the descriptor that it means with
+ * sendmsg. The descriptor stays the program's: it keeps it open until reis_connection_sent has counted a byte of those that
+ * waited, and may close it then, unless it means to pass it again. Where the connection is freed before that, it may close it too.
+ * REIS_OK. Else the id is 0: REIS_NO_SESSION, REIS_OVER, REIS_NOT_CONNECTED, REIS_IDS_EXHAUSTED, REIS_MESSAGE_TOO_LONG,
+ * REIS_NO_MEMORY. REIS_GONE: there is no such seat. REIS_CAPABILITIES: a bit that the seat wasn't given. REIS_NO_KEYBOARD: a
+ * keymap, but not REIS_CAPABILITY_KEYBOARD. REIS_TOO_MANY_HANDLES: more than REIS_MOST_HANDLES would wait. REIS_INVALID: a type
+ * that isn't named, a text that isn't UTF-8, or a mapping id that isn't whole in `mapping_ids`. REIS_SIZE. REIS_NULL, also for a
+ * pointer in the struct. */
+reis_answer reis_connection_add_device(reis_connection *connection, uint64_t seat, const reis_device *described, uint64_t *device);
+
+/* Takes a device away. What it waits for a frame to hand out is dropped.
+ * REIS_OK, REIS_NO_SESSION, REIS_OVER, REIS_NOT_CONNECTED, REIS_GONE, REIS_NO_MEMORY, REIS_NULL. */
+reis_answer reis_connection_remove_device(reis_connection *connection, uint64_t device);
+
+/* Tells the client that the device takes input, and that it takes none: then no touch of it is down any more.
+ * REIS_OK, REIS_NO_SESSION, REIS_OVER, REIS_NOT_CONNECTED, REIS_GONE, REIS_NO_MEMORY, REIS_NULL. */
+reis_answer reis_connection_resume(reis_connection *connection, uint64_t device);
+reis_answer reis_connection_pause(reis_connection *connection, uint64_t device);
+
+/* Tells whether the device has the interface of this one capability left: 1, or 0 where it never had it or the client released it.
+ * REIS_OK. Else `has` is 0: REIS_NO_SESSION; REIS_CAPABILITIES, where it isn't exactly one; REIS_GONE; REIS_NULL. */
+reis_answer reis_connection_device_has(reis_connection *connection, uint64_t device, uint64_t capability, uint32_t *has);
+
+/* Tells the client which modifiers hold on the device's keyboard, as masks, and the number of the layout. It goes to senders and
+ * to receivers.
+ * REIS_OK, REIS_NO_SESSION, REIS_OVER, REIS_NOT_CONNECTED, REIS_GONE, REIS_NO_MEMORY, REIS_NULL. REIS_CAPABILITIES: it has no
+ * keyboard, or has it no more. */
+reis_answer reis_connection_modifiers(reis_connection *connection, uint64_t device, uint32_t depressed, uint32_t locked,
+                                      uint32_t latched, uint32_t group);
+
+/* To a receiver: the device begins to send input, in the stretch of that number; it sends no more; what came since its last frame
+ * belongs together, and came at that time.
+ * REIS_OK, REIS_NO_SESSION, REIS_OVER, REIS_NOT_CONNECTED, REIS_WRONG_ROLE, REIS_GONE, REIS_NO_MEMORY, REIS_NULL. */
+reis_answer reis_connection_start_emulating(reis_connection *connection, uint64_t device, uint32_t sequence);
+reis_answer reis_connection_stop_emulating(reis_connection *connection, uint64_t device);
+reis_answer reis_connection_frame(reis_connection *connection, uint64_t device, uint64_t time);
+
+/* To a receiver: an input of a device. It is told as a request says it, of the kinds from REIS_KIND_POINTER_MOTION on: by its
+ * kind, its device and the view of its kind. `seat` and `time` aren't read, nor what stands beside the members of the view. The
+ * text is that of REIS_KIND_TEXT_UTF8, 1 to REIS_MOST_TEXT bytes, and isn't read for another kind.
+ * REIS_OK, REIS_NO_SESSION, REIS_OVER, REIS_NOT_CONNECTED, REIS_WRONG_ROLE, REIS_GONE, REIS_MESSAGE_TOO_LONG, REIS_NO_MEMORY,
+ * REIS_NULL. REIS_CAPABILITIES: the device has no such interface, or has it no more. REIS_INVALID: another kind, a state or an
+ * axis that is neither 0 nor 1, or a text that isn't UTF-8. */
+reis_answer reis_connection_send(reis_connection *connection, const reis_request *input, const char *text, size_t length);
 
 /* ---- names ---- */
 

@@ -233,7 +233,7 @@ static void test_names(void) {
     CHECK(strcmp(reis_answer_name((reis_answer)999), "unknown") == 0);
     CHECK(strcmp(reis_kind_name((reis_kind)0), "unknown") == 0);
     CHECK(strcmp(reis_kind_name((reis_kind)UINT32_MAX), "unknown") == 0);
-    CHECK(strcmp(reis_end_name((reis_end)3), "unknown") == 0);
+    CHECK(strcmp(reis_end_name((reis_end)4), "unknown") == 0);
 }
 
 /* ---- all ---- */

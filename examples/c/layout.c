@@ -21,3 +21,11 @@ _Static_assert(sizeof(float) == 4, "a distance has 4 bytes");
 _Static_assert(offsetof(struct reis_touch, y) == 16, "each field of a view stands where one of the four does");
 
 _Static_assert(sizeof(reis_answer) == 4 && sizeof(reis_end) == 4 && sizeof(reis_context_type) == 4, "a number has 4 bytes");
+
+_Static_assert(sizeof(reis_connection) == 8 && _Alignof(reis_connection) == 8, "a connection is one word too");
+
+_Static_assert(sizeof(reis_region) == 28 && _Alignof(reis_region) == 4, "a region has seven numbers of 4 bytes");
+_Static_assert(offsetof(reis_region, scale) == 16 && offsetof(reis_region, mapping_id) == 20, "its mapping id stands behind its scale");
+_Static_assert(offsetof(reis_device, size) == 0, "a device begins with its size");
+_Static_assert(sizeof(reis_device) == 88, "which is 88");
+_Static_assert(sizeof(reis_reason) == 4 && sizeof(reis_device_type) == 4 && sizeof(reis_keymap_type) == 4, "a number has 4 bytes");

@@ -65,7 +65,8 @@ where
       bytes.new,
     ))
         bytes.new.taken result (all_at (A.kind ∷ B.kind ∷ C.kind ∷ D.kind ∷ E.kind ∷ []) bytes.old) }
-    ensures memory { IfErr result (WhereFull (list_any is_text (A.kind ∷ B.kind ∷ C.kind ∷ D.kind ∷ E.kind ∷ []) ≡ true)) }
+    ensures memory { IfErr result (
+        WhereFull (list_any is_text (A.kind ∷ B.kind ∷ C.kind ∷ D.kind ∷ E.kind ∷ []) ≡ true)) }
 {
     let a = bytes.read_arg()?;
     let b = bytes.read_arg()?;

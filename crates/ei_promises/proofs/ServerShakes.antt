@@ -105,7 +105,7 @@ module _ (laws : ShakingLaws) {H : Type 0} (w : WorldView) (k : ClientView) (h :
   ok : refused past (shake m) ≡ None
   ok = laws.server_refuses k.greeter a.serial (lists_at side.Server w) (lists_at side.Client w) a.shaking m heard a.server.unfinished
 
-  id_is : z.backend.table.next_own ≡ first_server_id
+  pub id_is : z.backend.table.next_own ≡ first_server_id
   id_is =
       next_id_is true (end_in z) y w.to_client w.to_server (turned false y (end_in z) w.to_server w.to_client read)
       ∙ ap (next_own true) (same_sent ∙ begun) ∙ first_next

@@ -1,5 +1,9 @@
+mod Announcing
 mod BlockValues
+mod ConnectionValues
 mod Copies
-mod OnSession
+mod Describing
+mod Given
+mod Obliging
 mod SlotValues
 mod Working

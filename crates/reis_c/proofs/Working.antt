@@ -63,10 +63,10 @@ few : (over : Bool) (bytes n : ℕ) → Ok tt ≡ feed_answer over bytes n → n
 few over bytes n e = ltb-false 64 n (last_test over (bytes == 0) (nat_lt 65536 bytes) (nat_lt 64 n) e)
 
 -- the handles that are lent are those of the numbers, but for so many that they are too many
-lent_length : (numbers : List ℕ) (lent : List Handle) → lent ≡ map handle_of (take (min (length numbers) 65) numbers) → length lent ≡ min (length numbers) 65
+pub lent_length : (numbers : List ℕ) (lent : List Handle) → lent ≡ map handle_of (take (min (length numbers) 65) numbers) → length lent ≡ min (length numbers) 65
 lent_length numbers lent e = grind (arith, common_steps, e)
 
-lent_whole : (numbers : List ℕ) (lent : List Handle) → lent ≡ map handle_of (take (min (length numbers) 65) numbers) → length numbers ≤ 64
+pub lent_whole : (numbers : List ℕ) (lent : List Handle) → lent ≡ map handle_of (take (min (length numbers) 65) numbers) → length numbers ≤ 64
     → lent ≡ map handle_of numbers
 lent_whole numbers lent e short = grind (arith, common_steps, e)
 

@@ -17,19 +17,19 @@ use Rattle.reis_c.specs.declared.flat.ReisRequest.{ReisRequest}
 use Rattle.reis_c.specs.declared.held.Held.{Held}
 use Rattle.reis_c.specs.Numbers.{OK, NO_SESSION, NOTHING}
 
--- A call works on the session that is there, and leaves one; where there is none it answers so, and leaves none.
-abbrev pub OnSession : Option Held → ℕ → Option Held → (Held → Held → Type 0) → Type 0
-OnSession None answer None Works = answer ≡ NO_SESSION
-OnSession (Some old) answer (Some new) Works = Works old new
-OnSession old answer new Works = ⊥
+-- A call works on the session or the connection that is behind the word, and leaves one; where there is none it answers so, and leaves none.
+abbrev pub OnWord : {A : Type 0} → Option A → ℕ → Option A → (A → A → Type 0) → Type 0
+OnWord None answer None Works = answer ≡ NO_SESSION
+OnWord (Some old) answer (Some new) Works = Works old new
+OnWord old answer new Works = ⊥
 
--- A call reads the session that is there, and leaves it as it is.
-abbrev pub ReadsSession : Option Held → ℕ → Option Held → (Held → Type 0) → Type 0
-ReadsSession old answer new Says = OnSession old answer new (λ a b. (b ≡ a) × Says a)
+-- A call reads what is behind the word, and leaves it as it is.
+abbrev pub ReadsWord : {A : Type 0} → Option A → ℕ → Option A → (A → Type 0) → Type 0
+ReadsWord old answer new Says = OnWord old answer new (λ a b. (b ≡ a) × Says a)
 
 -- the text of the request that was handed out last, where it has one
-abbrev pub last_text : Held → Option (List ℕ)
-last_text held = option_and_then text_in held.last
+abbrev pub text_of_last : Option EisRequest → Option (List ℕ)
+text_of_last last = option_and_then text_in last
 
 -- the text of the error that ended it, where one did
 abbrev pub ending_text : Held → Option (List ℕ)

@@ -13,6 +13,8 @@ use Rattle.ei_types.specs.declared.error.HandshakeError.TheVariants as handshake
 use Rattle.ei_types.specs.Texts.{error_text}
 use Rattle.ei_serve.specs.declared.session.Ended.{Ended}
 use Rattle.ei_serve.specs.declared.session.Ended.TheVariants as ended
+use Rattle.reis_eis.specs.declared.ending.Ending.{Ending}
+use Rattle.reis_eis.specs.declared.ending.Ending.TheVariants as ending
 
 -- the number of each error
 abbrev pub parse_number : ParseError → ℕ
@@ -71,6 +73,14 @@ end_number None = 0
 end_number (Some (Ok ended.Disconnect)) = 1
 end_number (Some (Ok ended.End)) = 2
 end_number (Some (Err e)) = error_number e
+
+-- the number of how a connection ended, or of going on
+abbrev pub ending_number : Option Ending → ℕ
+ending_number None = 0
+ending_number (Some ending.Disconnected) = 1
+ending_number (Some ending.End) = 2
+ending_number (Some ending.Told) = 3
+ending_number (Some (ending.Refused e)) = error_number e
 
 -- the text of the error that ended a session, if one did
 abbrev pub end_text : Option (Result Ended Error) → Option (List ℕ)

@@ -5,6 +5,10 @@ pub mod Ending
 pub mod Flat
 pub mod Handles
 pub mod Slot
+pub mod Inputs
+pub mod Given
+pub mod Describing
+pub mod Connecting
 pub mod Starting
 -- what the clauses cite of the crates below
 pub use Rattle.ei_types.specs.Capability

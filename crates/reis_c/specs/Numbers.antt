@@ -49,6 +49,34 @@ NO_ROOM = 10
 abbrev pub NOT_UNSENT : ℕ
 NOT_UNSENT = 11
 
+-- the handshake isn't done
+abbrev pub NOT_CONNECTED : ℕ
+NOT_CONNECTED = 13
+
+-- there is no such seat or device
+abbrev pub GONE : ℕ
+GONE = 14
+
+-- the client isn't a receiver
+abbrev pub WRONG_ROLE : ℕ
+WRONG_ROLE = 15
+
+-- a keymap for a device without a keyboard
+abbrev pub NO_KEYBOARD : ℕ
+NO_KEYBOARD = 16
+
+-- a text is too long for a message
+abbrev pub MESSAGE_TOO_LONG : ℕ
+MESSAGE_TOO_LONG = 17
+
+-- too few ids are left
+abbrev pub IDS_EXHAUSTED : ℕ
+IDS_EXHAUSTED = 18
+
+-- a number or a text that stands for nothing
+abbrev pub INVALID : ℕ
+INVALID = 19
+
 -- so many pieces are no limit
 abbrev pub NO_LIMIT : ℕ
 NO_LIMIT = 4294967295

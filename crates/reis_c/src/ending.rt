@@ -1,13 +1,14 @@
-//! How a session ended, as C reads it.
+//! How a session or a connection ended, as C reads it.
 
 ghost use Rattle.std.specs.Prelude.{◌≡◌};
 ghost use Rattle.std.specs.Option.{option_copied};
-ghost use Rattle.reis_c.specs.Ending.{end_number, error_number, event_number, handshake_number, parse_number, request_number};
+ghost use Rattle.reis_c.specs.Ending.{end_number, ending_number, error_number, event_number, handshake_number, parse_number, request_number};
 
 use crate::numbers as number;
 use ei_serve::Ended;
 use ei_types::{Error, EventError, HandshakeError, RequestError};
 use ei_wire::ParseError;
+use reis_eis::Ending;
 
 fn parse_number(error: &ParseError) -> u32
     ensures { result ≡ parse_number error.now }
@@ -93,5 +94,18 @@ pub(crate) fn end_number(answer: Option<&Result<Ended, Error>>) -> u32
         Some(Ok(Ended::Disconnect)) => number::DISCONNECTED,
         Some(Ok(Ended::End)) => number::END_OF_INPUT,
         Some(Err(error)) => error_number(error),
+    }
+}
+
+/// The number of how a connection ended, or of going on.
+pub(crate) fn ending_number(ending: Option<&Ending>) -> u32
+    ensures { result ≡ ending_number (option_copied ending.entry) }
+{
+    match ending {
+        None => number::GOES_ON,
+        Some(Ending::Disconnected) => number::DISCONNECTED,
+        Some(Ending::End) => number::END_OF_INPUT,
+        Some(Ending::Told) => number::TOLD,
+        Some(Ending::Refused(error)) => error_number(error),
     }
 }

@@ -3,8 +3,8 @@
 ghost use Rattle.std.specs.Prelude.{◌≡◌, ◌≢◌, ◌<◌, ◌≤◌, ◌⊎◌, ◌↔◌, length, IsSome, is_some, if◌then◌else◌, None, Some};
 ghost use Rattle.ei_types.specs.Capability.{all_bits};
 ghost use Rattle.reis_c.specs.Answers.{Writes, WritesMade};
-ghost use Rattle.reis_c.specs.Calls.{OnSession, ReadsSession, IsStarted, Feeds, TakesEnd, Sends, HandsRequest, TellsClient};
-ghost use Rattle.reis_c.specs.Calls.{last_text, ending_text};
+ghost use Rattle.reis_c.specs.Calls.{OnWord, ReadsWord, IsStarted, Feeds, TakesEnd, Sends, HandsRequest, TellsClient};
+ghost use Rattle.reis_c.specs.Calls.{text_of_last, ending_text};
 ghost use Rattle.reis_c.specs.Starting.{setup_for};
 ghost use Rattle.reis_server.specs.Serving.{connection_of_server};
 ghost use Rattle.reis_c.specs.Ending.{end_number};
@@ -16,22 +16,24 @@ use crate::flat::ReisRequest;
 use crate::held::Held;
 use crate::numbers::{CAPABILITIES, HAS_SESSION, NO_MEMORY, NO_SESSION, NOTHING, OK};
 use crate::slot::ReisSession;
-use crate::writing::lend;
+use crate::writing::{lend, tell_client, write_text_of};
 use ei_spec::Handle;
 use ei_types::{DeviceCapabilities, Error};
 use std::alloc::Global;
 
-/// What a call answers on the session that is there, which stays in its place; `NO_SESSION` where there is none.
-macro_rules! on_session {
-    ($session:ident, $alloc:ident, |$held:ident| $answer:expr) => {{
-        let Some(mut $held) = $session.take($alloc) else {
+/// What a call answers on what is behind a word, which stays in its place; `NO_SESSION` where there is none.
+macro_rules! on_word {
+    ($word:ident, $alloc:ident, |$held:ident| $answer:expr) => {{
+        let Some(mut $held) = $word.take($alloc) else {
             return NO_SESSION;
         };
         let answer = $answer;
-        $session.put($held);
+        $word.put($held);
         answer
     }};
 }
+
+pub(crate) use on_word;
 
 /// Starts a session where there is none. `NO_LIMIT` pieces are no limit.
 ///
@@ -80,9 +82,9 @@ pub extern "C" fn reis_c_feed(
     handles: &[u32],
     time: u64,
 ) -> u32
-    ensures { OnSession session.old.held result session.new.held (Feeds bytes.now handles.now time result) }
+    ensures { OnWord session.old.held result session.new.held (Feeds bytes.now handles.now time result) }
 {
-    on_session!(session, alloc, |held| held.feed(bytes, handles, time))
+    on_word!(session, alloc, |held| held.feed(bytes, handles, time))
 }
 
 /// Says that no more comes from the client.
@@ -90,9 +92,9 @@ pub extern "C" fn reis_c_feed(
 /// `NO_SESSION`; what `Server::end_of_input` answers.
 #[unsafe(no_mangle)]
 pub extern "C" fn reis_c_end_of_input(alloc: Global, session: &mut ReisSession) -> u32
-    ensures { OnSession session.old.held result session.new.held (TakesEnd result) }
+    ensures { OnWord session.old.held result session.new.held (TakesEnd result) }
 {
-    on_session!(session, alloc, |held| held.end_of_input())
+    on_word!(session, alloc, |held| held.end_of_input())
 }
 
 /// Lends the replies that wait: where their bytes and handles begin, and how many these are. They lie in the session, and stay
@@ -108,14 +110,14 @@ pub extern "C" fn reis_c_unsent(
     handles: &mut *const Handle,
     handle_count: &mut usize,
 ) -> u32
-    ensures counted { ReadsSession session.old.held result session.new.held (λ held. (result ≡ number.OK)
+    ensures counted { ReadsWord session.old.held result session.new.held (λ held. (result ≡ number.OK)
         × (count.new ≡ length held.server.unsent.bytes) × (handle_count.new ≡ length held.server.unsent.handles)) }
     ensures none { result ≢ number.OK → (count.new ≡ 0) × (handle_count.new ≡ 0) }
     ensures no_place { result ≢ number.OK → (bytes.new ≡ bytes.old) × (handles.new ≡ handles.old) }
 {
     *count = 0;
     *handle_count = 0;
-    on_session!(session, alloc, |held| {
+    on_word!(session, alloc, |held| {
         *count = lend(held.server.unsent(), bytes);
         *handle_count = lend(held.server.unsent_handles(), handles);
         OK
@@ -132,9 +134,9 @@ pub extern "C" fn reis_c_sent(
     bytes: usize,
     handles: usize,
 ) -> u32
-    ensures { OnSession session.old.held result session.new.held (Sends bytes handles result) }
+    ensures { OnWord session.old.held result session.new.held (Sends bytes handles result) }
 {
-    on_session!(session, alloc, |held| held.sent(bytes, handles))
+    on_word!(session, alloc, |held| held.sent(bytes, handles))
 }
 
 /// Hands out the next request.
@@ -146,10 +148,10 @@ pub extern "C" fn reis_c_next_request(
     session: &mut ReisSession,
     request: &mut ReisRequest,
 ) -> u32
-    ensures handed { OnSession session.old.held result session.new.held (HandsRequest request.old result request.new) }
+    ensures handed { OnWord session.old.held result session.new.held (HandsRequest request.old result request.new) }
     ensures none { result ≢ number.OK → request.new ≡ request.old }
 {
-    on_session!(session, alloc, |held| held.next_request(request))
+    on_word!(session, alloc, |held| held.next_request(request))
 }
 
 /// Writes the text of the request that was handed out last, and its length.
@@ -162,12 +164,16 @@ pub extern "C" fn reis_c_request_text(
     text: &mut [u8],
     length: &mut usize,
 ) -> u32
-    ensures written { ReadsSession session.old.held result session.new.held
-        (λ held. Writes (last_text held) text.old result length.new text.new) }
+    ensures written { ReadsWord session.old.held result session.new.held
+        (λ held. Writes (text_of_last held.last) text.old result length.new text.new) }
     ensures none { result ≡ number.NO_SESSION → (length.new ≡ 0) × (text.new ≡ text.old) }
 {
     *length = 0;
-    on_session!(session, alloc, |held| held.request_text(text, length))
+    on_word!(
+        session,
+        alloc,
+        |held| write_text_of(&held.last, text, length)
+    )
 }
 
 /// Tells who the client is: its context type, and its name, which has no byte where the client told none.
@@ -181,16 +187,16 @@ pub extern "C" fn reis_c_client(
     name: &mut [u8],
     length: &mut usize,
 ) -> u32
-    ensures told { ReadsSession session.old.held result session.new.held (λ held.
+    ensures told { ReadsWord session.old.held result session.new.held (λ held.
         TellsClient (connection_of_server held.server) name.old result context_type.new length.new name.new) }
     ensures none { result ≡ number.NO_SESSION → (context_type.new ≡ 0) × (length.new ≡ 0) × (name.new ≡ name.old) }
 {
     *context_type = 0;
     *length = 0;
-    on_session!(
+    on_word!(
         session,
         alloc,
-        |held| held.client(context_type, name, length)
+        |held| tell_client(held.server.connection(), context_type, name, length)
     )
 }
 
@@ -199,12 +205,12 @@ pub extern "C" fn reis_c_client(
 /// `NO_SESSION`.
 #[unsafe(no_mangle)]
 pub extern "C" fn reis_c_end(alloc: Global, session: &mut ReisSession, end: &mut u32) -> u32
-    ensures told { ReadsSession session.old.held result session.new.held (λ held. (result ≡ number.OK)
+    ensures told { ReadsWord session.old.held result session.new.held (λ held. (result ≡ number.OK)
         × (end.new ≡ end_number held.server.answer)) }
     ensures none { result ≢ number.OK → end.new ≡ end_number None }
 {
     *end = end_number(None);
-    on_session!(session, alloc, |held| {
+    on_word!(session, alloc, |held| {
         *end = end_number(held.server.answer());
         OK
     })
@@ -220,13 +226,13 @@ pub extern "C" fn reis_c_end_text(
     text: &mut [u8],
     length: &mut usize,
 ) -> u32
-    ensures written { ReadsSession session.old.held result session.new.held
+    ensures written { ReadsWord session.old.held result session.new.held
         (λ held. WritesMade (ending_text held) text.old result length.new text.new) }
     ensures none { (result ≡ number.NO_SESSION) ⊎ (result ≡ number.NO_MEMORY) → (length.new ≡ 0) ×
         (text.new ≡ text.old) }
 {
     *length = 0;
-    on_session!(session, alloc, |held| held.end_text(alloc, text, length))
+    on_word!(session, alloc, |held| held.end_text(alloc, text, length))
 }
 
 /// Frees a session: there is none behind it.

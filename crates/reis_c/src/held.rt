@@ -1,21 +1,18 @@
 //! What stands behind the word.
 
 ghost use Rattle.std.specs.Prelude.{◌≡◌, ◌≢◌, ◌≤◌, [], IfOk, IfSome, IsSome, None};
-ghost use Rattle.std.specs.Option.{option_and_then};
 ghost use Rattle.ei_types.specs.Capability.{bits_of, all_bits};
-ghost use Rattle.reis_server.specs.Serving.{IsServing, nothing, connection_of_server};
+ghost use Rattle.reis_server.specs.Serving.{IsServing, nothing};
 ghost use Rattle.reis_c.specs.Answers.{Writes};
 ghost use Rattle.reis_c.specs.Ending.{end_text};
-ghost use Rattle.reis_c.specs.Flat.{text_in};
 ghost use Rattle.reis_c.specs.Starting.{setup_for};
 
-use crate::flat::{ReisRequest, flat, text_in};
+use crate::flat::{ReisRequest, flat};
 use crate::numbers::{NO_LIMIT, NO_MEMORY, NOTHING, OK, answer_number};
-use crate::writing::{copy_handles, write_name, write_text};
+use crate::writing::{HANDLE_ROOM, copy_handles, write_text};
 use ei_request::EisRequest;
 use ei_serve::Setup;
 use ei_spec::Handle;
-use ei_spec::limits::MOST_PIECE_HANDLES;
 use ei_types::{DeviceCapabilities, Error};
 use reis_server::Server;
 use std::alloc::Global;
@@ -29,7 +26,7 @@ pub(crate) struct Held {
 }
 
 /// Keeps a request as the one that was handed out last.
-fn keep(last: &mut Option<EisRequest>, next: EisRequest)
+pub(crate) fn keep(last: &mut Option<EisRequest>, next: EisRequest)
     ensures { last.new ≡ Some next }
 {
     drop(mem::replace(last, Some(next)));
@@ -57,11 +54,8 @@ fn start_server(
     Server::start(alloc, setup)
 }
 
-/// Room for one handle more than a piece may have.
-const HANDLE_ROOM: usize = MOST_PIECE_HANDLES + 1;
-
 impl Held {
-    ghost use Rattle.reis_c.specs.Calls.{IsStarted, Feeds, TakesEnd, Sends, HandsRequest, TellsClient};
+    ghost use Rattle.reis_c.specs.Calls.{IsStarted, Feeds, TakesEnd, Sends, HandsRequest};
 
     /// A session that was just started; `None` where memory ran out.
     pub(crate) fn start(
@@ -101,24 +95,6 @@ impl Held {
         answer_number(self.server.sent(bytes, handles))
     }
 
-    /// Tells who the client is.
-    pub(crate) fn client(&self, context_type: &mut u32, room: &mut [u8], length: &mut usize) -> u32
-        ensures { TellsClient
-            (connection_of_server self.now.server) room.old result context_type.new length.new room.new }
-    {
-        match self.server.connection() {
-            Some(connection) => {
-                *context_type = u32::from(connection.context_type());
-                write_name(connection.name(), room, length)
-            }
-            None => {
-                *context_type = 0;
-                *length = 0;
-                NOTHING
-            }
-        }
-    }
-
     /// Hands out the next request.
     pub(crate) fn next_request(&mut self, request: &mut ReisRequest) -> u32
         ensures { HandsRequest request.old result request.new self.old self.new }
@@ -130,23 +106,6 @@ impl Held {
                 OK
             }
             None => NOTHING,
-        }
-    }
-
-    /// Writes the text of the request that was handed out last.
-    pub(crate) fn request_text(&self, room: &mut [u8], length: &mut usize) -> u32
-        ensures { Writes (option_and_then text_in self.now.last) room.old result length.new room.new }
-    {
-        let text = match &self.last {
-            Some(request) => text_in(request),
-            None => None,
-        };
-        match text {
-            Some(text) => write_text(text, room, length),
-            None => {
-                *length = 0;
-                NOTHING
-            }
         }
     }
 

@@ -1,8 +1,9 @@
 //! The numbers that cross to C, but for the kinds of requests, which stand in `flat`. `include/reis.h` repeats them.
 
 ghost use Rattle.std.specs.Prelude.{◌≡◌};
-ghost use Rattle.reis_c.specs.Answers.{answer_number};
+ghost use Rattle.reis_c.specs.Answers.{answer_number, outcome_number, refusal_number};
 
+use reis_eis::CallError as Refusal;
 use reis_server::CallError;
 
 // ---- what a call answers
@@ -31,6 +32,20 @@ pub const NO_ROOM: u32 = 10;
 
 pub const NOT_UNSENT: u32 = 11;
 
+pub const NOT_CONNECTED: u32 = 13;
+
+pub const GONE: u32 = 14;
+
+pub const WRONG_ROLE: u32 = 15;
+
+pub const NO_KEYBOARD: u32 = 16;
+
+pub const MESSAGE_TOO_LONG: u32 = 17;
+
+pub const IDS_EXHAUSTED: u32 = 18;
+
+pub const INVALID: u32 = 19;
+
 // ---- what a session is started with
 
 /// So many pieces are no limit.
@@ -43,6 +58,8 @@ pub const GOES_ON: u32 = 0;
 pub const DISCONNECTED: u32 = 1;
 
 pub const END_OF_INPUT: u32 = 2;
+
+pub const TOLD: u32 = 3;
 
 pub const ERROR_UNEXPECTED_EOF: u32 = 10;
 
@@ -127,5 +144,36 @@ pub(crate) fn answer_number(answer: Result<(), CallError>) -> u32
         Err(CallError::TooLong) => TOO_LONG,
         Err(CallError::TooManyHandles) => TOO_MANY_HANDLES,
         Err(CallError::NotUnsent) => NOT_UNSENT,
+    }
+}
+
+/// The number of why a call of a connection is refused.
+pub(crate) fn refusal_number(refusal: Refusal) -> u32
+    ensures { result ≡ refusal_number refusal }
+{
+    match refusal {
+        Refusal::Over => OVER,
+        Refusal::NotConnected => NOT_CONNECTED,
+        Refusal::Empty => EMPTY,
+        Refusal::TooLong => TOO_LONG,
+        Refusal::TooManyHandles => TOO_MANY_HANDLES,
+        Refusal::NotUnsent => NOT_UNSENT,
+        Refusal::Gone => GONE,
+        Refusal::WrongRole => WRONG_ROLE,
+        Refusal::Capabilities => CAPABILITIES,
+        Refusal::NoKeyboard => NO_KEYBOARD,
+        Refusal::MessageTooLong => MESSAGE_TOO_LONG,
+        Refusal::IdsExhausted => IDS_EXHAUSTED,
+        Refusal::NoMemory => NO_MEMORY,
+    }
+}
+
+/// The number of what a call of a connection answers.
+pub(crate) fn outcome_number(outcome: Result<(), Refusal>) -> u32
+    ensures { result ≡ outcome_number outcome }
+{
+    match outcome {
+        Ok(()) => OK,
+        Err(refusal) => refusal_number(refusal),
     }
 }

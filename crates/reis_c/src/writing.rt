@@ -4,11 +4,18 @@ ghost use Rattle.std.specs.Prelude.{◌≡◌, ◌≤◌, ◌<◌, ℕ, [], ◌+
 ghost use Rattle.std.specs.Option.{option_copied};
 ghost use Rattle.std.specs.Ptr.{as_ptr};
 ghost use Rattle.reis_c.specs.Handles.{handle_of};
-ghost use Rattle.reis_c.specs.Answers.{WritesText};
+ghost use Rattle.reis_c.specs.Answers.{Writes, WritesText};
+ghost use Rattle.reis_c.specs.Calls.{TellsClient, text_of_last};
 
-use crate::numbers::{NO_ROOM, OK};
+use crate::flat::text_in;
+use crate::numbers::{NO_ROOM, NOTHING, OK};
+use ei_request::{Connection, EisRequest};
 use ei_spec::Handle;
+use ei_spec::limits::MOST_PIECE_HANDLES;
 use std::ptr;
+
+/// Room for one handle more than a piece may have.
+pub(crate) const HANDLE_ROOM: usize = MOST_PIECE_HANDLES + 1;
 
 /// Copies the first bytes, as many as there is room for, and tells how many these are.
 pub(crate) fn copy_bytes(from: &[u8], room: &mut [u8]) -> usize
@@ -64,5 +71,44 @@ pub(crate) fn write_name(name: Option<&str>, room: &mut [u8], length: &mut usize
     match name {
         Some(name) => write_text(name, room, length),
         None => write_text("", room, length),
+    }
+}
+
+/// Writes the text of the request that was handed out last.
+pub(crate) fn write_text_of(last: &Option<EisRequest>, room: &mut [u8], length: &mut usize) -> u32
+    ensures { Writes (text_of_last last.now) room.old result length.new room.new }
+{
+    let text = match last {
+        Some(request) => text_in(request),
+        None => None,
+    };
+    match text {
+        Some(text) => write_text(text, room, length),
+        None => {
+            *length = 0;
+            NOTHING
+        }
+    }
+}
+
+/// Tells who the client of a connection is.
+pub(crate) fn tell_client(
+    connection: Option<&Connection>,
+    context_type: &mut u32,
+    room: &mut [u8],
+    length: &mut usize,
+) -> u32
+    ensures { TellsClient (option_copied connection.entry) room.old result context_type.new length.new room.new }
+{
+    match connection {
+        Some(connection) => {
+            *context_type = u32::from(connection.context_type());
+            write_name(connection.name(), room, length)
+        }
+        None => {
+            *context_type = 0;
+            *length = 0;
+            NOTHING
+        }
     }
 }

@@ -1,27 +1,27 @@
 -- A piece that was handed in.
-use Rattle.std.proofs.Common.{◌≡◌, ℕ, suc, ◌+◌, ◌<◌, ◌≤◌, Bool, true, false, List, [], ◌∷◌, length, Option, Some, None, Result, Ok, Err, refl, sym, ap, subst, ◌∙◌, inl, inr, arith}
-use Rattle.std.specs.Prelude.{IsErrOf, slice_get}
+use Rattle.std.proofs.Common.{◌≡◌, ℕ, suc, ◌+◌, ◌<◌, ◌≤◌, Bool, true, false, List, [], ◌∷◌, length, Option, Some, None, Ok, Err, refl, sym, ap, subst, ◌∙◌, inl, inr, arith}
+use Rattle.std.specs.Prelude.{IsErrOf}
 use Rattle.ei_spec.specs.declared.handle.Handle.{Handle}
 use Rattle.ei_spec.specs.Piece.{Piece}
 use Rattle.ei_spec.specs.declared.limits.TheConstants.{MOST_PIECE_BYTES}
 use Rattle.ei_wire.specs.declared.error.ReadError.{ReadError}
 use Rattle.ei_wire.specs.declared.error.ReadError.TheVariants as read_error
 use Rattle.ei_types.specs.Errors.{error_of_read}
-use Rattle.ei_backend.specs.Backend.{BackendView, Reads, ReadsOn, with_piece, with_ring, closed_of}
+use Rattle.ei_backend.specs.Backend.{BackendView, Reads, ReadsOn, with_piece}
 use Rattle.ei_backend.specs.Incoming.{Fits, Overflows, Hands}
-use Rattle.ei_backend.specs.Outside.{SourceView, Rose}
+use Rattle.ei_backend.specs.Outside.{SourceView}
 use Rattle.ei_backend.specs.declared.outside.LastAnswer.{LastAnswer}
 use Rattle.reis_eis.specs.declared.ending.Ending.{Ending}
 use Rattle.reis_eis.specs.declared.ending.Ending.TheVariants as ending
 use Rattle.reis_eis.specs.declared.phase.Phase.{Phase}
 use Rattle.reis_eis.specs.declared.phase.Phase.TheVariants as phase
 use Rattle.reis_eis.specs.Lent.{lent, lent_view}
-use Rattle.reis_eis.specs.Words.{IsWhole, shaking_with, with_ctx, with_context}
+use Rattle.reis_eis.specs.Words.{IsWhole, shaking_with, with_ctx}
 use Rattle.reis_eis.specs.Passing.{ReadsPhase}
 use Rattle.reis_eis.specs.declared.step.Step.{Step}
 use Rattle.reis_eis.specs.declared.step.Step.TheVariants as step
 use Rattle.reis_eis.specs.Handling.{Steps}
-use Rattle.reis_eis.specs.Feeding.{HandlesSome, EndsBy, HandlesAll, TakesPiece, RefusesPiece, LeavesPiece, Feeds}
+use Rattle.reis_eis.specs.Feeding.{HandlesSome, HandlesAll, LeavesPiece, Feeds}
 
 on_closed : {X : Type 0} (b : Bool) → (b ≡ true → X) → (b ≡ false → X) → X
 on_closed true is_so is_not = is_so refl
@@ -138,19 +138,3 @@ module _ {S : Type 0} (view : S → SourceView) (later : S → S → Type 0) (be
 
 pub some_more : (time : ℕ) (old reached new : Phase) (s : Step) → (n : ℕ) × HandlesSome n time old reached → Steps time reached s new → s ≡ step.Handled → (n : ℕ) × HandlesSome n time old new
 some_more time old reached new s h steps is = (suc h.0, (reached, h.1, subst (λ (x : Step). Steps time reached x new) is steps))
-
-all_by : (time : ℕ) (old reached new : Phase) (s last : Step) (how : Option Ending) → (n : ℕ) × HandlesSome n time old reached → Steps time reached s new → s ≡ last → EndsBy last how → HandlesAll time old new how
-all_by time old reached new s last how h steps is ends = record {
-  count = h.0;
-  reached = reached;
-  handled = h.1;
-  last = last;
-  steps = subst (λ (x : Step). Steps time reached x new) is steps;
-  ends = ends;
-}
-
-pub all_handled : (time : ℕ) (old reached new : Phase) (s : Step) → (n : ℕ) × HandlesSome n time old reached → Steps time reached s new → s ≡ step.Waiting → HandlesAll time old new None
-all_handled time old reached new s h steps is = all_by time old reached new s step.Waiting None h steps is refl
-
-pub handled_up_to : (time : ℕ) (old reached new : Phase) (s : Step) (e : Ending) → (n : ℕ) × HandlesSome n time old reached → Steps time reached s new → s ≡ step.Ended e → HandlesAll time old new (Some e)
-handled_up_to time old reached new s e h steps is = all_by time old reached new s (step.Ended e) (Some e) h steps is refl

@@ -1,11 +1,11 @@
 -- The first that passes a test: the same of keys, and by another test.
-use Rattle.std.proofs.Common.{◌≡◌, ℕ, Bool, true, false, cond, ◌&&◌, List, [], ◌∷◌, map, Option, Some, None, refl, sym, ap, ◌∙◌, arith}
-use Rattle.std.specs.Prelude.{find, nat_eq, not, is_some}
+use Rattle.std.proofs.Common.{◌≡◌, ℕ, Bool, true, false, cond, ◌&&◌, List, [], ◌∷◌, map, Option, Some, refl, sym, ap, ◌∙◌, arith}
+use Rattle.std.specs.Prelude.{find, nat_eq}
 use Rattle.std.specs.List.{filter}
 use Rattle.std.specs.Option.{option_map}
 use Rattle.std.proofs.lemmas.Bool.Decides.{nat_tests}
 use Rattle.ei_request.specs.Held.{DeviceView, SeatView, is_device, is_of_key, is_seat, changed_first, without_first}
-use Rattle.ei_request.specs.Keys.{DeviceKey, same_device, same_device_equiv}
+use Rattle.ei_request.specs.Keys.{same_device_equiv}
 
 -- ---- of what a function gives
 

@@ -1,5 +1,5 @@
 -- What waits behind a flush to a sink that takes so many bytes.
-use Rattle.std.proofs.Common.{subst, ◌≡◌, ℕ, zero, suc, ◌+◌, ◌<◌, ◌≤◌, List, [], ◌∷◌, length, take, drop, Option, Some, Result, Ok, Err, refl, sym, ap, ◌∙◌, arith}
+use Rattle.std.proofs.Common.{subst, ◌≡◌, ℕ, ◌<◌, ◌≤◌, List, [], ◌∷◌, length, take, Option, Some, Result, Ok, Err, refl, sym, ap, ◌∙◌, arith}
 use Rattle.std.proofs.Math.Seq.{drop-length}
 use Rattle.std.specs.Prelude.{IsErrOf}
 use Rattle.std.proofs.lemmas.List.{length-take-le}
@@ -7,9 +7,9 @@ use Rattle.ei_spec.specs.declared.handle.Handle.{Handle}
 use Rattle.ei_spec.specs.Piece.{Piece}
 use Rattle.ei_wire.specs.declared.error.FlushError.{FlushError}
 use Rattle.ei_wire.specs.declared.error.FlushError.TheVariants as flush_error
-use Rattle.ei_backend.specs.Backend.{BackendView, unsent_of, with_unsent}
+use Rattle.ei_backend.specs.Backend.{unsent_of, with_unsent}
 use Rattle.ei_backend.specs.Outside.{Rose, SinkView}
-use Rattle.ei_backend.specs.Outgoing.{nothing, unsent_after, StopsAfter, GoesOut, sent_front, Flushes}
+use Rattle.ei_backend.specs.Outgoing.{nothing, unsent_after, StopsAfter, GoesOut, Flushes}
 use Rattle.reis_eis.specs.declared.phase.Phase.{Phase}
 use Rattle.reis_eis.specs.declared.phase.Phase.TheVariants as phase
 use Rattle.reis_eis.specs.Lent.{written_view}

@@ -1,5 +1,5 @@
 -- A handshake that read a message: the bytes that are unread stay behind it.
-use Rattle.std.proofs.Common.{◌≡◌, ℕ, ◌<◌, List, length, Option, Some, None, Result, Ok, Err, refl, sym, ap, subst, ◌∙◌}
+use Rattle.std.proofs.Common.{◌≡◌, ℕ, ◌<◌, List, length, Option, Some, None, Ok, sym, ap, subst}
 use Rattle.ei_backend.specs.Backend.{BackendView, Shortens}
 use Rattle.ei_backend.specs.Endpoint.{Endpoint}
 use Rattle.ei_backend.specs.declared.message.PendingRequestResult.{PendingRequestResult}

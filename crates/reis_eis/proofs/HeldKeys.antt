@@ -1,21 +1,20 @@
 -- The keys of what a connection holds: who is found by them, and how they change with it.
-use Rattle.std.proofs.Common.{◌≡◌, ℕ, Bool, true, false, List, [], ◌∷◌, ◌++◌, map, Option, Some, None, refl, sym, ap, subst, ◌∙◌}
+use Rattle.std.proofs.Common.{◌≡◌, ℕ, Bool, true, List, [], ◌∷◌, ◌++◌, map, Option, Some, None, refl, sym, ap, subst, ◌∙◌}
 use Rattle.std.specs.Prelude.{find, is_some, not}
 use Rattle.std.specs.List.{filter}
 use Rattle.std.specs.Option.{option_map}
 use Rattle.std.proofs.lemmas.List.{map-append}
 use Rattle.ei_spec.specs.Interface.{ObjectView}
 use Rattle.ei_request.specs.Keys.{DeviceKey}
-use Rattle.ei_request.specs.Held.{SeatView, DeviceView, is_seat, is_device, is_of_key, is_of_seat, gone_ids, without_first, changed_first, untouched}
+use Rattle.ei_request.specs.Held.{SeatView, DeviceView, is_seat, is_device, is_of_key, is_of_seat, gone_ids, without_first, changed_first}
 use Rattle.ei_request.specs.Connection.{ConnectionView, Unchanged, holds_device}
 use Rattle.ei_request.specs.Removing.{TellsGone, RemovesDevice, RemovesSeat, devices_left}
-use Rattle.reis_eis.specs.declared.call_error.CallError.{CallError}
 use Rattle.reis_eis.specs.declared.call_error.CallError.TheVariants as call_error
 use Rattle.reis_eis.specs.Keys.{HasKeys, names_seat, names_device, names_device_of}
 use Rattle.reis_eis.specs.Refusals.{on_seat, on_device}
 use Rattle.reis_eis.specs.Acting.{RemovesDeviceAt, RemovesSeatAt}
 use Rattle.reis_eis.proofs.Handled.{changed_keys}
-use Rattle.reis_eis.proofs.Firsts.{find_of, without_of, filter_of, passes, device_found, seat_found, by_key, without_key, changed_key}
+use Rattle.reis_eis.proofs.Firsts.{find_of, without_of, filter_of, device_found, seat_found, by_key, without_key, changed_key}
 
 none_from : {A B : Type 0} (f : A → B) (o : Option A) → option_map f o ≡ None → o ≡ None
 none_from f None e = refl

@@ -1,9 +1,9 @@
 -- The keymaps of a description, by their handles.
-use Rattle.std.proofs.Common.{◌≡◌, ℕ, ◌+◌, ◌<◌, List, [], ◌∷◌, length, refl, ap, sym, ◌∙◌, arith}
+use Rattle.std.proofs.Common.{◌≡◌, List, [], ◌∷◌, length, refl, arith}
 use Rattle.std.specs.Prelude.{nat_lt, cond}
-use Rattle.std.specs.List.{count_by, Any}
+use Rattle.std.specs.List.{count_by}
 use Rattle.std.proofs.lemmas.List.Sums.{sum_by-cons}
-use Rattle.ei_request.specs.Making.{setup_handle, setup_handles, NeedsKeyboard}
+use Rattle.ei_request.specs.Making.{setup_handle, setup_handles}
 use Rattle.ei_request.specs.declared.making.DeviceSetup.{DeviceSetup}
 use Rattle.ei_request.specs.declared.making.DeviceSetup.TheVariants as setup
 

@@ -3,6 +3,8 @@ pub mod Firsts
 pub mod Handled
 pub mod Keymaps
 pub mod HeldKeys
+pub mod Telling
+pub mod TellingInputs
 pub mod Obeying
 pub mod Feeding
 pub mod Starting

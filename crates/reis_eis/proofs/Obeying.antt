@@ -1,14 +1,12 @@
 -- What the converter did with a request, at the time of a piece.
-use Rattle.std.proofs.Common.{◌≡◌, ℕ, Bool, true, false, List, [], ◌∷◌, Option, Some, None, Result, Ok, Err, refl, sym, ap, subst, ◌∙◌}
+use Rattle.std.proofs.Common.{◌≡◌, ℕ, Bool, false, List, [], ◌∷◌, Option, Some, Result, Ok, Err, refl, sym, ap, subst, ◌∙◌}
 use Rattle.ei_spec.specs.Interface.{ObjectView}
 use Rattle.ei_types.specs.declared.error.Error.{Error}
 use Rattle.ei_server.specs.declared.request.Request.{Request}
 use Rattle.ei_server.specs.Request.{target_of}
-use Rattle.ei_session.specs.Meaning.{Meaning}
 use Rattle.ei_request.specs.Keys.{DeviceKey}
-use Rattle.ei_request.specs.Connection.{ConnectionView}
 use Rattle.ei_request.specs.Converter.{ConverterView}
-use Rattle.ei_request.specs.Handling.{Handles, handled}
+use Rattle.ei_request.specs.Handling.{Handles}
 use Rattle.ei_request.specs.Typed.{meaning_of}
 use Rattle.reis_eis.specs.Keys.{HasKeys}
 use Rattle.reis_eis.specs.Lent.{readings_left}

@@ -1,10 +1,17 @@
 -- What the calls of a program do.
-use Rattle.std.specs.Prelude.{◌≡◌, ℕ, Bool, List, Option, Some, None, is_some, unwrap_or, find}
+use Rattle.std.specs.Prelude.{◌≡◌, ℕ, Bool, List, [], ◌∷◌, codes, Option, Some, None, Result, OnOk, OnErr, IfErr, is_some, unwrap_or, find}
 use Rattle.std.specs.Option.{option_map}
+use Rattle.ei_spec.specs.declared.interface.KnownInterface.TheVariants as known
+use Rattle.ei_spec.specs.Interface.{ObjectView}
+use Rattle.ei_spec.specs.Message.{Raw}
+use Rattle.ei_spec.specs.Value.{Word}
+use Rattle.ei_wire.specs.declared.error.SendError.{SendError}
+use Rattle.ei_input.specs.declared.input_event.InputEvent.{InputEvent}
 use Rattle.ei_types.specs.Capability.{interface_of}
 use Rattle.ei_types.specs.declared.capability.DeviceCapabilities.{DeviceCapabilities}
 use Rattle.ei_types.specs.declared.capability.DeviceCapability.{DeviceCapability}
 use Rattle.ei_types.specs.declared.enums.DeviceType.{DeviceType}
+use Rattle.ei_session.specs.Arguments.{event}
 use Rattle.ei_session.specs.Events.{resumed_event}
 use Rattle.ei_request.specs.Held.{SeatView, DeviceView, is_seat, is_device, gone_ids, without_first, changed_first, untouched}
 use Rattle.ei_request.specs.Connection.{ConnectionView, Unchanged}
@@ -12,7 +19,7 @@ use Rattle.ei_request.specs.Converter.{ConverterView}
 use Rattle.ei_request.specs.Making.{AddsSeat, AddsDevice, new_seat, granted_at}
 use Rattle.ei_request.specs.Reading.{interface_in}
 use Rattle.ei_request.specs.Removing.{TellsGone, RemovesSeat, Disconnects}
-use Rattle.ei_request.specs.Sending.{tells, paused_event}
+use Rattle.ei_request.specs.Sending.{says, tells, paused_event, start_emulating_event, stop_emulating_event, frame_event}
 use Rattle.ei_request.specs.declared.making.DeviceSetup.{DeviceSetup}
 use Rattle.reis_eis.specs.declared.call_error.CallError.{CallError}
 use Rattle.reis_eis.specs.declared.call_error.CallError.TheVariants as call_error
@@ -20,6 +27,8 @@ use Rattle.reis_eis.specs.declared.ending.Ending.{Ending}
 use Rattle.reis_eis.specs.declared.ending.Ending.TheVariants as ending
 use Rattle.reis_eis.specs.declared.phase.Phase.{Phase}
 use Rattle.reis_eis.specs.declared.phase.Phase.TheVariants as phase
+use Rattle.reis_eis.specs.Inputs.{Event, told_by, message_to}
+use Rattle.reis_eis.specs.Refusals.{object_at, too_long, of_send, Tells}
 use Rattle.reis_eis.specs.View.{EisView}
 
 -- ---- what each does to the connection
@@ -53,6 +62,47 @@ Resumes id old new = new ≡ tells old (resumed_event id)
 -- the client is told that it takes none, and no touch of it is down
 abbrev pub Pauses : ℕ → ConnectionView → ConnectionView → Type 0
 Pauses id old new = new ≡ record (tells old (paused_event id)) { devices = changed_first (is_device id) untouched old.devices }
+
+-- the client is told that the device of that id begins to send input, and sends no more
+abbrev pub StartsEmulating : ℕ → ℕ → ConnectionView → ConnectionView → Type 0
+StartsEmulating id sequence old new = new ≡ tells old (λ serial. start_emulating_event id serial sequence)
+
+abbrev pub StopsEmulating : ℕ → ConnectionView → ConnectionView → Type 0
+StopsEmulating id old new = new ≡ tells old (stop_emulating_event id)
+
+-- the client is told that the input of the device since its last frame belongs together
+abbrev pub Frames : ℕ → ℕ → ConnectionView → ConnectionView → Type 0
+Frames id time old new = new ≡ tells old (λ serial. frame_event id serial time)
+
+-- which modifiers hold, and the layout, as the event of a keyboard with that serial
+abbrev pub modifiers_event : ℕ → ℕ → ℕ → ℕ → ℕ → ℕ → Raw
+modifiers_event depressed locked latched group keyboard serial =
+    event known.Keyboard (codes "modifiers") keyboard (Word serial ∷ Word depressed ∷ Word locked ∷ Word latched ∷ Word group ∷ [])
+
+-- the client is told something of an object that is there
+abbrev pub TellsOf : Option ObjectView → (ℕ → ℕ → Raw) → ConnectionView → ConnectionView → Type 0
+TellsOf None told old new = ⊥
+TellsOf (Some o) told old new = new ≡ tells old (told o.id)
+
+-- the client is told which modifiers hold on the keyboard of the device of that id
+abbrev pub TellsModifiers : ℕ → ℕ → ℕ → ℕ → ℕ → ConnectionView → ConnectionView → Type 0
+TellsModifiers id depressed locked latched group old new = TellsOf (object_at known.Keyboard id old) (modifiers_event depressed locked latched group) old new
+
+-- an event goes to an object that is there
+abbrev pub TellsTo : Event → Option ObjectView → ConnectionView → ConnectionView → Type 0
+TellsTo e None old new = ⊥
+TellsTo e (Some o) old new = new ≡ record old { ctx = says old.ctx (message_to e o.id) }
+
+-- the client is told of an input of the device of that id
+abbrev pub SendsInput : ℕ → InputEvent → ConnectionView → ConnectionView → Type 0
+SendsInput id input old new = TellsTo (told_by input) (object_at (told_by input).interface id old) old new
+
+-- The event of an input goes to an object, or, where it is too long, or for want of memory, nothing changes.
+pub record TellsInput (input : InputEvent) (to : Option ObjectView) (old : ConnectionView) (result : Result (Unit {0}) SendError) (new : ConnectionView) : Type 0 where
+  pub ok : OnOk result (TellsTo (told_by input) to old new)
+  pub fits : OnOk result (too_long input ≡ None)
+  pub why : IfErr result (λ e. Tells (too_long input) (of_send e))
+  pub err : OnErr result (new ≡ old)
 
 -- the client is told that all is gone, and why
 abbrev pub Ends : ℕ → Option (List ℕ) → ConnectionView → ConnectionView → Type 0

@@ -4,6 +4,7 @@ pub mod Keys
 pub mod View
 pub mod Words
 pub mod Starting
+pub mod Inputs
 pub mod Refusals
 pub mod Handling
 pub mod Feeding

@@ -1,5 +1,5 @@
 -- What a sink that takes so many bytes has taken.
-use Rattle.std.specs.Prelude.{◌≡◌, ℕ, ◌+◌, ◌<◌, ◌≤◌, List, length}
+use Rattle.std.specs.Prelude.{◌≡◌, ℕ, ◌+◌, ◌<◌, ◌≤◌, length}
 use Rattle.std.proofs.Common.{arith, ◌∙◌, refl}
 use Rattle.ei_spec.specs.Piece.{Piece}
 

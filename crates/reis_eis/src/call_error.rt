@@ -24,7 +24,9 @@ pub enum CallError {
     NotUnsent,
     /// The seat or the device isn't there, or is there no more.
     Gone,
-    /// A capability that the seat wasn't given.
+    /// The client isn't a receiver.
+    WrongRole,
+    /// A capability that the seat wasn't given, or whose interface the device doesn't have, or has no more.
     Capabilities,
     /// A keymap for a device without a keyboard.
     NoKeyboard,

@@ -2,13 +2,14 @@
 
 ghost use Rattle.std.specs.Prelude.{◌≡◌, ◌≤◌, length, None, Some, IfOk, IfErr, OnOk, OnErr, is_some};
 ghost use Rattle.std.specs.Option.{option_copied, option_map};
+ghost use Rattle.ei_spec.specs.declared.interface.KnownInterface.TheVariants as known;
 ghost use Rattle.ei_types.specs.Enums.{disconnect_reason_number};
 ghost use Rattle.ei_backend.specs.Outgoing.{unsent_after};
 ghost use Rattle.ei_input.specs.Queue.{first_of, rest_of};
 ghost use Rattle.reis_eis.specs.Words.{unsent_in, handle_in, queue_in, with_queue};
-ghost use Rattle.reis_eis.specs.Refusals.{Tells, TellsOrWants, feed_answer, end_answer, sent_answer, adding_seat, on_seat, adding_device, on_device, disconnecting};
+ghost use Rattle.reis_eis.specs.Refusals.{Tells, TellsOrWants, feed_answer, end_answer, sent_answer, adding_seat, on_seat, adding_device, on_device, on_interface, on_receiver, sending, disconnecting};
 ghost use Rattle.reis_eis.specs.Feeding.{end_of};
-ghost use Rattle.reis_eis.specs.Acting.{AddsSeatAs, RemovesSeatAt, AddsDeviceAs, RemovesDeviceAt, Resumes, Pauses, Ends, refusal_in, has_in};
+ghost use Rattle.reis_eis.specs.Acting.{AddsSeatAs, RemovesSeatAt, AddsDeviceAs, RemovesDeviceAt, Resumes, Pauses, StartsEmulating, StopsEmulating, Frames, TellsModifiers, SendsInput, Ends, refusal_in, has_in};
 
 use crate::call_error::CallError;
 use crate::ending::Ending;
@@ -17,6 +18,7 @@ use crate::phase::Phase;
 use crate::shaking::Shaking;
 use crate::written::Written;
 use ei_backend::HasBackend;
+use ei_input::input_event::InputEvent;
 use ei_request::{Connection as Handle, DeviceSetup, EisRequest};
 use ei_spec::Handle as Descriptor;
 use ei_spec::limits::{MOST_PIECE_BYTES, MOST_PIECE_HANDLES};
@@ -84,7 +86,8 @@ impl Connection {
     pub fn feed(&mut self, bytes: &[u8], handles: &[Descriptor], time: u64) -> Result<(), CallError>
         ensures answer { result ≡ feed_answer (is_some self.old.ending) (length bytes.now) (length handles.now) }
         ensures kept { OnErr result (self.new ≡ self.old) }
-        ensures feeds { OnOk result (Feeds (record { bytes = bytes.now; handles = handles.now }) time self.old self.new) }
+        ensures feeds { OnOk result (
+            Feeds (record { bytes = bytes.now; handles = handles.now }) time self.old self.new) }
     {
         if self.ending.is_some() {
             return Err(CallError::Over);
@@ -147,7 +150,7 @@ impl Connection {
         }
     }
 
-    /// The handles that wait to be passed, all with the first of these bytes: at most 64.
+    /// The handles that wait to be passed, all with the first of these bytes.
     pub fn unsent_handles(&self) -> &[Descriptor]
         ensures { result.now ≡ (unsent_in self.now.phase).handles }
     {
@@ -354,6 +357,27 @@ impl Connection {
         on_standing!(self, keyed => keyed.pause(device))
     }
 
+    /// Tells the client which modifiers hold on the device's keyboard: `modifiers` with the next serial, masks of those
+    /// that are down, locked and latched, and the number of the layout. The protocol sends it to senders and receivers.
+    ///
+    /// `Gone` where there is no device of that id; `Capabilities` where it has no keyboard, or has it no more;
+    /// `NoMemory`.
+    pub fn modifiers(
+        &mut self,
+        device: u64,
+        depressed: u32,
+        locked: u32,
+        latched: u32,
+        group: u32,
+    ) -> Result<(), CallError>
+        ensures tells { OnOk result (ActsOn (TellsModifiers device depressed locked latched group) self.old self.new) }
+        ensures accepted { OnOk result (refusal (on_interface known.Keyboard device) self.old ≡ None) }
+        ensures why { IfErr result (Tells (refusal (on_interface known.Keyboard device) self.old)) }
+        ensures err { OnErr result (IsKept self.old self.new) }
+    {
+        on_standing!(self, keyed => keyed.modifiers(device, depressed, locked, latched, group))
+    }
+
     /// Whether the device has the interface of the capability left, which the client may have released. `None` where there is no
     /// device of that id.
     pub fn device_has(&self, device: u64, capability: DeviceCapability) -> Option<bool>
@@ -363,5 +387,66 @@ impl Connection {
             Phase::Standing(keyed) => keyed.device_has(device, capability),
             _ => None,
         }
+    }
+}
+
+// What is told to a client that receives. Each of these calls answers `Over` where the connection has ended, else
+// `NotConnected` before the handshake is done, and else `WrongRole` where the client isn't a receiver: libei sends these
+// events to a receiver alone, and that the call is refused else is our choice.
+impl Connection {
+    ghost use Rattle.reis_eis.specs.Acting.{ActsOn, IsKept, refusal};
+
+    /// Tells the client that the device begins to send input: `start_emulating` with the next serial and this sequence,
+    /// which counts such beginnings.
+    ///
+    /// `WrongRole` where the client isn't a receiver; `Gone` where there is no device of that id; `NoMemory`.
+    pub fn start_emulating(&mut self, device: u64, sequence: u32) -> Result<(), CallError>
+        ensures starts { OnOk result (ActsOn (StartsEmulating device sequence) self.old self.new) }
+        ensures accepted { OnOk result (refusal (on_receiver device) self.old ≡ None) }
+        ensures why { IfErr result (Tells (refusal (on_receiver device) self.old)) }
+        ensures err { OnErr result (IsKept self.old self.new) }
+    {
+        on_standing!(self, keyed => keyed.start_emulating(device, sequence))
+    }
+
+    /// Tells the client that the device sends no more input: `stop_emulating` with the next serial.
+    ///
+    /// `WrongRole` where the client isn't a receiver; `Gone` where there is no device of that id; `NoMemory`.
+    pub fn stop_emulating(&mut self, device: u64) -> Result<(), CallError>
+        ensures stops { OnOk result (ActsOn (StopsEmulating device) self.old self.new) }
+        ensures accepted { OnOk result (refusal (on_receiver device) self.old ≡ None) }
+        ensures why { IfErr result (Tells (refusal (on_receiver device) self.old)) }
+        ensures err { OnErr result (IsKept self.old self.new) }
+    {
+        on_standing!(self, keyed => keyed.stop_emulating(device))
+    }
+
+    /// Tells the client that the input of the device since its last frame belongs together: `frame` with the next
+    /// serial and this time, in microseconds.
+    ///
+    /// `WrongRole` where the client isn't a receiver; `Gone` where there is no device of that id; `NoMemory`.
+    pub fn frame(&mut self, device: u64, time: u64) -> Result<(), CallError>
+        ensures frames { OnOk result (ActsOn (Frames device time) self.old self.new) }
+        ensures accepted { OnOk result (refusal (on_receiver device) self.old ≡ None) }
+        ensures why { IfErr result (Tells (refusal (on_receiver device) self.old)) }
+        ensures err { OnErr result (IsKept self.old self.new) }
+    {
+        on_standing!(self, keyed => keyed.frame(device, time))
+    }
+
+    /// Tells the client of an input of the device: the event of that input, by the device's interface for it. It bears no
+    /// serial, and belongs to the frame that comes next. The protocol wants a text of 1 to 254 bytes; that isn't tested
+    /// here.
+    ///
+    /// `WrongRole` where the client isn't a receiver; `Gone` where there is no device of that id; `Capabilities` where it
+    /// doesn't have the interface, or has it no more; `MessageTooLong` for a text whose event would have more than
+    /// 1048576 bytes; `NoMemory`.
+    pub fn send(&mut self, device: u64, input: &InputEvent) -> Result<(), CallError>
+        ensures sends { OnOk result (ActsOn (SendsInput device input.now) self.old self.new) }
+        ensures accepted { OnOk result (refusal (sending device input.now) self.old ≡ None) }
+        ensures why { IfErr result (Tells (refusal (sending device input.now) self.old)) }
+        ensures err { OnErr result (IsKept self.old self.new) }
+    {
+        on_standing!(self, keyed => keyed.send(device, input))
     }
 }

@@ -11,23 +11,28 @@ ghost use Rattle.ei_request.specs.Connection.{new_connection};
 ghost use Rattle.reis_eis.specs.declared.step.Step.TheVariants as step;
 ghost use Rattle.reis_eis.specs.Words.{with_ctx};
 ghost use Rattle.ei_request.specs.Making.{setup_handle, setup_handles};
+ghost use Rattle.ei_request.specs.Sending.{AllOrNothing, tells};
 ghost use Rattle.ei_request.specs.Typed.{meaning_of};
+ghost use Rattle.ei_spec.specs.declared.interface.KnownInterface.TheVariants as known;
 ghost use Rattle.reis_eis.specs.Handling.{Converses, Obeys, TellsNoObject, ends};
-ghost use Rattle.reis_eis.specs.Refusals.{Tells, TellsOrWants, adding_seat, on_seat, adding_device, on_device, disconnecting, describing_at};
-ghost use Rattle.reis_eis.specs.Acting.{Acts, IsLeft, AddsSeatAs, RemovesSeatAt, AddsDeviceAs, RemovesDeviceAt, Resumes, Pauses, Ends, device_has};
+ghost use Rattle.reis_eis.specs.Refusals.{Tells, TellsOrWants, adding_seat, on_seat, adding_device, on_device, on_interface, receives, on_receiver, sending, disconnecting, describing_at};
+ghost use Rattle.reis_eis.specs.Acting.{Acts, IsLeft, AddsSeatAs, RemovesSeatAt, AddsDeviceAs, RemovesDeviceAt, Resumes, Pauses, StartsEmulating, StopsEmulating, Frames, TellsModifiers, modifiers_event, SendsInput, Ends, device_has};
 
 use crate::call_error::CallError;
 use crate::ending::Ending;
-use crate::keys;
 use crate::moment::Moment;
 use crate::step::Step;
+use crate::{inputs, keys};
 use ei_backend::{HasBackend, PendingRequestResult, Sink, Source};
 use ei_handshake::EisHandshakeResp;
+use ei_input::input_event::InputEvent;
 use ei_request::{Connection, Device, DeviceSetup, EisRequest, EisRequestConverter, Seat};
-use ei_server::{Context, Request, connection};
+use ei_server::{Context, Keyboard, Request, connection};
 use ei_spec::limits::MOST_PIECE_HANDLES;
-use ei_types::{DeviceCapabilities, DeviceCapability, DeviceType, DisconnectReason, Error};
-use ei_wire::{FlushError, NoMemory, ReadError};
+use ei_types::{
+    ContextType, DeviceCapabilities, DeviceCapability, DeviceType, DisconnectReason, Error,
+};
+use ei_wire::{FlushError, NoMemory, ReadError, SendError};
 use std::alloc::Global;
 use std::marker::Model;
 
@@ -268,6 +273,31 @@ impl KeyedConverter {
         Ok(())
     }
 
+    /// Tells the client which modifiers hold on the keyboard of the device of that id.
+    pub(crate) fn modifiers(
+        &mut self,
+        id: u64,
+        depressed: u32,
+        locked: u32,
+        latched: u32,
+        group: u32,
+    ) -> Result<(), CallError>
+        ensures ok { OnOk result (Acts (TellsModifiers id depressed locked latched group) self.old self.new) }
+        ensures accepted { OnOk result (on_interface known.Keyboard id self.old.handle ≡ None) }
+        ensures why { IfErr result (Tells (on_interface known.Keyboard id self.old.handle)) }
+        ensures err { OnErr result (IsLeft self.old self.new) }
+    {
+        let Some(device) = keys::find_device(&self.devices, id) else {
+            return Err(CallError::Gone);
+        };
+        let Some(keyboard) = device.interface::<Keyboard>(self.converter.handle()) else {
+            return Err(CallError::Capabilities);
+        };
+        let handle = self.converter.handle_mut();
+        tell_modifiers(handle, &keyboard, depressed, locked, latched, group)?;
+        Ok(())
+    }
+
     /// Whether the device of that id has the capability left.
     pub(crate) fn device_has(&self, id: u64, capability: DeviceCapability) -> Option<bool>
         ensures { result ≡ option_map (device_has capability) (find (is_device id) self.now.handle.devices) }
@@ -276,6 +306,80 @@ impl KeyedConverter {
             return None;
         };
         Some(device.has_capability(self.converter.handle(), capability))
+    }
+}
+
+// What is told to a client that receives.
+impl KeyedConverter {
+    /// Tells the client that the device of that id begins to send input.
+    pub(crate) fn start_emulating(&mut self, id: u64, sequence: u32) -> Result<(), CallError>
+        ensures ok { OnOk result (Acts (StartsEmulating id sequence) self.old self.new) }
+        ensures accepted { OnOk result (on_receiver id self.old.handle ≡ None) }
+        ensures why { IfErr result (Tells (on_receiver id self.old.handle)) }
+        ensures err { OnErr result (IsLeft self.old self.new) }
+    {
+        if !is_receiver(self.converter.handle()) {
+            return Err(CallError::WrongRole);
+        }
+        let Some(device) = keys::find_device(&self.devices, id) else {
+            return Err(CallError::Gone);
+        };
+        device.start_emulating(self.converter.handle_mut(), sequence)?;
+        Ok(())
+    }
+
+    /// Tells the client that the device of that id sends no more input.
+    pub(crate) fn stop_emulating(&mut self, id: u64) -> Result<(), CallError>
+        ensures ok { OnOk result (Acts (StopsEmulating id) self.old self.new) }
+        ensures accepted { OnOk result (on_receiver id self.old.handle ≡ None) }
+        ensures why { IfErr result (Tells (on_receiver id self.old.handle)) }
+        ensures err { OnErr result (IsLeft self.old self.new) }
+    {
+        if !is_receiver(self.converter.handle()) {
+            return Err(CallError::WrongRole);
+        }
+        let Some(device) = keys::find_device(&self.devices, id) else {
+            return Err(CallError::Gone);
+        };
+        device.stop_emulating(self.converter.handle_mut())?;
+        Ok(())
+    }
+
+    /// Tells the client that the input of the device of that id since its last frame belongs together.
+    pub(crate) fn frame(&mut self, id: u64, time: u64) -> Result<(), CallError>
+        ensures ok { OnOk result (Acts (Frames id time) self.old self.new) }
+        ensures accepted { OnOk result (on_receiver id self.old.handle ≡ None) }
+        ensures why { IfErr result (Tells (on_receiver id self.old.handle)) }
+        ensures err { OnErr result (IsLeft self.old self.new) }
+    {
+        if !is_receiver(self.converter.handle()) {
+            return Err(CallError::WrongRole);
+        }
+        let Some(device) = keys::find_device(&self.devices, id) else {
+            return Err(CallError::Gone);
+        };
+        device.frame(self.converter.handle_mut(), time)?;
+        Ok(())
+    }
+
+    /// Tells the client of an input of the device of that id.
+    pub(crate) fn send(&mut self, id: u64, input: &InputEvent) -> Result<(), CallError>
+        ensures ok { OnOk result (Acts (SendsInput id input.now) self.old self.new) }
+        ensures accepted { OnOk result (sending id input.now self.old.handle ≡ None) }
+        ensures why { IfErr result (Tells (sending id input.now self.old.handle)) }
+        ensures err { OnErr result (IsLeft self.old self.new) }
+    {
+        if !is_receiver(self.converter.handle()) {
+            return Err(CallError::WrongRole);
+        }
+        let Some(device) = keys::find_device(&self.devices, id) else {
+            return Err(CallError::Gone);
+        };
+        if !device.has_capability(self.converter.handle(), inputs::capability(input)) {
+            return Err(CallError::Capabilities);
+        }
+        inputs::tell(self.converter.handle_mut(), device, input)?;
+        Ok(())
     }
 }
 
@@ -305,6 +409,32 @@ impl KeyedConverter {
         self.devices.clear();
         Ok(())
     }
+}
+
+/// Tells the client which modifiers hold on the keyboard, by the event of the next serial.
+fn tell_modifiers(
+    handle: &mut Connection,
+    keyboard: &Keyboard,
+    depressed: u32,
+    locked: u32,
+    latched: u32,
+    group: u32,
+) -> Result<(), SendError>
+    ensures { AllOrNothing result handle.old
+        (tells handle.old (modifiers_event depressed locked latched group keyboard.now.id)) handle.new }
+{
+    let serial = handle.last_serial().wrapping_add(1);
+    let context = handle.context_mut();
+    keyboard.modifiers(context, serial, depressed, locked, latched, group)?;
+    handle.next_serial();
+    Ok(())
+}
+
+/// Whether the client is a receiver.
+fn is_receiver(handle: &Connection) -> bool
+    ensures { result ≡ receives handle.now.context_type }
+{
+    matches!(handle.context_type(), ContextType::Receiver)
 }
 
 /// Whether a device of the seat may have these capabilities and this description.

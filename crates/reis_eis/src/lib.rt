@@ -9,6 +9,7 @@
 mod call_error;
 mod connection;
 mod ending;
+mod inputs;
 mod keyed;
 mod keys;
 mod moment;

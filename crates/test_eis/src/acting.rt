@@ -1,15 +1,18 @@
 //! Seats, devices and the end, as a program calls them.
 
 use crate::feeding::done;
+use crate::inputs::input;
 use crate::words::{Described, capabilities, capability, description, letters, reason, text};
 use reis_eis::{CallError, Connection};
 use std::alloc::Global;
-use test_table::{Stop, first, id};
+use test_table::{Stop, first, id, number};
 
 /// What a call answers that says something to the client:
 /// - `add-seat TEXT CAPABILITIES` and `remove-seat ID`;
 /// - `add-device SEAT TEXT TYPE CAPABILITIES ITEM ..`, `remove-device ID`, `resume ID` and `pause ID`;
 /// - `has ID CAPABILITY`: whether the device has it left;
+/// - `start-emulating ID SEQUENCE`, `stop-emulating ID` and `frame ID TIME`;
+/// - `modifiers ID DEPRESSED LOCKED LATCHED GROUP`, and `send ID INPUT VALUE ..`;
 /// - `disconnect REASON TEXT`.
 pub(crate) fn act(
     alloc: Global,
@@ -25,6 +28,11 @@ pub(crate) fn act(
         "resume" => done(alloc, connection.resume(id(rest)?)),
         "pause" => done(alloc, connection.pause(id(rest)?)),
         "has" => has(alloc, connection, rest),
+        "start-emulating" => start_emulating(alloc, connection, rest),
+        "stop-emulating" => done(alloc, connection.stop_emulating(id(rest)?)),
+        "frame" => frame(alloc, connection, rest),
+        "modifiers" => modifiers(alloc, connection, rest),
+        "send" => send(alloc, connection, rest),
         "disconnect" => disconnect(alloc, connection, rest),
         _ => Err(Stop::Line),
     }
@@ -70,6 +78,38 @@ fn has(alloc: Global, connection: &Connection, rest: &str) -> Result<String, Sto
     let (device, name) = first(rest);
     let answer = connection.device_has(id(device)?, capability(name)?);
     Ok(format!(in alloc; "{answer:?}")?)
+}
+
+fn start_emulating(alloc: Global, connection: &mut Connection, rest: &str) -> Result<String, Stop> {
+    let (device, sequence) = first(rest);
+    let answer = connection.start_emulating(id(device)?, number(sequence)?);
+    done(alloc, answer)
+}
+
+fn frame(alloc: Global, connection: &mut Connection, rest: &str) -> Result<String, Stop> {
+    let (device, time) = first(rest);
+    done(alloc, connection.frame(id(device)?, id(time)?))
+}
+
+fn modifiers(alloc: Global, connection: &mut Connection, rest: &str) -> Result<String, Stop> {
+    let (device, rest) = first(rest);
+    let (depressed, rest) = first(rest);
+    let (locked, rest) = first(rest);
+    let (latched, group) = first(rest);
+    let answer = connection.modifiers(
+        id(device)?,
+        number(depressed)?,
+        number(locked)?,
+        number(latched)?,
+        number(group)?,
+    );
+    done(alloc, answer)
+}
+
+fn send(alloc: Global, connection: &mut Connection, rest: &str) -> Result<String, Stop> {
+    let (device, rest) = first(rest);
+    let input = input(alloc, rest)?;
+    done(alloc, connection.send(id(device)?, &input))
 }
 
 fn disconnect(alloc: Global, connection: &mut Connection, rest: &str) -> Result<String, Stop> {

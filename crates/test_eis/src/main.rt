@@ -11,6 +11,7 @@
 mod acting;
 mod calls;
 mod feeding;
+mod inputs;
 mod told;
 mod words;
 

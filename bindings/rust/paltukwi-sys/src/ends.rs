@@ -9,8 +9,10 @@ pub struct reis_end(pub u32);
 pub const REIS_END_GOES_ON: reis_end = reis_end(0);
 /// The client disconnected.
 pub const REIS_END_DISCONNECTED: reis_end = reis_end(1);
-/// No more came, after the connection.
+/// No more came, after the handshake.
 pub const REIS_END_END_OF_INPUT: reis_end = reis_end(2);
+/// `reis_connection_disconnect` told the client so.
+pub const REIS_END_TOLD: reis_end = reis_end(3);
 
 // Errors.
 /// No more came, before the connection.

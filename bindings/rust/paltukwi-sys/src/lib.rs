@@ -1,6 +1,7 @@
-//! The calls of `reis.h`, as they stand there: a server's session of the ei protocol, for a program with a loop of its own.
+//! The calls of `reis.h`, as they stand there: a server's session of the ei protocol, and a connection without a policy, for a program
+//! with a loop of its own.
 //!
-//! These are the raw declarations, by hand. The crate `paltukwi` is the safe face of them, and `reis.h` says what each call
+//! These are the raw declarations, by hand. The crate `paltukwi` is the safe face of those of a session, and `reis.h` says what each call
 //! does, who owns what, and what a caller must see to. In short: a [`reis_session`] is all zero before [`reis_session_start`],
 //! stays on its thread, and is used in one place alone; what [`reis_session_unsent`] lends is read before the next call on the
 //! session.
@@ -12,11 +13,13 @@
 #![no_std]
 
 mod answers;
+mod connection;
 mod ends;
 mod numbers;
 mod request;
 
 pub use answers::*;
+pub use connection::*;
 pub use ends::*;
 pub use numbers::*;
 pub use request::*;

@@ -93,7 +93,7 @@ fn each_call_is_that_of_the_header() {
     let mut wanted = calls(&header, "\nreis_answer ");
     wanted.extend(calls(&header, "\nuint32_t "));
     wanted.extend(calls(&header, "\nconst char *"));
-    assert_eq!(wanted.len(), 15, "{wanted:?}");
+    assert_eq!(wanted.len(), 38, "{wanted:?}");
     assert_eq!(calls(&sources, "pub fn "), wanted);
 }
 

@@ -11,6 +11,7 @@ fn the_clock_counts_microseconds() {
         sleep(Duration::from_millis(20));
         let (second, outer) = (now(), began.elapsed().as_micros());
         assert!(second - first >= 20_000);
-        assert!(u128::from(second - first) <= outer);
+        // Each number is cut to whole microseconds, so that the inner one may come out one more.
+        assert!(u128::from(second - first) <= outer + 1);
     }
 }

@@ -1,4 +1,4 @@
-use Rattle.std.proofs.Common.{◌≡◌, ◌≤◌, ℕ, List, length, ap, refl, arith}
+use Rattle.std.proofs.Common.{◌≡◌, ◌≤◌, length, ap, refl, arith}
 use Rattle.reis_eis.specs.declared.phase.Phase.{Phase}
 use Rattle.reis_eis.specs.Words.{unsent_in}
 use Rattle.reis_eis.specs.View.{EisView}

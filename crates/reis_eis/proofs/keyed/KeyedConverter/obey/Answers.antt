@@ -1,4 +1,4 @@
-use Rattle.std.proofs.Common.{◌≡◌, ℕ, List, Option, Some, refl, sym, ap, ◌∙◌}
+use Rattle.std.proofs.Common.{ℕ, List, Option, Some, sym, ◌∙◌}
 use Rattle.reis_eis.specs.Lent.{readings_left}
 use Rattle.reis_eis.proofs.Obeying.{taken, refused, stays, keys_stay}
 use Rattle.reis_eis.proofs.keyed.KeyedConverter.obey.Goals as goal

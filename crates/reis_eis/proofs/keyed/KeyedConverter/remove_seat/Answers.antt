@@ -1,6 +1,5 @@
-use Rattle.std.proofs.Common.{◌≡◌, ℕ, List, Some, refl, sym, ap, subst, ◌∙◌}
-use Rattle.std.specs.Prelude.{find, not}
-use Rattle.std.specs.List.{filter}
+use Rattle.std.proofs.Common.{◌≡◌, List, Some, refl, sym, ap, subst, ◌∙◌}
+use Rattle.std.specs.Prelude.{find}
 use Rattle.std.specs.Option.{option_copied}
 use Rattle.std.proofs.lemmas.Result.{err_from_is_err_and}
 use Rattle.ei_spec.specs.Interface.{ObjectView}
@@ -8,7 +7,7 @@ use Rattle.ei_request.specs.Held.{without_first}
 use Rattle.ei_request.specs.Keys.{DeviceKey}
 use Rattle.ei_request.specs.Connection.{ConnectionView}
 use Rattle.ei_request.specs.Removing.{RemovesSeat}
-use Rattle.reis_eis.specs.Keys.{HasKeys, names_seat, names_device_of}
+use Rattle.reis_eis.specs.Keys.{HasKeys, names_seat}
 use Rattle.reis_eis.proofs.Announcing.{wants_now}
 use Rattle.reis_eis.proofs.HeldKeys.{no_seat, seat_there, on_the_seat, removes_seat, keys_left}
 use Rattle.reis_eis.proofs.keyed.KeyedConverter.remove_seat.Goals as goal

@@ -1,16 +1,15 @@
-use Rattle.std.proofs.Common.{◌≡◌, ℕ, Option, Some, None, Result, Ok, Err, refl, sym, ap, subst, ◌∙◌, inl, inr}
+use Rattle.std.proofs.Common.{◌≡◌, Option, Some, Result, Ok, refl, sym, ap, subst, ◌∙◌, inl, inr}
 use Rattle.ei_types.specs.declared.error.Error.{Error}
 use Rattle.ei_backend.specs.Backend.{BackendView}
 use Rattle.ei_backend.specs.declared.message.PendingRequestResult.{PendingRequestResult}
 use Rattle.ei_backend.specs.declared.message.PendingRequestResult.TheVariants as pending
 use Rattle.ei_handshake.specs.declared.server.EisHandshakeResp.{EisHandshakeResp}
-use Rattle.ei_handshake.specs.Handshaker.{Handles}
 use Rattle.ei_server.specs.declared.request.Request.{Request}
 use Rattle.reis_eis.specs.declared.shaking.Shaken.{Shaken}
 use Rattle.reis_eis.specs.declared.shaking.Shaken.TheVariants as shaken
 use Rattle.reis_eis.specs.declared.step.Step.TheVariants as step
 use Rattle.reis_eis.specs.Words.{shaking_with}
-use Rattle.reis_eis.specs.Handling.{ShakesRead, shaken_by, IsGone, failed}
+use Rattle.reis_eis.specs.Handling.{ShakesRead, shaken_by, IsGone}
 use Rattle.reis_eis.proofs.HandshakeRead.{unread_stays, taken_out, shorter_then}
 use Rattle.reis_eis.proofs.shaking.Shaking.step.Goals as goal
 

@@ -1,0 +1,12 @@
+pub mod Fresh
+pub mod Agreeing
+pub mod Histories
+pub mod Carrying
+pub mod Inputting
+pub mod Sending
+pub mod Finding
+pub mod Removing
+pub mod Adding
+pub mod Conditions
+pub mod Beginning
+pub mod Reading

@@ -1,0 +1,3 @@
+pub mod Emitted
+pub mod Worked
+pub mod Emits

@@ -1,0 +1,114 @@
+-- What a step of the client comes to.
+use Rattle.std.proofs.Common.{◌≡◌, ℕ, Bool, true, false, List, Option, Some, None, Result, Ok, Err, inl, inr, refl, ap, subst, ◌∙◌}
+use Rattle.std.specs.Prelude.{is_some}
+use Rattle.ei_types.specs.declared.error.Error.{Error}
+use Rattle.ei_types.specs.declared.error.Error.TheVariants as error
+use Rattle.ei_types.specs.declared.error.HandshakeError.TheVariants as handshake_error
+use Rattle.ei_backend.specs.declared.message.PendingRequestResult.{PendingRequestResult}
+use Rattle.ei_backend.specs.declared.message.PendingRequestResult.TheVariants as pending
+use Rattle.ei_client.specs.declared.event.Event.{Event}
+use Rattle.ei_linked.specs.declared.side.Side.TheVariants as side
+use Rattle.ei_linked.specs.Held.{Keeps}
+use Rattle.ei_linked.specs.Ends.{EndsView, world_in}
+use Rattle.ei_linked.specs.TwoEnds.{WorldView, IsWorld, read_world, spent_world}
+use Rattle.ei_event.specs.Typed.{IsLawfulReason}
+use Rattle.ei_promises.specs.Pair.{PairView, ClientStage, Asks, Follows, converter_in, maps_in}
+use Rattle.ei_promises.specs.Stepping.{ReadsEvent, HandsEvent, MissesEvent, client_taken, StepsClient}
+use Rattle.ei_pair.specs.declared.server_end.ServerEnd.{ServerEnd}
+use Rattle.ei_pair.specs.ServerEnd.{endpoint_in, with_endpoint_in}
+use Rattle.ei_pair.specs.Parts.{PartsView, pair_in}
+use Rattle.ei_pair.specs.Stepped.{IsKept, TookEvent, client_answered}
+use Rattle.ei_pair.specs.Spent.{SpendsAtCall}
+use Rattle.ei_pair.proofs.Moved.{moved, moved_to, same_ends}
+use Rattle.ei_pair.proofs.Spent.{both_want, both_closed, next_closed}
+use Rattle.ei_pair.proofs.Reading.{no_event, same_maps}
+use Rattle.ei_pair.proofs.Steps.{wanted_none, unwanted, unrefused}
+
+-- ---- memory was wanted before
+
+-- the ends are as before, and memory was wanted
+pub wants_first : {H : Type 0} (may : H → ℕ → ℕ → Type 0) (p : PartsView H) (e : EndsView ServerEnd) (clock now : Option (List ℕ)) → world_in endpoint_in e ≡ world_in endpoint_in p.ends → Keeps endpoint_in with_endpoint_in p.ends.server e.server → now ≡ clock →
+    StepsClient may (pair_in p) clock now (Err error.NoMemory) (client_answered (Err error.NoMemory) (pair_in (record p { ends = e })))
+wants_first {H} may p e clock now same keeps unread =
+    let pair : pair_in (record p { ends = e }) ≡ pair_in p = moved_to p e (world_in endpoint_in p.ends) keeps same ∙ same_ends p in
+    inr (record {
+      answers = refl;
+      unread = unread;
+      leaves = ap (λ (v : PairView H). client_answered (Err error.NoMemory) v) pair ∙ ap (λ (b : Bool). let v : PairView H = record (pair_in p) { client_wanted = b } in v) (wanted_none p.client_wanted);
+    })
+
+-- what was taken isn't stored
+pub spent_first : {H : Type 0} (p : PartsView H) (e : EndsView ServerEnd) → world_in endpoint_in e ≡ spent_world side.Client (world_in endpoint_in p.ends) → Keeps endpoint_in with_endpoint_in p.ends.server e.server →
+    SpendsAtCall (pair_in p) (pair_in (record p { ends = e }))
+spent_first {H} p e is keeps =
+    let new : PairView H = pair_in (record p { ends = e }) in
+    record {
+      lists = record {
+        spent = ap (λ (w : WorldView). w.spent) is;
+        client_sent = ap (λ (w : WorldView). w.client.sent) is;
+        client_taken = ap (λ (w : WorldView). w.client.taken) is;
+        server_sent = ap (λ (w : WorldView). w.server.sent) is;
+        server_taken = ap (λ (w : WorldView). w.server.taken) is;
+        maps = ap (λ (v : PairView H). maps_in v) (moved p e keeps) ∙ same_maps (world_in endpoint_in e) (pair_in p);
+        receipts = refl;
+      };
+      wants = both_want (pair_in p) new refl refl;
+      steady = refl;
+      closed = both_closed (pair_in p) new
+          (λ was. ap (λ (w : WorldView). w.client.backend.closed) is ∙ next_closed true p.ends.client.context ∙ was)
+          (λ was. ap (λ (w : WorldView). w.server.backend.closed) is ∙ was);
+    }
+
+-- ---- a message was taken
+
+module _ {H : Type 0} (may : H → ℕ → ℕ → Type 0) (p : PartsView H) (e : EndsView ServerEnd) (clock now : Option (List ℕ)) (is : world_in endpoint_in e ≡ read_world side.Client (world_in endpoint_in p.ends)) (keeps : Keeps endpoint_in with_endpoint_in p.ends.server e.server) where
+  taken_is : pair_in (record p { ends = e }) ≡ client_taken (pair_in p)
+  taken_is = moved_to p e (read_world side.Client (world_in endpoint_in p.ends)) keeps is
+
+  read_so : (answer : Option (PendingRequestResult Event)) → ReadsEvent answer (pair_in p).ends (world_in endpoint_in e) → ReadsEvent answer (pair_in p).ends (client_taken (pair_in p)).ends
+  read_so answer reads = subst (λ (w : WorldView). ReadsEvent answer (pair_in p).ends w) is reads
+
+  -- nothing is there
+  pub steps_none : (pair_in p).ends.spent ≡ false → IsWorld (pair_in p).ends → ReadsEvent None (pair_in p).ends (world_in endpoint_in e) → now ≡ clock →
+      StepsClient may (pair_in p) clock now (Ok false) (client_answered (Ok false) (pair_in (record p { ends = e })))
+  steps_none whole world reads unread =
+      let same : world_in endpoint_in e ≡ world_in endpoint_in p.ends = is ∙ no_event (world_in endpoint_in p.ends) (world_in endpoint_in e) whole world reads in
+      let pair : pair_in (record p { ends = e }) ≡ pair_in p = moved_to p e (world_in endpoint_in p.ends) keeps same ∙ same_ends p in
+      let all : client_answered (Ok false) (pair_in (record p { ends = e })) ≡ pair_in p = ap (λ (v : PairView H). client_answered (Ok false) v) pair ∙ ap (λ (b : Bool). let v : PairView H = record (pair_in p) { client_wanted = b } in v) (unwanted p.client_wanted false) in
+      inl (record { answer = None; reason = tt; reads = read_so None reads; steps = (refl, all, unread) })
+
+  -- it has no target
+  pub steps_gone : (id : ℕ) (result : Result Bool Error) → ReadsEvent (Some (pending.InvalidObject id)) (pair_in p).ends (world_in endpoint_in e) → now ≡ clock →
+      MissesEvent (pair_in (record p { ends = e })).client id (pair_in (record p { ends = e })) result (client_answered result (pair_in (record p { ends = e }))) →
+      StepsClient may (pair_in p) clock now result (client_answered result (pair_in (record p { ends = e })))
+  steps_gone id result reads unread misses =
+      inl (record {
+        answer = Some (pending.InvalidObject id);
+        reason = tt;
+        reads = read_so (Some (pending.InvalidObject id)) reads;
+        steps = (subst (λ (t : PairView H). MissesEvent t.client id t result (client_answered result (pair_in (record p { ends = e })))) taken_is misses, unread);
+      })
+
+  -- it is handed on
+  pub took : (m : Event) → IsLawfulReason m → IsWorld (world_in endpoint_in e) → IsKept (pair_in p) → (pair_in p).ends.spent ≡ false → ReadsEvent (Some (pending.Request m)) (pair_in p).ends (world_in endpoint_in e) → TookEvent m (pair_in (record p { ends = e }))
+  took m reason world kept whole reads = record { reason = reason; world = world; old = pair_in p; kept = kept; whole = whole; reads = reads; is = taken_is }
+
+  pub steps_took : (m : Event) (result : Result Bool Error) (new : PairView H) → IsLawfulReason m → ReadsEvent (Some (pending.Request m)) (pair_in p).ends (world_in endpoint_in e) →
+      HandsEvent may (pair_in (record p { ends = e })).client m clock now (pair_in (record p { ends = e })) result new → StepsClient may (pair_in p) clock now result new
+  steps_took m result new reason reads hands =
+      inl (record {
+        answer = Some (pending.Request m);
+        reason = reason;
+        reads = read_so (Some (pending.Request m)) reads;
+        steps = subst (λ (t : PairView H). HandsEvent may t.client m clock now t result new) taken_is hands;
+      })
+
+-- ---- a target that isn't there
+
+pub misses_shaking : {H : Type 0} (s : ClientStage H) (id : ℕ) (q : PairView H) → is_some (converter_in s) ≡ false → MissesEvent s id q (Err (error.Handshake (handshake_error.InvalidObject id))) (client_answered (Err (error.Handshake (handshake_error.InvalidObject id))) q)
+misses_shaking {H} (Asks h) id q none = (refl, ap (λ (b : Bool). let v : PairView H = record q { client_wanted = b } in v) (unrefused q.client_wanted id))
+misses_shaking (Follows c) id q none = absurd cc
+
+pub misses_serving : {H : Type 0} (s : ClientStage H) (id : ℕ) (q : PairView H) → is_some (converter_in s) ≡ true → MissesEvent s id q (Ok true) (client_answered (Ok true) q)
+misses_serving (Asks h) id q some = absurd cc
+misses_serving {H} (Follows c) id q some = (refl, ap (λ (b : Bool). let v : PairView H = record q { client_wanted = b } in v) (unwanted q.client_wanted true))

@@ -1,0 +1,11 @@
+pub mod ServerEnd
+pub mod Parts
+pub mod Stages
+pub mod Stepped
+pub mod Spent
+pub mod Handed
+pub mod Lent
+pub mod Calls
+pub mod Asked
+pub mod Done
+pub mod Begun

@@ -1,0 +1,136 @@
+-- What each call does to the connection behind the word.
+use Rattle.std.specs.Prelude.{◌≡◌, ◌≢◌, ℕ, List, [], ◌∷◌, length, map, Bool, Option, Some, None, is_some}
+use Rattle.ei_types.specs.Capability.{bit_of}
+use Rattle.ei_types.specs.declared.capability.DeviceCapability.{DeviceCapability}
+use Rattle.ei_backend.specs.Outgoing.{unsent_after}
+use Rattle.ei_input.specs.declared.input_event.InputEvent.{InputEvent}
+use Rattle.ei_request.specs.Connection.{ConnectionView}
+use Rattle.ei_request.specs.declared.event.EisRequest.{EisRequest}
+use Rattle.ei_request.specs.declared.making.DeviceSetup.{DeviceSetup}
+use Rattle.reis_eis.specs.declared.call_error.CallError.{CallError}
+use Rattle.reis_eis.specs.View.{EisView}
+use Rattle.reis_eis.specs.Words.{queue_in, with_queue, unsent_in}
+use Rattle.reis_eis.specs.Starting.{started, with_unsent_in}
+use Rattle.reis_eis.specs.Feeding.{Feeds, end_of}
+use Rattle.reis_eis.specs.Refusals.{feed_answer, end_answer, sent_answer, adding_seat, adding_device, sending, disconnecting}
+use Rattle.reis_eis.specs.Acting.{AddsSeatAs, AddsDeviceAs, SendsInput, Ends, ActsOn, TellsEnd, IsKept, refusal, refusal_in, has_in}
+use Rattle.reis_c.specs.Answers.{outcome_number, reason_number}
+use Rattle.reis_c.specs.Describing.{item_of, items_of, type_of, device_fault}
+use Rattle.reis_c.specs.Flat.{flat, truth}
+use Rattle.reis_c.specs.Given.{Unless, named, set_of, text_fault, bits_fault}
+use Rattle.reis_c.specs.Handles.{handle_of}
+use Rattle.reis_c.specs.declared.device.ReisDevice.{ReisDevice}
+use Rattle.reis_c.specs.declared.device.ReisRegion.{ReisRegion}
+use Rattle.reis_c.specs.declared.flat.ReisRequest.{ReisRequest}
+use Rattle.reis_c.specs.declared.connection.HeldConnection.{HeldConnection}
+use Rattle.reis_c.specs.Numbers.{OK, CAPABILITIES, NO_MEMORY, NOTHING, GONE, INVALID}
+
+-- ---- what comes and goes
+
+-- it was just started with that serial: its greeting waits, and nothing was handed out
+abbrev pub begun : ℕ → HeldConnection
+begun serial = record { connection = started serial; last = None }
+
+-- It takes a piece, or answers why not and is as it was. What was handed out last stays.
+pub record FeedsConnection (bytes handles : List ℕ) (time answer : ℕ) (old new : HeldConnection) : Type 0 where
+  pub answers : answer ≡ outcome_number (feed_answer (is_some old.connection.ending) (length bytes) (length handles))
+  pub kept : answer ≢ OK → new ≡ old
+  pub feeds : answer ≡ OK → Feeds (record { bytes = bytes; handles = map handle_of handles }) time old.connection new.connection
+  pub last : new.last ≡ old.last
+
+-- the connection that ended for want of input
+abbrev pub without_input : EisView → EisView
+without_input c = record c { ending = Some (end_of c.phase) }
+
+-- It takes the end of the input, or answers that it is over and is as it was.
+pub record EndsConnection (answer : ℕ) (old new : HeldConnection) : Type 0 where
+  pub answers : answer ≡ outcome_number (end_answer (is_some old.connection.ending))
+  pub kept : answer ≢ OK → new ≡ old
+  pub ends : answer ≡ OK → new ≡ record old { connection = without_input old.connection }
+
+-- So many of the bytes that wait were sent, and with the first of them all handles; or so many don't wait, and all is as it was.
+pub record SendsBytes (bytes answer : ℕ) (old new : HeldConnection) : Type 0 where
+  pub answers : answer ≡ outcome_number (sent_answer bytes (length (unsent_in old.connection.phase).bytes))
+  pub kept : answer ≢ OK → new ≡ old
+  pub dropped : answer ≡ OK →
+      new ≡ record old { connection = with_unsent_in old.connection (unsent_after bytes (unsent_in old.connection.phase)) }
+
+-- the connection in which these requests wait
+abbrev pub awaiting : EisView → List EisRequest → EisView
+awaiting c requests = record c { phase = with_queue c.phase requests }
+
+-- the first of these requests is written, waits no more and is the last one; or there is none, and all is as it was
+abbrev pub HandsFirst : List EisRequest → ReisRequest → ℕ → ReisRequest → HeldConnection → HeldConnection → Type 0
+HandsFirst [] room answer request old new = (answer ≡ NOTHING) × (request ≡ room) × (new ≡ old)
+HandsFirst (r ∷ rest) room answer request old new =
+    (answer ≡ OK) × (request ≡ flat r) × (new ≡ record { connection = awaiting old.connection rest; last = Some r })
+
+-- It hands out the next request.
+abbrev pub HandsNext : ReisRequest → ℕ → ReisRequest → HeldConnection → HeldConnection → Type 0
+HandsNext room answer request old new = HandsFirst (queue_in old.connection.phase) room answer request old new
+
+-- ---- calls that are refused for a reason, or do something
+
+-- It does this, or answers the reason why not, or that memory ran out: then nothing changes but how much memory is ready.
+pub record Tries (reason : ConnectionView → Option CallError) (does : ConnectionView → ConnectionView → Type 0) (answer : ℕ)
+    (old new : HeldConnection) : Type 0 where
+  pub answers : answer ≢ NO_MEMORY → answer ≡ reason_number (refusal reason old.connection)
+  pub done : answer ≡ OK → ActsOn does old.connection new.connection
+  pub kept : answer ≢ OK → IsKept old.connection new.connection
+  pub last : new.last ≡ old.last
+
+-- The same, and memory runs out only where there is no reason.
+pub record Does (reason : ConnectionView → Option CallError) (does : ConnectionView → ConnectionView → Type 0) (answer : ℕ)
+    (old new : HeldConnection) : Type 0 where
+  pub tries : Tries reason does answer old new
+  pub memory : answer ≡ NO_MEMORY → refusal reason old.connection ≡ None
+
+-- a seat of that name and these capabilities is announced, and has that id
+abbrev pub AddsSeatTo : List ℕ → ℕ → ℕ → ℕ → HeldConnection → HeldConnection → Type 0
+AddsSeatTo name bits answer id old new =
+    Unless (bits_fault bits (text_fault name)) answer old new (Tries (adding_seat (named name)) (AddsSeatAs id (named name) (set_of bits)) answer old new)
+
+-- A device of that seat is announced, with the items of the description in their order, and has that id; or it is told why not.
+pub record Announces (seat : ℕ) (d : ReisDevice) (regions : List ReisRegion) (ids name : List ℕ) (answer id : ℕ) (old new : HeldConnection) : Type 0 where
+  pub setup : List DeviceSetup
+  pub items : map item_of setup ≡ items_of d regions ids
+  pub tries : Tries (adding_device seat (named name) (set_of d.capabilities) setup)
+      (AddsDeviceAs id seat (named name) (type_of d) (set_of d.capabilities) setup) answer old new
+
+-- The same, or memory ran out.
+pub record AnnouncesOr (seat : ℕ) (d : ReisDevice) (regions : List ReisRegion) (ids name : List ℕ) (answer id : ℕ) (old new : HeldConnection) : Type 0 where
+  pub announces : answer ≢ NO_MEMORY → Announces seat d regions ids name answer id old new
+  pub kept : answer ≡ NO_MEMORY → IsKept old.connection new.connection
+  pub last : new.last ≡ old.last
+
+-- the same where nothing is wrong with what was given
+abbrev pub AddsDeviceTo : ℕ → ReisDevice → List ReisRegion → List ℕ → List ℕ → ℕ → ℕ → HeldConnection → HeldConnection → Type 0
+AddsDeviceTo seat d regions ids name answer id old new =
+    Unless (device_fault d regions ids name) answer old new (AnnouncesOr seat d regions ids name answer id old new)
+
+-- The client is told that the connection ends, and it ends by that; or it is told why not.
+pub record EndsBy (reason : ℕ) (text : Option (List ℕ)) (answer : ℕ) (old new : HeldConnection) : Type 0 where
+  pub answers : answer ≢ NO_MEMORY → answer ≡ reason_number (refusal_in (disconnecting reason text) old.connection.phase)
+  pub memory : answer ≡ NO_MEMORY → refusal_in (disconnecting reason text) old.connection.phase ≡ None
+  pub done : answer ≡ OK → TellsEnd (Ends reason text) old.connection new.connection
+  pub kept : answer ≢ OK → IsKept old.connection new.connection
+  pub last : new.last ≡ old.last
+
+-- the same with the bytes of the text
+abbrev pub Disconnects : ℕ → List ℕ → ℕ → HeldConnection → HeldConnection → Type 0
+Disconnects reason text answer old new = Unless (text_fault text) answer old new (EndsBy reason (named text) answer old new)
+
+-- the input goes to the client; or there is none in what was given
+abbrev pub SendsTo : Option InputEvent → ℕ → ℕ → HeldConnection → HeldConnection → Type 0
+SendsTo None device answer old new = (answer ≡ INVALID) × (new ≡ old)
+SendsTo (Some input) device answer old new = Tries (sending device input) (SendsInput device input) answer old new
+
+-- it is told whether the device has it; or there is no such device
+abbrev pub TellsHas : Option Bool → ℕ → ℕ → Type 0
+TellsHas None answer has = (answer ≡ GONE) × (has ≡ 0)
+TellsHas (Some is) answer has = (answer ≡ OK) × (has ≡ truth is)
+
+-- It is told whether the device has the capability of that bit; or the bit is no capability's.
+pub record TellsDevice (device bit answer has : ℕ) (held : HeldConnection) : Type 0 where
+  pub told : (one : DeviceCapability) → bit_of one ≡ bit → TellsHas (has_in device one held.connection.phase) answer has
+  pub none : ((one : DeviceCapability) → bit_of one ≢ bit) → (answer ≡ CAPABILITIES) × (has ≡ 0)
