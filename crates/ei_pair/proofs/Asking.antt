@@ -126,6 +126,7 @@ module _ {H : Type 0} (p : PartsView H) (c : ServerConverter) (target : ObjectVi
       let pair : IsPair done = record { world = world_then; endpoint = refl } in
       record {
         does = λ _. record { left = left; makes = refl; answer_is = refl; leaves = same };
+        sends = ap (λ (q : PairView H). (end_of side.Server q.ends).sent) same;
         memory = λ t. absurd (not_both e.spent t still);
         spent = λ t. absurd (not_both e.spent t still);
         exhausted = ((λ x. absurd cc), (λ lacks. lacks h.0));
@@ -139,6 +140,7 @@ module _ {H : Type 0} (p : PartsView H) (c : ServerConverter) (target : ObjectVi
       let moves : pair_in then ≡ with_ends w (pair_in old) = moved_to old e w keeps is in
       record {
         does = λ _. record { ctx = w.server.backend; endpoint = refl; leaves = moves };
+        sends = tt;
         memory = λ t. absurd (not_both e.spent t still);
         spent = λ t. absurd (not_both e.spent t still);
         exhausted = ids;

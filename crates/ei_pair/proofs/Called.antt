@@ -27,6 +27,7 @@ use Rattle.ei_promises.specs.Pair.{ClientStage, Asks, Follows, Serves, PairView,
 use Rattle.ei_promises.specs.Stepping.{IsSpent}
 use Rattle.ei_promises.specs.Keeping.{Keeps}
 use Rattle.ei_promises.specs.Calling.{act_of, made_by, is_steady_call, messages_of, server_done_so}
+use Rattle.ei_promises.proofs.Storing.{stored_behind}
 use Rattle.ei_pair.specs.declared.server_end.ServerEnd.{ServerEnd}
 use Rattle.ei_pair.specs.declared.server_end.ServerEnd.TheVariants as end
 use Rattle.ei_pair.specs.ServerEnd.{endpoint_in}
@@ -94,6 +95,7 @@ module _ {H : Type 0} (p : PartsView H) (s : ServerCall) (c : ServerConverter) (
           endpoint = u.endpoint;
           leaves = ap (λ (d : ConnectionView). let q : PairView H = record (pair_in (on_end (with_left c left) p)) { server = Serves (record c { handle = d }) } in q) u.rest;
         };
+        sends = tt;
         memory = λ t. absurd (not_both p.ends.spent t whole);
         spent = λ t. absurd (not_both p.ends.spent t whole);
         exhausted = ids;
@@ -133,6 +135,7 @@ module _ {H : Type 0} (p : PartsView H) (s : ServerCall) (c : ServerConverter) (
         let keeps : Keeps done = doing (pair_in old) c s left whole sound.kept.pair sound.kept.keeps refl may made_so pair in
         record {
           does = λ _. record { left = left; makes = made_so; answer_is = is; leaves = same };
+          sends = stored_behind true (messages_of s w c.handle) w.server.sent (end_of side.Server w).sent (end_of side.Server w).taken refl written_so.calls;
           memory = λ t. absurd (not_both p.ends.spent t whole);
           spent = λ t. absurd (not_both p.ends.spent t whole);
           exhausted = comes_ok s made send_error.IdsExhausted (LacksIdsFor s c.handle) ids;
@@ -162,6 +165,7 @@ module _ {H : Type 0} (p : PartsView H) (s : ServerCall) (c : ServerConverter) (
         let world : IsWorld (pair_in new).ends = spent_kept w w.client (with_endpoint left.ctx w.server) w.to_client w.to_server refl refl refl refl sound.kept.pair.world in
         record {
           does = λ f. absurd cc;
+          sends = tt;
           memory = λ _. refl;
           spent = λ _. spends;
           exhausted = comes_other s send_error.NoMemory send_error.IdsExhausted (LacksIdsFor s c.handle) (λ e. cc) ids;

@@ -10,6 +10,7 @@ use Rattle.ei_wire.specs.declared.error.SendError.TheVariants as send_error
 use Rattle.ei_session.specs.Events.{resumed_event}
 use Rattle.ei_backend.specs.Table.{own_end}
 use Rattle.ei_ends.specs.Sent.{new_of}
+use Rattle.ei_ends.specs.Way.{onto}
 use Rattle.ei_ends.specs.Steps.{HasId}
 use Rattle.ei_values.specs.declared.value.Value.{Value}
 use Rattle.ei_linked.specs.declared.record.Record.{Record}
@@ -17,7 +18,7 @@ use Rattle.ei_linked.specs.Stored.{sent_view, as_known}
 use Rattle.ei_linked.specs.Asked.{asked, IsTooLong}
 use Rattle.ei_linked.specs.Ends.{EndsView}
 use Rattle.ei_linked.specs.declared.side.Side.TheVariants as side
-use Rattle.ei_linked.specs.TwoEnds.{WorldView, CallsTo}
+use Rattle.ei_linked.specs.TwoEnds.{WorldView, CallsTo, end_of}
 use Rattle.ei_request.specs.Held.{is_seat}
 use Rattle.ei_request.specs.Connection.{ConnectionView, holds_device}
 use Rattle.ei_request.specs.Connection.{Unchanged}
@@ -31,7 +32,7 @@ use Rattle.ei_promises.specs.declared.calls.ServerCall.{ServerCall}
 use Rattle.ei_promises.specs.declared.calls.ServerCall.TheVariants as call
 use Rattle.ei_promises.specs.declared.calls.Made.{Made}
 use Rattle.ei_promises.specs.Pair.{PairView, ClientStage, Asks, Follows, ServerStage, Shakes, Serves, with_ends}
-use Rattle.ei_promises.specs.Calling.{text_in, made_by, is_steady_call, MeetsServer, DoesAt, SyncsWith}
+use Rattle.ei_promises.specs.Calling.{text_in, made_by, is_steady_call, MeetsServer, messages_of, DoesAt, SyncsWith}
 use Rattle.ei_pair.specs.declared.server_end.ServerEnd.{ServerEnd}
 use Rattle.ei_pair.specs.declared.server_end.ServerEnd.TheVariants as end
 use Rattle.ei_pair.specs.Parts.{PartsView, pair_in}
@@ -184,9 +185,15 @@ abbrev pub MeetsAt : ServerCall → WorldView → ServerStage → Type 0
 MeetsAt s w (Shakes h) = ⊥
 MeetsAt s w (Serves c) = MeetsServer s w c.handle
 
+-- the messages of the server grew by those of the call
+abbrev pub SendsAt : {H : Type 0} → ServerStage → ServerCall → PairView H → PairView H → Type 0
+SendsAt (Shakes h) s old new = ⊥
+SendsAt (Serves c) s old new = (end_of side.Server new.ends).sent ≡ onto (messages_of s old.ends c.handle) (end_of side.Server old.ends).sent
+
 -- the server was asked for the call, and answered so
 pub record ServesCall {H : Type 0} (s : ServerCall) (old : PartsView H) (result : Result Made SendError) (new : PartsView H) : Type 0 where
   pub does : new.ends.spent ≡ false → DoesAt (pair_in old).server s (pair_in old) result (pair_in new)
+  pub sends : OnOk result (SendsAt (pair_in old).server s (pair_in old) (pair_in new))
   pub memory : new.ends.spent ≡ true → IsErrOf result send_error.NoMemory
   pub spent : new.ends.spent ≡ true → SpendsAtCall (pair_in old) (pair_in new)
   pub exhausted : ComesExactly s result send_error.IdsExhausted (LacksIdsAt (pair_in old).server s)

@@ -18,7 +18,8 @@ ghost use Rattle.ei_promises.specs.Promises.{SettlesTheSame, CallsInTime, Comple
 ghost use Rattle.ei_promises.specs.Promises.{TakesAll};
 ghost use Rattle.ei_pair.specs.Done.{TellsDone, HasFirstIds};
 ghost use Rattle.ei_pair.specs.Spent.{SpendsAtCall, SpendsAtStep};
-ghost use Rattle.ei_pair.specs.Calls.{ComesExactly, LacksIdsAt, IsLongAt};
+ghost use Rattle.ei_pair.specs.Stepped.{IsKept};
+ghost use Rattle.ei_pair.specs.Calls.{SendsAt, ComesExactly, LacksIdsAt, IsLongAt};
 ghost use Rattle.ei_pair.specs.Asked.{MeetsClient, AsksAt, RefusesSync};
 ghost use Rattle.ei_pair.specs.Lent.{first_event, without_event, first_request, without_request};
 
@@ -87,10 +88,12 @@ impl<H: Call> Pair<H> {
         self.parts.ends.sent(side)
     }
 
-    /// What the side took, the first first: one by one what the other sent, but for what is dropped.
+    /// What the side took, the first first: one by one what the other sent, but for what is dropped. What a pair keeps at
+    /// any time may be relied on.
     pub fn taken(&self, side: Side) -> &[Got]
         ensures taken { reverse result.now ≡ (stored_of side self.now.ends).taken }
         ensures agrees { Agrees side self.now.ends }
+        ensures keeps { IsKept self.now }
     {
         self.parts.ends.taken(side)
     }
@@ -258,6 +261,7 @@ impl<H: Call> Pair<H> {
         requires done { is_done of_side.Server self.old ≡ true }
         requires may { (c : ServerConverter) → self.old.server ≡ Serves c → MeetsServer call self.old.ends c.handle }
         ensures does { self.new.ends.spent ≡ false → DoesAt self.old.server call.entry self.old result self.new }
+        ensures sends { OnOk result (SendsAt self.old.server call.entry self.old self.new) }
         // when it is refused
         ensures exhausted { ComesExactly call.entry result send_error.IdsExhausted
             (LacksIdsAt self.old.server call.entry) }

@@ -9,6 +9,7 @@ pub mod Refusals
 pub mod Handling
 pub mod Feeding
 pub mod Passing
+pub mod Steps
 pub mod Acting
 -- what the clauses cite of the crates below
 pub use Rattle.ei_types.specs.Capability

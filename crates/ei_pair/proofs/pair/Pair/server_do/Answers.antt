@@ -1,11 +1,12 @@
 -- A call of the server, once its handshake is done: as the parts make it.
 use Rattle.std.proofs.Common.{◌≡◌, false, sym, ap, subst, ◌∙◌}
+use Rattle.std.specs.Prelude.{OnOk}
 use Rattle.ei_promises.specs.Pair.{PairView}
 use Rattle.ei_wire.specs.declared.error.SendError.TheVariants as send_error
 use Rattle.ei_promises.specs.Calling.{DoesAt}
 use Rattle.ei_pair.specs.Parts.{pair_in}
 use Rattle.ei_pair.specs.Spent.{SpendsAtCall}
-use Rattle.ei_pair.specs.Calls.{MeetsAt, ComesExactly, LacksIdsAt, IsLongAt}
+use Rattle.ei_pair.specs.Calls.{MeetsAt, SendsAt, ComesExactly, LacksIdsAt, IsLongAt}
 use Rattle.ei_pair.proofs.Meeting.{meets_at}
 use Rattle.ei_pair.proofs.pair.Pair.server_do.Goals as goal
 
@@ -21,6 +22,9 @@ invariant_of-self g c = record { sound = c.server_do.ensures.sound; tells = λ n
 
 pub returns-clause-does : goal.returns-clause-does
 returns-clause-does g c = subst (λ (p : PairView g.row.H.Denot). c.server_do.new.self.ends.spent ≡ false → DoesAt p.server c.args.call p c.server_do.result (pair_in c.server_do.new.self)) c.self.view_is c.server_do.ensures.does
+
+pub returns-clause-sends : goal.returns-clause-sends
+returns-clause-sends g c = subst (λ (p : PairView g.row.H.Denot). OnOk c.server_do.result (SendsAt p.server c.args.call p (pair_in c.server_do.new.self))) c.self.view_is c.server_do.ensures.sends
 
 pub returns-clause-exhausted : goal.returns-clause-exhausted
 returns-clause-exhausted g c = subst (λ (p : PairView g.row.H.Denot). ComesExactly c.args.call c.server_do.result send_error.IdsExhausted (LacksIdsAt p.server c.args.call)) c.self.view_is c.server_do.ensures.exhausted

@@ -1,0 +1,10 @@
+pub mod Steps
+pub mod Carried
+pub mod Heard
+pub mod Held
+pub mod Queued
+pub mod Targets
+pub mod Stands
+pub mod Shaken
+pub mod Performing
+pub mod Emits
