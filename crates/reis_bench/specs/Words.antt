@@ -11,3 +11,5 @@ IsWithin (rows.Client messages) = Unit {0}
 IsWithin (rows.Events groups) = Unit {0}
 IsWithin (rows.Handshake messages) = Unit {0}
 IsWithin (rows.Session doing) = Unit {0}
+IsWithin (rows.Sends groups) = Unit {0}
+IsWithin (rows.Tells groups) = Unit {0}

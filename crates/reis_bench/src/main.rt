@@ -10,6 +10,7 @@ ghost use Rattle.reis_bench.specs.Words.{IsWithin};
 
 mod announcing;
 mod client;
+mod connection;
 mod events;
 mod handshake;
 mod outside;

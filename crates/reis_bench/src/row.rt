@@ -4,7 +4,7 @@ ghost use Rattle.reis_bench.specs.Words.{IsWithin};
 
 use crate::tally::Tally;
 use crate::words::Row;
-use crate::{client, events, handshake, parse, send, session};
+use crate::{client, connection, events, handshake, parse, send, session};
 use ei_types::Error;
 use std::alloc::Global;
 
@@ -30,5 +30,7 @@ pub(crate) fn run(alloc: Global, row: Row) -> Result<Outcome, Error>
         Row::Events(groups) => events::row(alloc, groups),
         Row::Handshake(messages) => handshake::row(alloc, messages),
         Row::Session(doing) => session::row(alloc, doing),
+        Row::Sends(groups) => connection::sends(alloc, groups),
+        Row::Tells(groups) => connection::tells(alloc, groups),
     }
 }

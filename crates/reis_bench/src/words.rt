@@ -7,7 +7,7 @@ use crate::session::Doing;
 
 /// What is written where the words are refused.
 pub(crate) const USAGE: &str =
-    "usage: reis_bench parse <piece> <groups> | send <messages> | client <messages> | events <groups> | handshake <messages> | session <devices> <released> <descriptors> <groups>";
+    "usage: reis_bench parse <piece> <groups> | send <messages> | client <messages> | events <groups> | handshake <messages> | session <devices> <released> <descriptors> <groups> | connection sends|tells <groups>";
 
 /// The most bytes of a piece.
 const PIECE: u32 = 65536;
@@ -36,6 +36,10 @@ pub(crate) enum Row {
     Handshake(u32),
     /// A session over a client that asks for devices, releases the first of them, and sends input to the last.
     Session(Doing),
+    /// A connection for a policy of one's own, whose client sends so many groups of a motion, a key and a frame.
+    Sends(u32),
+    /// The same, whose client is told of as many.
+    Tells(u32),
 }
 
 /// The number of a decimal up to the limit.
@@ -93,6 +97,12 @@ impl Row {
             }
             [row, messages] if row.as_str() == "handshake" => {
                 Some(Row::Handshake(number(messages.as_str(), MESSAGES)?))
+            }
+            [row, what, groups] if row.as_str() == "connection" && what.as_str() == "sends" => {
+                Some(Row::Sends(number(groups.as_str(), GROUPS)?))
+            }
+            [row, what, groups] if row.as_str() == "connection" && what.as_str() == "tells" => {
+                Some(Row::Tells(number(groups.as_str(), GROUPS)?))
             }
             [row, doing @ ..] if row.as_str() == "session" => {
                 Some(Row::Session(doing_from_words(doing)?))

@@ -1,10 +1,10 @@
-//! The calls of `reis.h`, as they stand there: a server's session of the ei protocol, and a connection without a policy, for a program
-//! with a loop of its own.
+//! The calls of `reis.h`, as they stand there: a server's session of the ei protocol, and a connection without a policy, for a
+//! program with a loop of its own.
 //!
-//! These are the raw declarations, by hand. The crate `paltukwi` is the safe face of those of a session, and `reis.h` says what each call
+//! These are the raw declarations, by hand. The crate `paltukwi` is the safe face of them, and `reis.h` says what each call
 //! does, who owns what, and what a caller must see to. In short: a [`reis_session`] is all zero before [`reis_session_start`],
 //! stays on its thread, and is used in one place alone; what [`reis_session_unsent`] lends is read before the next call on the
-//! session.
+//! session. All this is so for a [`reis_connection`] too.
 //!
 //! A number of the library is a type of its own, as [`reis_kind`], with constants: any number may stand in it, also one that
 //! isn't named here.

@@ -145,6 +145,39 @@ fn each_view_is_that_of_the_header() {
     assert_eq!(fields(&sources, "pub union reis_fields ", of_source), wanted);
 }
 
+/// The type of a field of the header as Rust has it.
+fn rust_type(declared: &str) -> String {
+    match declared.strip_prefix("const ") {
+        Some(items) => format!("*const {}", rust_type(items.trim_end_matches([' ', '*']))),
+        None => match declared {
+            "size_t" => "usize".to_string(),
+            "float" => "f32".to_string(),
+            "char" => "c_char".to_string(),
+            "uint32_t" | "uint64_t" => format!("u{}", &declared[4..6]),
+            named => named.to_string(),
+        },
+    }
+}
+
+#[test]
+fn a_device_and_a_region_are_those_of_the_header() {
+    let (header, sources) = (header(), sources());
+    let of_header = |line: &str| {
+        let at = line.find(';')?;
+        let (declared, name) = line[..at].rsplit_once([' ', '*'])?;
+        Some(format!("{name}: {}", rust_type(declared)))
+    };
+    let of_source = |line: &str| {
+        let field = line.strip_prefix("pub ")?.strip_suffix(',')?;
+        Some(field.trim_start_matches("r#").to_string())
+    };
+    for (name, count) in [("reis_region", 7), ("reis_device", 14)] {
+        let wanted = fields(&header, &format!("typedef struct {name} "), of_header);
+        assert_eq!(wanted.len(), count, "{wanted:?}");
+        assert_eq!(fields(&sources, &format!("pub struct {name} "), of_source), wanted);
+    }
+}
+
 #[test]
 fn each_answer_kind_and_end_has_its_name() {
     use paltukwi_sys::*;
@@ -212,4 +245,88 @@ fn what_is_no_session_is_answered() {
     assert_eq!(unsafe { reis_session_start(null_mut(), 1, 127, 1) }, REIS_NULL);
     // SAFETY: a null is answered.
     assert_eq!(unsafe { reis_session_free(null_mut()) }, REIS_NULL);
+}
+
+/// No connection: each call answers that.
+#[test]
+fn what_is_no_connection_is_answered() {
+    use paltukwi_sys::*;
+    use std::ptr::{null, null_mut};
+    let mut it = reis_connection::none();
+    let mut request = reis_request::none();
+    let (mut count, mut handle_count, mut end) = (7, 7, reis_end(7));
+    let (mut bytes, mut handles) = (null(), null());
+    let mut context_type = reis_context_type(7);
+    // SAFETY: each pointer is one of its type or null, and each count beside a null is 0.
+    let answers = unsafe {
+        [
+            reis_connection_feed(&mut it, null(), 0, null(), 0, 0),
+            reis_connection_end_of_input(&mut it),
+            reis_connection_unsent(
+                &mut it,
+                &mut bytes,
+                &mut count,
+                &mut handles,
+                &mut handle_count,
+            ),
+            reis_connection_sent(&mut it, 0),
+            reis_connection_client(&mut it, &mut context_type, null_mut(), 0, &mut count),
+            reis_connection_next_request(&mut it, &mut request),
+            reis_connection_request_text(&mut it, null_mut(), 0, &mut count),
+            reis_connection_end(&mut it, &mut end),
+            reis_connection_disconnect(&mut it, REIS_REASON_ERROR, null(), 0),
+            reis_connection_free(&mut it),
+        ]
+    };
+    assert_eq!(answers, [REIS_NO_SESSION; 10]);
+    assert_eq!((count, handle_count, end), (0, 0, REIS_END_GOES_ON));
+    assert_eq!(context_type, reis_context_type(0));
+    // SAFETY: a null is answered.
+    assert_eq!(unsafe { reis_connection_start(null_mut(), 1) }, REIS_NULL);
+}
+
+#[test]
+fn no_seat_and_no_device_of_no_connection() {
+    use paltukwi_sys::*;
+    use std::ptr::null;
+    let mut it = reis_connection::none();
+    let (mut seat, mut device, mut has) = (7, 7, 7);
+    let described = reis_device {
+        size: size_of::<reis_device>(),
+        name: null(),
+        name_length: 0,
+        capabilities: 0,
+        r#type: REIS_DEVICE_VIRTUAL,
+        width: 0,
+        height: 0,
+        keymap_type: REIS_KEYMAP_NONE,
+        keymap: 0,
+        keymap_size: 0,
+        regions: null(),
+        region_count: 0,
+        mapping_ids: null(),
+        mapping_ids_length: 0,
+    };
+    let other = reis_device { size: size_of::<reis_device>() - 1, ..described };
+    // SAFETY: each pointer is one of its type or null, and each count beside a null is 0.
+    let (answers, of_another_size) = unsafe {
+        let answers = [
+            reis_connection_add_seat(&mut it, null(), 0, 1, &mut seat),
+            reis_connection_remove_seat(&mut it, 1),
+            reis_connection_add_device(&mut it, 1, &described, &mut device),
+            reis_connection_remove_device(&mut it, 1),
+            reis_connection_resume(&mut it, 1),
+            reis_connection_pause(&mut it, 1),
+            reis_connection_device_has(&mut it, 1, 1, &mut has),
+            reis_connection_modifiers(&mut it, 1, 0, 0, 0, 0),
+            reis_connection_start_emulating(&mut it, 1, 1),
+            reis_connection_stop_emulating(&mut it, 1),
+            reis_connection_frame(&mut it, 1, 1),
+            reis_connection_send(&mut it, &reis_request::none(), null(), 0),
+        ];
+        (answers, reis_connection_add_device(&mut it, 1, &other, &mut device))
+    };
+    assert_eq!(answers, [REIS_NO_SESSION; 12]);
+    assert_eq!((seat, device, has), (0, 0, 0));
+    assert_eq!(of_another_size, REIS_SIZE);
 }

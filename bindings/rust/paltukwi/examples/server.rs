@@ -50,6 +50,7 @@ fn end_text(end: &End) -> String {
     match end {
         End::Disconnected => "end 1".to_string(),
         End::EndOfInput => "end 2".to_string(),
+        End::Told => "end 3".to_string(),
         End::Failed(error) => format!("end {} {error}", error.number()),
     }
 }

@@ -5,7 +5,8 @@ use std::ops::{BitAnd, BitOr};
 
 /// A set of capabilities: the bits of a mask, as they cross the wire.
 ///
-/// It may hold bits that stand for none; [`Session::start`](crate::Session::start) refuses those.
+/// It may hold bits that stand for none; [`Session::start`](crate::Session::start) and the calls of a [`Link`](crate::Link)
+/// refuse those.
 #[derive(Clone, Copy, Default, PartialEq, Eq, Hash)]
 pub struct Capabilities(u64);
 

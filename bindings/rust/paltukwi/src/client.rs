@@ -11,6 +11,14 @@ pub struct Client {
     pub context_type: ContextType,
 }
 
+impl Client {
+    /// The client of that name, which is empty where it gave none.
+    pub(crate) fn of(name: String, context_type: sys::reis_context_type) -> Client {
+        let name = Some(name).filter(|name| !name.is_empty());
+        Client { name, context_type: ContextType::of(context_type) }
+    }
+}
+
 /// What a client is.
 #[derive(Clone, Copy, Debug, PartialEq, Eq, Hash)]
 #[non_exhaustive]

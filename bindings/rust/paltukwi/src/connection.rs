@@ -1,13 +1,11 @@
 //! A session over a socket.
 
+use crate::socket::{Socket, PIECE};
 use crate::wait::Interest;
-use crate::{system, Client, End, Request, Session, Setup, StartError};
-use std::io::{self, ErrorKind};
+use crate::{Client, End, Request, Session, Setup, StartError};
+use std::io;
 use std::os::fd::{AsFd, BorrowedFd};
 use std::os::unix::net::UnixStream;
-
-/// The most bytes that are read at a time: they are one piece of the session's.
-const PIECE: usize = 16384;
 
 /// A client: its socket and its session.
 ///
@@ -25,10 +23,9 @@ const PIECE: usize = 16384;
 #[derive(Debug)]
 pub struct Connection {
     session: Session,
-    stream: UnixStream,
+    socket: Socket,
     writes: bool,
     over: bool,
-    closed_descriptors: u64,
 }
 
 impl Connection {
@@ -40,10 +37,9 @@ impl Connection {
     pub fn open(stream: UnixStream, setup: &Setup) -> Result<Connection, StartError> {
         Ok(Connection {
             session: Session::start(setup)?,
-            stream,
+            socket: Socket::new(stream),
             writes: true,
             over: false,
-            closed_descriptors: 0,
         })
     }
 
@@ -95,19 +91,15 @@ impl Connection {
     /// How many descriptors the client passed; each was closed as it came.
     #[must_use]
     pub fn closed_descriptors(&self) -> u64 {
-        self.closed_descriptors
+        self.socket.closed_descriptors()
     }
 
     /// Reads one piece, and feeds it to the session; the end of the input too. Whether there was one.
     fn read(&mut self, time: u64) -> io::Result<bool> {
         let mut piece = [0; PIECE];
-        let Some((count, descriptors)) =
-            unless_it_waits(|| system::receive(self.stream.as_fd(), &mut piece))?
-        else {
+        let Some(count) = self.socket.read(&mut piece)? else {
             return Ok(false);
         };
-        self.closed_descriptors += descriptors.len() as u64;
-        drop(descriptors);
         let taken = match count {
             0 => self.session.end_of_input(),
             _ => self.session.feed(&piece[..count], &[], time),
@@ -126,8 +118,7 @@ impl Connection {
                 self.writes = false;
                 break;
             }
-            let send = || system::send_some(self.stream.as_fd(), unsent.bytes);
-            let Some(count) = unless_it_waits(send)? else {
+            let Some(count) = self.socket.write(unsent.bytes, &[])? else {
                 break;
             };
             self.session.sent(count, handles).map_err(io::Error::other)?;
@@ -136,21 +127,9 @@ impl Connection {
     }
 }
 
-/// What was done; `None` where it can't be done now. A signal that comes in between changes nothing.
-fn unless_it_waits<T>(mut call: impl FnMut() -> io::Result<T>) -> io::Result<Option<T>> {
-    loop {
-        match call() {
-            Ok(done) => return Ok(Some(done)),
-            Err(error) if error.kind() == ErrorKind::WouldBlock => return Ok(None),
-            Err(error) if error.kind() == ErrorKind::Interrupted => {}
-            Err(error) => return Err(error),
-        }
-    }
-}
-
 /// For a loop of the program's own. Read and write nothing there.
 impl AsFd for Connection {
     fn as_fd(&self) -> BorrowedFd<'_> {
-        self.stream.as_fd()
+        self.socket.as_fd()
     }
 }

@@ -1,7 +1,11 @@
 //! A server's end of the ei protocol, for input of other programs: a compositor's side of libei.
 //!
-//! Begin with [`Listener`], which clients connect to, and [`Connection`], one client of it. A program that owns its sockets in
-//! another way begins with [`Session`], which takes bytes and gives bytes and [requests](Request).
+//! Begin with [`Listener`], which clients connect to. One client of it is one of these:
+//!
+//! | | over its socket | bytes in, bytes and [requests](Request) out, for a program that owns its sockets in another way |
+//! |---|---|---|
+//! | with the library's policy: one seat, and a device for what the client binds | [`Connection`] | [`Session`] |
+//! | with a policy of the program's own: seats and devices as it likes, and input to a receiver | [`Peer`] | [`Link`] |
 //!
 //! ```no_run
 //! use paltukwi::{now, wait, Connection, Interest, Listener, Setup};
@@ -25,7 +29,9 @@
 //! ```
 //!
 //! It stands on libreis, by the crate `paltukwi-sys`. What libreis answers is proved; these bindings are tested. There is no
-//! client's end here, and no policy but the one that libreis has: one seat, and devices for what a client binds.
+//! client's end here.
+
+mod answers;
 
 mod capabilities;
 pub use capabilities::Capabilities;
@@ -39,25 +45,38 @@ pub use clock::now;
 mod connection;
 pub use connection::Connection;
 
+mod device;
+pub use device::{DeviceSetup, DeviceType, Keymap, KeymapFile, Modifiers, Region};
+
 mod end;
-pub use end::{End, SessionError};
+pub use end::{End, Reason, SessionError};
 
 mod error_kind;
 pub use error_kind::ErrorKind;
 
 mod errors;
-pub use errors::{FeedError, NotUnsent, StartError};
+pub use errors::{FeedError, NotUnsent, StartError, TellError};
+
+mod fields;
+
+mod link;
+pub use link::Link;
 
 mod listener;
 pub use listener::{BindError, Listener, MOST_NAMES};
 
 mod path;
 
+mod peer;
+pub use peer::Peer;
+
 mod request;
-pub use request::{DeviceId, Request, SeatId};
+pub use request::{DeviceId, Input, Request, SeatId};
 
 mod session;
 pub use session::{check_version, Session, Setup, Unsent, MOST_BYTES, MOST_HANDLES};
+
+mod socket;
 
 mod system;
 

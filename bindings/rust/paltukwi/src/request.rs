@@ -1,15 +1,15 @@
-//! What a client asks for.
+//! What a client asks for, and the inputs among it, which a client that receives is told.
 
+use crate::fields::{fields_of, Field, Fields, Part};
 use crate::Capabilities;
 use paltukwi_sys as sys;
 use std::fmt;
-use std::mem;
 
-/// The id of a seat.
+/// The id of a seat: no connection gives it twice, and it is nothing to another one.
 #[derive(Clone, Copy, Debug, PartialEq, Eq, PartialOrd, Ord, Hash)]
 pub struct SeatId(pub u64);
 
-/// The id of a device.
+/// The id of a device: no connection gives it twice, and it is nothing to another one.
 #[derive(Clone, Copy, Debug, PartialEq, Eq, PartialOrd, Ord, Hash)]
 pub struct DeviceId(pub u64);
 
@@ -78,9 +78,18 @@ macro_rules! show {
     };
 }
 
-/// The requests, a row each: its name, its kind and its name in the library, whose it is and when it was made, and its fields in
-/// the library's order.
+/// The requests, a row each: those that are no input, and the inputs, which all are a device's and have a time. Both enums are
+/// made of these rows.
 macro_rules! requests {
+    ({ $($request:tt)* } { $($(#[doc = $doc:literal])+ $name:ident = $kind:ident $line:literal { $($field:tt)* })+ }) => {
+        request_enum! { $($request)* $($(#[doc = $doc])+ $name = $kind $line (seat device time) { $($field)* })+ }
+        input_enum! { $($(#[doc = $doc])+ $name = $kind $line { $($field)* })+ }
+    };
+}
+
+/// The enum of requests: of each its name, its kind and its name in the library, whose it is and when it was made, and its
+/// fields in the library's order.
+macro_rules! request_enum {
     ($($(#[doc = $doc:literal])+
     $name:ident = $kind:ident $line:literal ($($part:ident)+) { $($field:ident: $of:ty),* })+) => {
         /// A request of a client.
@@ -168,53 +177,119 @@ macro_rules! requests {
     };
 }
 
+/// The enum of inputs: of each its name, its kind and its name in the library, and its fields in the library's order.
+macro_rules! input_enum {
+    ($($(#[doc = $doc:literal])+ $name:ident = $kind:ident $line:literal { $($field:ident: $of:ty),* })+) => {
+        /// An input of a device: what a client that sends asks for, and what one that receives is told.
+        ///
+        /// [`Link::send`](crate::Link::send) tells it. The fields are those of the [`Request`] of the same name.
+        #[derive(Clone, Debug, PartialEq)]
+        #[non_exhaustive]
+        #[allow(missing_docs)] // the fields: what they mean stands at the requests, or at their variant
+        pub enum Input {
+            $($(#[doc = $doc])+
+            $name { $($field: $of),* },)+
+        }
+
+        impl Input {
+            /// The name of its kind, in small letters.
+            #[must_use]
+            pub fn name(&self) -> &'static str {
+                match self {
+                    $(Input::$name { .. } => $line,)+
+                }
+            }
+
+            /// The input of a device, as the library reads it.
+            pub(crate) fn raw(&self, device: DeviceId) -> sys::reis_request {
+                let (kind, of) = match self {
+                    $(Input::$name { $($field),* } => (sys::$kind, fields_of([$($field.number()),*])),)+
+                };
+                sys::reis_request { kind, device: device.0, of, ..sys::reis_request::none() }
+            }
+
+            /// The text of a text; empty where it is another input.
+            pub(crate) fn text(&self) -> &str {
+                match self {
+                    Input::TextUtf8 { text } => text,
+                    _ => "",
+                }
+            }
+
+            fn write_fields(&self, f: &mut fmt::Formatter<'_>) -> fmt::Result {
+                match self {
+                    $(Input::$name { $($field),* } => {
+                        $(show!(f, $field, $field)?;)*
+                        Ok(())
+                    })+
+                }
+            }
+        }
+
+        impl Request {
+            /// The input that it is, without its device and its time; `None` where it is none.
+            #[must_use]
+            pub fn input(&self) -> Option<Input> {
+                match self {
+                    $(Request::$name { $($field,)* .. } => Some(Input::$name { $($field: $field.to_owned()),* }),)+
+                    _ => None,
+                }
+            }
+        }
+    };
+}
+
 requests! {
-    /// It wants devices of these capabilities.
-    Bind = REIS_KIND_BIND "bind" (seat) { capabilities: Capabilities }
-    /// It wants the device no more.
-    DeviceClosed = REIS_KIND_DEVICE_CLOSED "device_closed" (seat device) {}
-    /// It asks for one more device with these capabilities.
-    RequestDevice = REIS_KIND_REQUEST_DEVICE "request_device" (seat) { capabilities: Capabilities }
-    /// The inputs of the device before it belong together.
-    Frame = REIS_KIND_FRAME "frame" (seat device time) { serial: u32 }
-    /// It has taken note of the device.
-    Ready = REIS_KIND_READY "ready" (seat device) {}
-    /// It begins to send input of the device; `sequence` is a number of its own choice.
-    StartEmulating = REIS_KIND_START_EMULATING "start_emulating" (seat device) { serial: u32, sequence: u32 }
-    /// It sends no more.
-    StopEmulating = REIS_KIND_STOP_EMULATING "stop_emulating" (seat device) { serial: u32 }
-    /// The pointer moved by a distance.
-    PointerMotion = REIS_KIND_POINTER_MOTION "pointer_motion" (seat device time) { dx: f32, dy: f32 }
-    /// The pointer moved to a position in a region.
-    PointerMotionAbsolute = REIS_KIND_POINTER_MOTION_ABSOLUTE "pointer_motion_absolute" (seat device time) { x: f32, y: f32 }
-    /// A button went down or up.
-    Button = REIS_KIND_BUTTON "button" (seat device time) { button: u32, pressed: bool }
-    /// It scrolled by a distance.
-    ScrollDelta = REIS_KIND_SCROLL_DELTA "scroll_delta" (seat device time) { dx: f32, dy: f32 }
-    /// Scrolling stopped, on the axes that are true.
-    ScrollStop = REIS_KIND_SCROLL_STOP "scroll_stop" (seat device time) { x: bool, y: bool }
-    /// Scrolling stopped on the axes that are true, and nothing may scroll on by itself.
-    ScrollCancel = REIS_KIND_SCROLL_CANCEL "scroll_cancel" (seat device time) { x: bool, y: bool }
-    /// It scrolled by steps: a click of a wheel is 120.
-    ScrollDiscrete = REIS_KIND_SCROLL_DISCRETE "scroll_discrete" (seat device time) { dx: i32, dy: i32 }
-    /// A key went down or up.
-    Key = REIS_KIND_KEY "key" (seat device time) { key: u32, pressed: bool }
-    /// A touch begins at a position.
-    TouchDown = REIS_KIND_TOUCH_DOWN "touch_down" (seat device time) { touch: u32, x: f32, y: f32 }
-    /// A touch moved to a position.
-    TouchMotion = REIS_KIND_TOUCH_MOTION "touch_motion" (seat device time) { touch: u32, x: f32, y: f32 }
-    /// A touch ended.
-    TouchUp = REIS_KIND_TOUCH_UP "touch_up" (seat device time) { touch: u32 }
-    /// A touch ended and is not to count.
-    TouchCancel = REIS_KIND_TOUCH_CANCEL "touch_cancel" (seat device time) { touch: u32 }
-    /// A keysym, by its number in XKB, went down or up.
-    TextKeysym = REIS_KIND_TEXT_KEYSYM "text_keysym" (seat device time) { keysym: u32, pressed: bool }
-    /// A text of 1 to 254 bytes. It is the client's: it may hold what a terminal obeys.
-    TextUtf8 = REIS_KIND_TEXT_UTF8 "text_utf8" (seat device time) { text: String }
-    /// Fingers moved together by a distance.
-    GestureSwipe = REIS_KIND_GESTURE_SWIPE "gesture_swipe" (seat device time) { fingers: u32, dx: f32, dy: f32 }
-    /// Fingers moved apart or together: how far apart they are, against where they began.
-    GesturePinch = REIS_KIND_GESTURE_PINCH "gesture_pinch" (seat device time) { scale: f32 }
+    {
+        /// It wants devices of these capabilities.
+        Bind = REIS_KIND_BIND "bind" (seat) { capabilities: Capabilities }
+        /// It wants the device no more.
+        DeviceClosed = REIS_KIND_DEVICE_CLOSED "device_closed" (seat device) {}
+        /// It asks for one more device with these capabilities.
+        RequestDevice = REIS_KIND_REQUEST_DEVICE "request_device" (seat) { capabilities: Capabilities }
+        /// The inputs of the device before it belong together.
+        Frame = REIS_KIND_FRAME "frame" (seat device time) { serial: u32 }
+        /// It has taken note of the device.
+        Ready = REIS_KIND_READY "ready" (seat device) {}
+        /// It begins to send input of the device; `sequence` is a number of its own choice.
+        StartEmulating = REIS_KIND_START_EMULATING "start_emulating" (seat device) { serial: u32, sequence: u32 }
+        /// It sends no more.
+        StopEmulating = REIS_KIND_STOP_EMULATING "stop_emulating" (seat device) { serial: u32 }
+    }
+    {
+        /// The pointer moved by a distance.
+        PointerMotion = REIS_KIND_POINTER_MOTION "pointer_motion" { dx: f32, dy: f32 }
+        /// The pointer moved to a position in a region.
+        PointerMotionAbsolute = REIS_KIND_POINTER_MOTION_ABSOLUTE "pointer_motion_absolute" { x: f32, y: f32 }
+        /// A button went down or up.
+        Button = REIS_KIND_BUTTON "button" { button: u32, pressed: bool }
+        /// It scrolled by a distance.
+        ScrollDelta = REIS_KIND_SCROLL_DELTA "scroll_delta" { dx: f32, dy: f32 }
+        /// Scrolling stopped, on the axes that are true.
+        ScrollStop = REIS_KIND_SCROLL_STOP "scroll_stop" { x: bool, y: bool }
+        /// Scrolling stopped on the axes that are true, and nothing may scroll on by itself.
+        ScrollCancel = REIS_KIND_SCROLL_CANCEL "scroll_cancel" { x: bool, y: bool }
+        /// It scrolled by steps: a click of a wheel is 120.
+        ScrollDiscrete = REIS_KIND_SCROLL_DISCRETE "scroll_discrete" { dx: i32, dy: i32 }
+        /// A key went down or up.
+        Key = REIS_KIND_KEY "key" { key: u32, pressed: bool }
+        /// A touch begins at a position.
+        TouchDown = REIS_KIND_TOUCH_DOWN "touch_down" { touch: u32, x: f32, y: f32 }
+        /// A touch moved to a position.
+        TouchMotion = REIS_KIND_TOUCH_MOTION "touch_motion" { touch: u32, x: f32, y: f32 }
+        /// A touch ended.
+        TouchUp = REIS_KIND_TOUCH_UP "touch_up" { touch: u32 }
+        /// A touch ended and is not to count.
+        TouchCancel = REIS_KIND_TOUCH_CANCEL "touch_cancel" { touch: u32 }
+        /// A keysym, by its number in XKB, went down or up.
+        TextKeysym = REIS_KIND_TEXT_KEYSYM "text_keysym" { keysym: u32, pressed: bool }
+        /// A text of 1 to 254 bytes. That of a client may hold what a terminal obeys.
+        TextUtf8 = REIS_KIND_TEXT_UTF8 "text_utf8" { text: String }
+        /// Fingers moved together by a distance.
+        GestureSwipe = REIS_KIND_GESTURE_SWIPE "gesture_swipe" { fingers: u32, dx: f32, dy: f32 }
+        /// Fingers moved apart or together: how far apart they are, against where they began.
+        GesturePinch = REIS_KIND_GESTURE_PINCH "gesture_pinch" { scale: f32 }
+    }
 }
 
 /// The name of its kind, whose request it is, when it was made, and what belongs to it. A client's text is shown in
@@ -234,87 +309,10 @@ impl fmt::Display for Request {
     }
 }
 
-/// What a request has besides its fields, as the library writes it.
-trait Part {
-    fn part(number: u64) -> Self;
-}
-
-impl Part for SeatId {
-    fn part(number: u64) -> SeatId {
-        SeatId(number)
-    }
-}
-
-impl Part for DeviceId {
-    fn part(number: u64) -> DeviceId {
-        DeviceId(number)
-    }
-}
-
-impl Part for u64 {
-    fn part(number: u64) -> u64 {
-        number
-    }
-}
-
-/// The fields that the library wrote, read one after another, and the text where there is one.
-struct Fields {
-    left: std::array::IntoIter<u64, 4>,
-    text: String,
-}
-
-impl Fields {
-    fn of(raw: &sys::reis_request, text: impl FnOnce() -> String) -> Fields {
-        // SAFETY: all four were set to 0 before the library wrote its own, and each pattern of bits is a number.
-        let fields = unsafe { raw.of.fields };
-        let has_text = raw.kind == sys::REIS_KIND_TEXT_UTF8;
-        Fields { left: fields.into_iter(), text: if has_text { text() } else { String::new() } }
-    }
-
-    fn next<T: Field>(&mut self) -> T {
-        let field = self.left.next().unwrap_or(0);
-        T::field(field, &mut self.text)
-    }
-}
-
-/// A field as its kind wants it: numbers of 32 bits stand in the low half, and a text stands apart.
-trait Field {
-    fn field(field: u64, text: &mut String) -> Self;
-}
-
-impl Field for u32 {
-    #[allow(clippy::cast_possible_truncation)]
-    fn field(field: u64, _: &mut String) -> u32 {
-        field as u32
-    }
-}
-
-impl Field for i32 {
-    fn field(field: u64, text: &mut String) -> i32 {
-        i32::from_ne_bytes(u32::field(field, text).to_ne_bytes())
-    }
-}
-
-impl Field for f32 {
-    fn field(field: u64, text: &mut String) -> f32 {
-        f32::from_bits(u32::field(field, text))
-    }
-}
-
-impl Field for bool {
-    fn field(field: u64, text: &mut String) -> bool {
-        u32::field(field, text) == 1
-    }
-}
-
-impl Field for Capabilities {
-    fn field(field: u64, _: &mut String) -> Capabilities {
-        Capabilities::from_bits(field)
-    }
-}
-
-impl Field for String {
-    fn field(_: u64, text: &mut String) -> String {
-        mem::take(text)
+/// The name of its kind, and what belongs to it, as a [`Request`] shows it.
+impl fmt::Display for Input {
+    fn fmt(&self, f: &mut fmt::Formatter<'_>) -> fmt::Result {
+        f.write_str(self.name())?;
+        self.write_fields(f)
     }
 }

@@ -1,10 +1,10 @@
 //! A session with one client, without its socket.
 
+use crate::answers::{fed, lent, text};
 use crate::errors::{FeedError, NotUnsent, StartError};
-use crate::{Capabilities, Client, ContextType, End, Request, SessionError};
+use crate::{Capabilities, Client, End, Request};
 use paltukwi_sys as sys;
 use std::ptr::null;
-use std::slice;
 
 /// The most bytes of a piece.
 pub const MOST_BYTES: usize = sys::REIS_MOST_BYTES;
@@ -33,13 +33,14 @@ impl Default for Setup {
 
 /// What waits to be written to the client.
 ///
-/// A handle is to be passed with the first of the bytes. There are none where none were handed in.
+/// A handle is to be passed with the first of the bytes. A session has none where none were handed in; those of a
+/// [`Link`](crate::Link) are descriptors of keymaps.
 #[derive(Clone, Copy, Debug, PartialEq, Eq)]
-pub struct Unsent<'a> {
+pub struct Unsent<'a, Handle = u32> {
     /// The bytes, in their order.
     pub bytes: &'a [u8],
     /// The handles, in their order.
-    pub handles: &'a [u32],
+    pub handles: &'a [Handle],
 }
 
 /// A server's session with one client: bytes in, requests and bytes out.
@@ -102,7 +103,7 @@ impl Session {
         let (at, count) = (bytes.as_ptr(), bytes.len());
         let (handles_at, handle_count) = (handles.as_ptr(), handles.len());
         // SAFETY: each pointer and count are one slice's, and the word is a session's.
-        answer(unsafe {
+        fed(unsafe {
             sys::reis_session_feed(&mut self.raw, at, count, handles_at, handle_count, time)
         })
     }
@@ -114,7 +115,7 @@ impl Session {
     /// `Over`, where it is over already.
     pub fn end_of_input(&mut self) -> Result<(), FeedError> {
         // SAFETY: the word is a session's.
-        answer(unsafe { sys::reis_session_end_of_input(&mut self.raw) })
+        fed(unsafe { sys::reis_session_end_of_input(&mut self.raw) })
     }
 
     /// Lends all that waits to be written to the client. It waits until [`sent`](Session::sent) counts it. It works after the end
@@ -175,9 +176,7 @@ impl Session {
         let (answer, name) = text(|at, room, length| unsafe {
             sys::reis_session_client(&mut self.raw, &mut context_type, at, room, length)
         });
-        let context_type = ContextType::of(context_type);
-        let name = Some(name).filter(|name| !name.is_empty());
-        (answer == sys::REIS_OK).then_some(Client { name, context_type })
+        (answer == sys::REIS_OK).then(|| Client::of(name, context_type))
     }
 
     /// How the session ended; `None` while it goes on.
@@ -185,12 +184,7 @@ impl Session {
         let mut end = sys::REIS_END_GOES_ON;
         // SAFETY: the word is a session's, and the end is borrowed alone.
         unsafe { sys::reis_session_end(&mut self.raw, &mut end) };
-        match end {
-            sys::REIS_END_GOES_ON => None,
-            sys::REIS_END_DISCONNECTED => Some(End::Disconnected),
-            sys::REIS_END_END_OF_INPUT => Some(End::EndOfInput),
-            error => Some(End::Failed(SessionError::new(error, self.end_text()))),
-        }
+        End::of(end, || self.end_text())
     }
 
     fn end_text(&mut self) -> String {
@@ -209,8 +203,8 @@ impl Drop for Session {
     }
 }
 
-/// Whether the library fits these bindings: [`Session::start`] asks it too. A program whose library is loaded when it is run can
-/// ask it at its beginning.
+/// Whether the library fits these bindings: [`Session::start`] and [`Link::start`](crate::Link::start) ask it too. A program whose
+/// library is loaded when it is run can ask it at its beginning.
 ///
 /// # Errors
 ///
@@ -222,45 +216,5 @@ pub fn check_version() -> Result<(), StartError> {
         Ok(())
     } else {
         Err(StartError::Version { library })
-    }
-}
-
-/// What the answer of `feed` or `end_of_input` says.
-fn answer(answer: sys::reis_answer) -> Result<(), FeedError> {
-    match answer {
-        sys::REIS_OK => Ok(()),
-        sys::REIS_EMPTY => Err(FeedError::Empty),
-        sys::REIS_TOO_LONG => Err(FeedError::TooLong),
-        sys::REIS_TOO_MANY_HANDLES => Err(FeedError::TooManyHandles),
-        _ => Err(FeedError::Over),
-    }
-}
-
-/// The items at a place; none where the count is 0, wherever the place is.
-///
-/// # Safety
-///
-/// So many items stand there, and none is changed as long as they are lent.
-unsafe fn lent<'a, T>(at: *const T, count: usize) -> &'a [T] {
-    if count == 0 {
-        return &[];
-    }
-    // SAFETY: the caller's.
-    unsafe { slice::from_raw_parts(at, count) }
-}
-
-/// What a call answers, and the text that it writes at a place, with so much room, and whose length it tells: empty where
-/// there is none. It is called again where there was no room.
-fn text(
-    mut call: impl FnMut(*mut u8, usize, &mut usize) -> sys::reis_answer,
-) -> (sys::reis_answer, String) {
-    let mut text = vec![0; sys::REIS_MOST_TEXT];
-    loop {
-        let mut length = 0;
-        let answer = call(text.as_mut_ptr(), text.len(), &mut length);
-        text.resize(length, 0);
-        if answer != sys::REIS_NO_ROOM {
-            return (answer, String::from_utf8_lossy(&text).into_owned());
-        }
     }
 }

@@ -1,9 +1,9 @@
 //! Calls of the system that the standard library has not, as Linux lays them out on a machine of 64 bits.
 
 use crate::wait::Interest;
-use std::ffi::{c_int, c_short, c_ulong, c_void};
+use std::ffi::{c_char, c_int, c_short, c_uint, c_ulong, c_void, CStr};
 use std::fs::File;
-use std::io;
+use std::io::{self, Write};
 use std::mem::size_of;
 use std::os::fd::{AsRawFd, BorrowedFd, FromRawFd, OwnedFd};
 use std::ptr::null_mut;
@@ -18,9 +18,18 @@ const POLLOUT: c_short = 4;
 const LOCK_EX: c_int = 2;
 const LOCK_NB: c_int = 4;
 const CLOCK_MONOTONIC: c_int = 1;
+const MFD_CLOEXEC: c_uint = 1;
+const MFD_ALLOW_SEALING: c_uint = 2;
+const F_ADD_SEALS: c_int = 1033;
+
+/// No more seals, no fewer bytes, no more, and no other ones.
+const ALL_SEALS: c_int = 1 | 2 | 4 | 8;
 
 /// The most descriptors that Linux lets a client pass at a time.
 const MOST_DESCRIPTORS: usize = 253;
+
+/// The most descriptors that are passed at a time.
+const MOST_PASSED: usize = paltukwi_sys::REIS_MOST_HANDLES;
 
 /// What stands before the descriptors: a length in eight bytes, and two numbers in four each.
 const HEAD: usize = 16;
@@ -64,10 +73,12 @@ struct Time {
 
 extern "C" {
     fn recvmsg(socket: c_int, message: *mut Message, flags: c_int) -> isize;
-    fn send(socket: c_int, bytes: *const c_void, count: usize, flags: c_int) -> isize;
+    fn sendmsg(socket: c_int, message: *const Message, flags: c_int) -> isize;
     fn poll(polled: *mut Polled, count: c_ulong, milliseconds: c_int) -> c_int;
     fn flock(file: c_int, operation: c_int) -> c_int;
     fn clock_gettime(clock: c_int, time: *mut Time) -> c_int;
+    fn memfd_create(name: *const c_char, flags: c_uint) -> c_int;
+    fn fcntl(descriptor: c_int, operation: c_int, ...) -> c_int;
 }
 
 /// Receives what is there: how many bytes, none at the end, and the descriptors that came with them. It doesn't wait.
@@ -123,12 +134,62 @@ fn head(control: &[u8]) -> Option<(usize, c_int, c_int)> {
     (HEAD..=control.len()).contains(&length).then_some((length, level, kind))
 }
 
-/// Sends the first bytes, as many as the socket takes: how many. It doesn't wait, and no signal comes where nobody reads.
-pub fn send_some(socket: BorrowedFd<'_>, bytes: &[u8]) -> io::Result<usize> {
+/// Sends the first bytes, as many as the socket takes, and with the first of them the descriptors, at most 64: how many. It
+/// doesn't wait, and no signal comes where nobody reads.
+pub fn send_some(
+    socket: BorrowedFd<'_>,
+    bytes: &[u8],
+    descriptors: &[OwnedFd],
+) -> io::Result<usize> {
+    let mut control = Control([0; CONTROL_ROOM]);
+    let control_length = write_control(&mut control, descriptors);
+    let mut part = Part { at: bytes.as_ptr().cast_mut().cast(), count: bytes.len() };
+    let message = Message {
+        name: null_mut(),
+        name_length: 0,
+        parts: &mut part,
+        part_count: 1,
+        control: control.0.as_mut_ptr().cast(),
+        control_length,
+        flags: 0,
+    };
     let flags = MSG_DONTWAIT | MSG_NOSIGNAL;
-    // SAFETY: the pointer and the count are one slice's.
-    let count = unsafe { send(socket.as_raw_fd(), bytes.as_ptr().cast(), bytes.len(), flags) };
+    // SAFETY: the message points to one part, which isn't written, and to the control; both live until the call is done.
+    let count = unsafe { sendmsg(socket.as_raw_fd(), &message, flags) };
     usize::try_from(count).map_err(|_| io::Error::last_os_error())
+}
+
+/// Writes the one part of the control that passes the descriptors, if there are any: how many bytes it has.
+fn write_control(control: &mut Control, descriptors: &[OwnedFd]) -> usize {
+    assert!(descriptors.len() <= MOST_PASSED, "so many are never unsent");
+    if descriptors.is_empty() {
+        return 0;
+    }
+    let length = HEAD + 4 * descriptors.len();
+    control.0[..8].copy_from_slice(&length.to_ne_bytes());
+    control.0[8..12].copy_from_slice(&SOL_SOCKET.to_ne_bytes());
+    control.0[12..HEAD].copy_from_slice(&SCM_RIGHTS.to_ne_bytes());
+    for (room, descriptor) in control.0[HEAD..].chunks_exact_mut(4).zip(descriptors) {
+        room.copy_from_slice(&descriptor.as_raw_fd().to_ne_bytes());
+    }
+    length.next_multiple_of(8)
+}
+
+/// A file in memory with these bytes, which nobody can change any more.
+pub fn sealed_file(name: &CStr, bytes: &[u8]) -> io::Result<OwnedFd> {
+    // SAFETY: a zero ends the name.
+    let descriptor = unsafe { memfd_create(name.as_ptr(), MFD_CLOEXEC | MFD_ALLOW_SEALING) };
+    if descriptor < 0 {
+        return Err(io::Error::last_os_error());
+    }
+    // SAFETY: the system opened it for this call, and nothing else owns it.
+    let mut file = unsafe { File::from_raw_fd(descriptor) };
+    file.write_all(bytes)?;
+    // SAFETY: the file is open, and the operation takes one number.
+    if unsafe { fcntl(descriptor, F_ADD_SEALS, ALL_SEALS) } != 0 {
+        return Err(io::Error::last_os_error());
+    }
+    Ok(file.into())
 }
 
 /// Waits until something can be done at one of the sockets, at most so many milliseconds, or without end where it is -1:

@@ -2,6 +2,8 @@
 
 #![allow(dead_code, missing_docs)]
 
+pub mod wire;
+
 use paltukwi::{now, Capabilities, Connection, End, Setup};
 use std::fs;
 use std::io::{self, ErrorKind, Read, Write};
@@ -83,6 +85,7 @@ impl Worked {
         match end {
             Some(End::Disconnected) => self.end == 1,
             Some(End::EndOfInput) => self.end == 2,
+            Some(End::Told) => self.end == 3,
             Some(End::Failed(error)) => error.number() == self.end && error.text() == self.text,
             None => false,
         }
