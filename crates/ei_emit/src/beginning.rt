@@ -35,12 +35,18 @@ impl Emitter {
         ensures clock { LentClock C.later clock.old clock.new }
     {
         let mut pair = Pair::new(alloc, name, ContextType::Receiver, initial_serial)?;
-        let seat = settle(&mut pair, clock)?;
-        Ok(Emitter {
-            pair,
-            seat,
-            devices: Devices::new(alloc),
-        })
+        match settle(&mut pair, clock) {
+            Ok(seat) => Ok(Emitter {
+                pair,
+                seat,
+                devices: Devices::new(alloc),
+            }),
+            Err(error) => {
+                // by a call: at the end of a scope the drop of each field is proved anew
+                drop(pair);
+                Err(error)
+            }
+        }
     }
 }
 

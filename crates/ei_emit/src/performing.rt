@@ -128,9 +128,9 @@ fn add(
         (emitter pair.new seat.now devices.new.added.items) }
 {
     let device = add_device(pair, seat, capabilities)?;
-    let resumed = ServerCall::Resumed(device.clone().unwrap());
+    let key = device.clone().unwrap();
     devices.push(device)?;
-    tell(pair, resumed)?;
+    drop(tell(pair, ServerCall::Resumed(key))?);
     Ok(true)
 }
 

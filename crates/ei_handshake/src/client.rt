@@ -104,8 +104,16 @@ impl EiHandshaker {
         ensures ring { ctx.new.capacity ≡ ctx.old.capacity }
     {
         match event {
-            Event::Handshake(handshake, told) => self.hear(ctx, &handshake, told),
-            _ => Err(Error::Handshake(HandshakeError::NonHandshakeEvent)),
+            Event::Handshake(handshake, told) => {
+                let heard = self.hear(ctx, &handshake, told);
+                // by a call: at the end of a scope the drop of each field is proved anew
+                drop(handshake);
+                heard
+            }
+            other => {
+                drop(other);
+                Err(Error::Handshake(HandshakeError::NonHandshakeEvent))
+            }
         }
     }
 
@@ -125,7 +133,9 @@ impl EiHandshaker {
                 Ok(None)
             }
             handshake::Event::InterfaceVersion { name, version } => {
-                self.versions.insert_name(self.alloc, &name, version)?;
+                let kept = self.versions.insert_name(self.alloc, &name, version);
+                drop(name);
+                kept?;
                 Ok(None)
             }
             handshake::Event::Connection { serial, connection } => {

@@ -13,6 +13,7 @@ use ei_handshake::EiHandshaker;
 use ei_linked::Ends;
 use ei_types::Error;
 use std::alloc::Global;
+use std::mem;
 
 /// Hands an event to the client's handshaker. Where that hands the connection over, the converter is made.
 fn ask<H: Call>(
@@ -27,7 +28,7 @@ fn ask<H: Call>(
 {
     match asks.handle_event(context, event)? {
         Some(resp) => {
-            *converter = Some(EiEventConverter::new(alloc, resp));
+            drop(mem::replace(converter, Some(EiEventConverter::new(alloc, resp))));
             Ok(())
         }
         None => Ok(()),

@@ -73,7 +73,11 @@ fn joined(
     let mut ends = Ends::new(alloc, client, ServerEnd::Shaking(server));
     match store_server(&mut ends, nothing_unsent()) {
         Ok(()) => Ok(ends),
-        Err(error) => Err(error),
+        Err(error) => {
+            // by a call: at the end of a scope the drop of each field is proved anew
+            drop(ends);
+            Err(error)
+        }
     }
 }
 
@@ -91,10 +95,26 @@ impl<H: Call> Parts<H> {
     {
         server_messages();
         let asks = EiHandshaker::new(alloc, name, context_type)?;
-        let client = ei_client::Context::new(alloc)?;
-        let mut server = ei_server::Context::new(alloc)?;
-        let tells = EisHandshaker::new(alloc, &mut server, initial_serial)?;
-        let ends = joined(alloc, client, server)?;
+        let Ok(client) = ei_client::Context::new(alloc) else {
+            drop(asks);
+            return Err(NoMemory);
+        };
+        let Ok(mut server) = ei_server::Context::new(alloc) else {
+            drop(asks);
+            drop(client);
+            return Err(NoMemory);
+        };
+        let Ok(tells) = EisHandshaker::new(alloc, &mut server, initial_serial) else {
+            drop(asks);
+            drop(client);
+            drop(server);
+            return Err(NoMemory);
+        };
+        let Ok(ends) = joined(alloc, client, server) else {
+            drop(asks);
+            drop(tells);
+            return Err(NoMemory);
+        };
         Ok(Parts {
             ends,
             asks,

@@ -47,19 +47,22 @@ fn finish(
     requires serial { serial ≡ tells.old.serial }
     ensures { FinishesEnd handshake.now.id tells.old (endpoint_in server.old) result tells.new server.new }
 {
-    let spare = ServerEnd::Shaking(Context::new(alloc)?);
-    let ServerEnd::Shaking(mut context) = mem::replace(server, spare) else {
-        unreachable!();
-    };
-    match tells.finish(&mut context, handshake) {
-        Ok(resp) => {
-            *server = ServerEnd::Talking(EisRequestConverter::new(alloc, context, resp, serial));
-            Ok(())
-        }
-        Err(error) => {
-            *server = ServerEnd::Shaking(context);
-            Err(error)
-        }
+    let spare = Context::new(alloc)?;
+    match server {
+        ServerEnd::Shaking(context) => match tells.finish(context, handshake) {
+            Ok(resp) => {
+                let context = mem::replace(context, spare);
+                let converter = EisRequestConverter::new(alloc, context, resp, serial);
+                drop(mem::replace(server, ServerEnd::Talking(converter)));
+                Ok(())
+            }
+            Err(error) => {
+                // by a call: at the end of a scope the drop of each field is proved anew
+                drop(spare);
+                Err(error)
+            }
+        },
+        ServerEnd::Talking(_) => unreachable!(),
     }
 }
 

@@ -14,108 +14,65 @@ use ei_client::{
 use ei_player::proxy;
 use ei_request::EisRequest;
 
+/// Sends by a call of the proxy to the object of that id. The proxy is let go by a call: at the end of a scope the drop of each
+/// field is proved anew.
+macro_rules! sent {
+    ($client:ident, $id:ident, $kind:ident, $to:ident => $call:expr) => {{
+        let $to = proxy::<$kind>($client, $id);
+        let sent = $call;
+        drop($to);
+        sent
+    }};
+}
+
 /// Sends the request that an item is played as, to the object of that id.
 pub(crate) fn send(client: &mut Context, id: u64, item: &EisRequest) -> Sent
     requires { IsAt (call_to id (asked_of item.now)).interface id (found client.old.table id) }
     ensures { OnOk result (client.new ≡ after_call (call_to id (asked_of item.now)) client.old) }
 {
     match item {
-        EisRequest::Disconnect => {
-            let to = proxy::<Connection>(client, id);
-            to.disconnect(client)
-        }
-        EisRequest::Bind(r) => {
-            let to = proxy::<Seat>(client, id);
-            to.bind(client, r.capabilities.bits())
-        }
-        EisRequest::RequestDevice(r) => {
-            let to = proxy::<Seat>(client, id);
-            to.request_device(client, r.capabilities.bits())
-        }
-        EisRequest::DeviceClosed(_) => {
-            let to = proxy::<Device>(client, id);
-            to.release(client)
-        }
-        EisRequest::Frame(r) => {
-            let to = proxy::<Device>(client, id);
-            to.frame(client, r.last_serial, r.time)
-        }
-        EisRequest::Ready(_) => {
-            let to = proxy::<Device>(client, id);
-            to.ready(client)
-        }
-        EisRequest::DeviceStartEmulating(r) => {
-            let to = proxy::<Device>(client, id);
-            to.start_emulating(client, r.last_serial, r.sequence)
-        }
-        EisRequest::DeviceStopEmulating(r) => {
-            let to = proxy::<Device>(client, id);
-            to.stop_emulating(client, r.last_serial)
-        }
-        EisRequest::PointerMotion(r) => {
-            let to = proxy::<Pointer>(client, id);
-            to.motion_relative(client, r.dx, r.dy)
-        }
-        EisRequest::PointerMotionAbsolute(r) => {
-            let to = proxy::<PointerAbsolute>(client, id);
-            to.motion_absolute(client, r.dx_absolute, r.dy_absolute)
-        }
-        EisRequest::Button(r) => {
-            let to = proxy::<Button>(client, id);
-            to.button(client, r.button, r.state)
-        }
-        EisRequest::ScrollDelta(r) => {
-            let to = proxy::<Scroll>(client, id);
-            to.scroll(client, r.dx, r.dy)
-        }
-        EisRequest::ScrollStop(r) => {
-            let to = proxy::<Scroll>(client, id);
-            to.scroll_stop(client, axis(r.x), axis(r.y), 0)
-        }
-        EisRequest::ScrollCancel(r) => {
-            let to = proxy::<Scroll>(client, id);
-            to.scroll_stop(client, axis(r.x), axis(r.y), 1)
-        }
-        EisRequest::ScrollDiscrete(r) => {
-            let to = proxy::<Scroll>(client, id);
-            to.scroll_discrete(client, r.discrete_dx, r.discrete_dy)
-        }
-        EisRequest::KeyboardKey(r) => {
-            let to = proxy::<Keyboard>(client, id);
-            to.key(client, r.key, r.state)
-        }
-        EisRequest::TouchDown(r) => {
-            let to = proxy::<Touchscreen>(client, id);
-            to.down(client, r.touch_id, r.x, r.y)
-        }
-        EisRequest::TouchMotion(r) => {
-            let to = proxy::<Touchscreen>(client, id);
-            to.motion(client, r.touch_id, r.x, r.y)
-        }
-        EisRequest::TouchUp(r) => {
-            let to = proxy::<Touchscreen>(client, id);
-            to.up(client, r.touch_id)
-        }
-        EisRequest::TouchCancel(r) => {
-            let to = proxy::<Touchscreen>(client, id);
-            to.cancel(client, r.touch_id)
-        }
-        EisRequest::TextKeysym(r) => {
-            let to = proxy::<Text>(client, id);
-            to.keysym(client, r.keysym, r.state)
-        }
-        EisRequest::TextUtf8(r) => {
-            let to = proxy::<Text>(client, id);
-            to.utf8(client, r.text.as_str())
-        }
-        EisRequest::GestureSwipe(r) => {
-            let to = proxy::<Gesture>(client, id);
-            to.swipe(client, r.fingers, r.dx, r.dy)
-        }
-        EisRequest::GesturePinch(r) => {
-            let to = proxy::<Gesture>(client, id);
-            to.pinch(client, r.scale)
-        }
+        EisRequest::Disconnect => sent!(client, id, Connection, to => to.disconnect(client)),
+        EisRequest::Bind(r) =>
+            sent!(client, id, Seat, to => to.bind(client, r.capabilities.bits())),
+        EisRequest::RequestDevice(r) =>
+            sent!(client, id, Seat, to => to.request_device(client, r.capabilities.bits())),
+        EisRequest::DeviceClosed(_) => sent!(client, id, Device, to => to.release(client)),
+        EisRequest::Frame(r) =>
+            sent!(client, id, Device, to => to.frame(client, r.last_serial, r.time)),
+        EisRequest::Ready(_) => sent!(client, id, Device, to => to.ready(client)),
+        EisRequest::DeviceStartEmulating(r) =>
+            sent!(client, id, Device, to => to.start_emulating(client, r.last_serial, r.sequence)),
+        EisRequest::DeviceStopEmulating(r) =>
+            sent!(client, id, Device, to => to.stop_emulating(client, r.last_serial)),
+        EisRequest::PointerMotion(r) =>
+            sent!(client, id, Pointer, to => to.motion_relative(client, r.dx, r.dy)),
+        EisRequest::PointerMotionAbsolute(r) =>
+            sent!(client, id, PointerAbsolute, to => to.motion_absolute(client, r.dx_absolute, r.dy_absolute)),
+        EisRequest::Button(r) =>
+            sent!(client, id, Button, to => to.button(client, r.button, r.state)),
+        EisRequest::ScrollDelta(r) =>
+            sent!(client, id, Scroll, to => to.scroll(client, r.dx, r.dy)),
+        EisRequest::ScrollStop(r) =>
+            sent!(client, id, Scroll, to => to.scroll_stop(client, axis(r.x), axis(r.y), 0)),
+        EisRequest::ScrollCancel(r) =>
+            sent!(client, id, Scroll, to => to.scroll_stop(client, axis(r.x), axis(r.y), 1)),
+        EisRequest::ScrollDiscrete(r) =>
+            sent!(client, id, Scroll, to => to.scroll_discrete(client, r.discrete_dx, r.discrete_dy)),
+        EisRequest::KeyboardKey(r) =>
+            sent!(client, id, Keyboard, to => to.key(client, r.key, r.state)),
+        EisRequest::TouchDown(r) =>
+            sent!(client, id, Touchscreen, to => to.down(client, r.touch_id, r.x, r.y)),
+        EisRequest::TouchMotion(r) =>
+            sent!(client, id, Touchscreen, to => to.motion(client, r.touch_id, r.x, r.y)),
+        EisRequest::TouchUp(r) => sent!(client, id, Touchscreen, to => to.up(client, r.touch_id)),
+        EisRequest::TouchCancel(r) =>
+            sent!(client, id, Touchscreen, to => to.cancel(client, r.touch_id)),
+        EisRequest::TextKeysym(r) =>
+            sent!(client, id, Text, to => to.keysym(client, r.keysym, r.state)),
+        EisRequest::TextUtf8(r) => sent!(client, id, Text, to => to.utf8(client, r.text.as_str())),
+        EisRequest::GestureSwipe(r) =>
+            sent!(client, id, Gesture, to => to.swipe(client, r.fingers, r.dx, r.dy)),
+        EisRequest::GesturePinch(r) => sent!(client, id, Gesture, to => to.pinch(client, r.scale)),
     }
 }
 

@@ -38,7 +38,10 @@ pub fn replay(
     check(alloc, setup, items)?;
     read_all(items);
     let mut player = Player::new(alloc, setup)?;
-    play_all(&mut player, items, stream, out)
+    let played = play_all(&mut player, items, stream, out);
+    // by a call: at the end of a scope the drop of each field is proved anew
+    drop(player);
+    played
 }
 
 /// Plays the items to a session that has taken nothing yet.

@@ -1,5 +1,5 @@
 -- A client's handshaker was handed an event: it refuses it, hands the connection over, or goes on.
-use Rattle.std.proofs.Common.{Option, Some, Ok, ap, subst}
+use Rattle.std.proofs.Common.{Option, Some, Ok, ap, subst, ◌∙◌}
 use Rattle.std.proofs.lemmas.Result.{err_from_is_err_and}
 use Rattle.ei_handshake.specs.declared.client.HandshakeResp.{HandshakeResp}
 use Rattle.ei_handshake.specs.Client.{HandlesEvent}
@@ -17,7 +17,7 @@ returns-in-Some g c =
     let resp : HandshakeResp = c.in-Some.resp in
     asks_done _ _ _ _ _ resp _
     (subst (λ (o : Option HandshakeResp). HandlesEvent c.args.asks.now c.args.context.now c.args.event (Ok o) c.handle_event.new.self c.handle_event.new.ctx) c.in-Some.is c.in_ok-resp.ensures.handles)
-    (ap (λ (x : ConverterView g.row.H.Denot). Some x) c.new.ensures)
+    (c.replace.ensures.after ∙ ap (λ (x : ConverterView g.row.H.Denot). Some x) c.new.ensures)
 
 pub returns-in-None : goal.returns-in-None
 returns-in-None g c =

@@ -15,8 +15,8 @@ returns-in_err-player c = record {
   replays = not_begun (setup_of c.args.setup.now) (map asked_of c.args.items.now) c.from_residual-in_err-player.result c.args.stream.now.items c.args.out.now.items c.from_residual-in_err-player.ensures.1;
 }
 
-pub play_all-requires : goal.play_all-requires
-play_all-requires c =
+pub play_all-played-requires : goal.play_all-played-requires
+play_all-played-requires c =
     let items = map asked_of c.args.items.now in
     let short : length items ≤ 4294967000 = omega (arith, all_seen asked_of c.args.items.now, c.requires.few) in
     record {
@@ -31,5 +31,5 @@ returns c =
     let items = map asked_of c.args.items.now in
     let short : length items ≤ 4294967000 = omega (arith, all_seen asked_of c.args.items.now, c.requires.few) in
     record {
-      replays = c.play_all.ensures (setup_of c.args.setup.now) (record { right = c.in_ok-check.ensures; borne = c.read_all.ensures; few = short; begun = c.in_ok-player.ensures });
+      replays = c.play_all-played.ensures (setup_of c.args.setup.now) (record { right = c.in_ok-check.ensures; borne = c.read_all.ensures; few = short; begun = c.in_ok-player.ensures });
     }
