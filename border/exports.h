@@ -42,6 +42,7 @@ uint32_t reis_c_connection_client(reis_connection *connection, uint32_t *context
 uint32_t reis_c_connection_end(reis_connection *connection, uint32_t *end);
 uint32_t reis_c_connection_disconnect(reis_connection *connection, uint32_t reason, const uint8_t *text, size_t length);
 uint32_t reis_c_connection_free(reis_connection *connection);
+uint32_t reis_c_connection_ping(reis_connection *connection, uint64_t *ping);
 uint32_t reis_c_connection_add_seat(reis_connection *connection, const uint8_t *name, size_t length, uint64_t capabilities,
                                     uint64_t *seat);
 uint32_t reis_c_connection_remove_seat(reis_connection *connection, uint64_t seat);

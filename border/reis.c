@@ -205,6 +205,12 @@ reis_answer reis_connection_free(reis_connection *connection) {
     return answer_of(reis_c_connection_free(connection));
 }
 
+reis_answer reis_connection_ping(reis_connection *connection, uint64_t *ping) {
+    if (connection == NULL || ping == NULL)
+        return REIS_NULL;
+    return answer_of(reis_c_connection_ping(connection, ping));
+}
+
 reis_answer reis_connection_add_seat(reis_connection *connection, const char *name, size_t length, uint64_t capabilities,
                                      uint64_t *seat) {
     if (connection == NULL || is_missing(name, length) || seat == NULL)

@@ -198,10 +198,11 @@ reis_answer reis_session_free(reis_session *session);
 
 /* ---- requests ---- */
 
-/* The kinds, each with the view of a reis_request that has its fields. All kinds but REIS_KIND_DISCONNECT have a seat; all but
- * REIS_KIND_DISCONNECT, REIS_KIND_BIND and REIS_KIND_REQUEST_DEVICE have a device. REIS_KIND_FRAME and all from
- * REIS_KIND_POINTER_MOTION on have a time: an input bears the time of its frame, which comes right behind the inputs that
- * belong to it. */
+/* The kinds, each with the view of a reis_request that has its fields. Up to REIS_KIND_GESTURE_PINCH all but
+ * REIS_KIND_DISCONNECT have a seat; all but REIS_KIND_DISCONNECT, REIS_KIND_BIND and REIS_KIND_REQUEST_DEVICE have a device.
+ * REIS_KIND_FRAME and all from REIS_KIND_POINTER_MOTION to REIS_KIND_GESTURE_PINCH have a time: an input bears the time of its
+ * frame, which comes right behind the inputs that belong to it. The kinds behind these come from
+ * reis_connection_next_request alone, and have no device and no time. */
 typedef REIS_ENUM(reis_kind) {
     REIS_KIND_DISCONNECT = 1,               /* the client ends the connection */
     REIS_KIND_BIND = 2,                     /* bind: it wants devices of these capabilities */
@@ -226,7 +227,10 @@ typedef REIS_ENUM(reis_kind) {
     REIS_KIND_TEXT_KEYSYM = 21,             /* text_keysym */
     REIS_KIND_TEXT_UTF8 = 22,               /* text_utf8: see reis_session_request_text */
     REIS_KIND_GESTURE_SWIPE = 23,           /* gesture_swipe: fingers moved together */
-    REIS_KIND_GESTURE_PINCH = 24            /* gesture_pinch: fingers moved apart or together */
+    REIS_KIND_GESTURE_PINCH = 24,           /* gesture_pinch: fingers moved apart or together */
+    REIS_KIND_CONNECTED = 25,               /* the handshake is done: see reis_connection_client */
+    REIS_KIND_SEAT_RELEASED = 26,           /* the client wants the seat no more: see reis_connection_remove_seat */
+    REIS_KIND_PONG = 27                     /* pong: the client answered a ping */
 } reis_kind;
 
 /* The views of the fields. A state is 1 where it goes down and 0 where it goes up. */
@@ -287,6 +291,10 @@ struct reis_swipe { /* how many fingers, and a distance in logical pixels */
 struct reis_pinch { /* how far apart the fingers are, against where they began */
     REIS_FIELD float scale;
 };
+struct reis_pong { /* the id that reis_connection_ping told, and a number of the client's choice */
+    REIS_FIELD uint64_t ping;
+    REIS_FIELD uint64_t callback_data;
+};
 
 /* What a client asks for. `seat` and `device` are ids, told apart by their numbers; 0 where the kind has none. `time` is in
  * microseconds, as the client sent it in its frame; 0 where the kind has none. The fields stand in the order of the view, and
@@ -319,6 +327,7 @@ typedef struct reis_request {
         struct reis_text text_utf8;
         struct reis_swipe gesture_swipe;
         struct reis_pinch gesture_pinch;
+        struct reis_pong pong;
     };
 } reis_request;
 
@@ -465,7 +474,9 @@ reis_answer reis_connection_unsent(reis_connection *connection, const uint8_t **
  * REIS_OK, REIS_NO_SESSION, REIS_NULL. REIS_NOT_UNSENT: so many bytes don't wait, and all wait still. */
 reis_answer reis_connection_sent(reis_connection *connection, size_t bytes);
 
-/* As reis_session_next_request.
+/* As reis_session_next_request, but that REIS_KIND_CONNECTED comes once, before all others, as soon as the handshake is done;
+ * and that REIS_KIND_SEAT_RELEASED and REIS_KIND_PONG, in their order, come only while no request waits. So a pong comes behind
+ * all that the client asked before it.
  * REIS_OK, REIS_NO_SESSION, REIS_NOTHING, REIS_NULL; where it isn't REIS_OK the request isn't written. */
 reis_answer reis_connection_next_request(reis_connection *connection, reis_request *request);
 
@@ -502,6 +513,11 @@ reis_answer reis_connection_disconnect(reis_connection *connection, reis_reason 
 /* As reis_session_free.
  * REIS_OK, REIS_NO_SESSION, REIS_NULL. */
 reis_answer reis_connection_free(reis_connection *connection);
+
+/* Asks the client to answer, and tells the ping's id: REIS_KIND_PONG comes with that id once it did. Each ping is answered at
+ * most once.
+ * REIS_OK. Else the id is 0: REIS_NO_SESSION, REIS_OVER, REIS_NOT_CONNECTED, REIS_IDS_EXHAUSTED, REIS_NO_MEMORY. REIS_NULL. */
+reis_answer reis_connection_ping(reis_connection *connection, uint64_t *ping);
 
 /* Announces a seat of that name, if it has one, which gives these capabilities, and tells its id.
  * REIS_OK. Else the id is 0: REIS_NO_SESSION, REIS_OVER, REIS_NOT_CONNECTED, REIS_IDS_EXHAUSTED, REIS_MESSAGE_TOO_LONG,
@@ -596,8 +612,8 @@ reis_answer reis_connection_start_emulating(reis_connection *connection, uint64_
 reis_answer reis_connection_stop_emulating(reis_connection *connection, uint64_t device);
 reis_answer reis_connection_frame(reis_connection *connection, uint64_t device, uint64_t time);
 
-/* To a receiver: an input of a device. It is told as a request says it, of the kinds from REIS_KIND_POINTER_MOTION on: by its
- * kind, its device and the view of its kind. `seat` and `time` aren't read, nor what stands beside the members of the view. The
+/* To a receiver: an input of a device. It is told as a request says it, of the kinds from REIS_KIND_POINTER_MOTION to
+ * REIS_KIND_GESTURE_PINCH: by its kind, its device and the view of its kind. `seat` and `time` aren't read, nor what stands beside the members of the view. The
  * text is that of REIS_KIND_TEXT_UTF8, 1 to REIS_MOST_TEXT bytes, and isn't read for another kind.
  * REIS_OK, REIS_NO_SESSION, REIS_OVER, REIS_NOT_CONNECTED, REIS_WRONG_ROLE, REIS_GONE, REIS_MESSAGE_TOO_LONG, REIS_NO_MEMORY,
  * REIS_NULL. REIS_CAPABILITIES: the device has no such interface, or has it no more. REIS_INVALID: another kind, a state or an

@@ -81,25 +81,30 @@ static void serve(reis_connection *connection, uint64_t seat, uint64_t capabilit
     done("disconnect", reis_connection_disconnect(connection, REIS_REASON_DISCONNECTED, NULL, 0));
 }
 
-/* Acts on what the client asks for, from its handshake on. */
-static void act(reis_connection *connection, uint64_t *seat) {
+/* A client that receives gets its seat. */
+static void greet(reis_connection *connection) {
     reis_context_type type;
     size_t length;
+    uint64_t seat;
+    reis_connection_client(connection, &type, NULL, 0, &length);
+    done("add_seat", reis_connection_add_seat(connection, NULL, 0, wanted, &seat));
+    if (type != REIS_CONTEXT_RECEIVER)
+        done("disconnect", reis_connection_disconnect(connection, REIS_REASON_MODE, "it must receive", 15));
+}
+
+/* Acts on what the client asks for, from its handshake on. */
+static void act(reis_connection *connection) {
     reis_request request;
-    if (*seat == 0 && reis_connection_client(connection, &type, NULL, 0, &length) != REIS_NOTHING) {
-        done("add_seat", reis_connection_add_seat(connection, NULL, 0, wanted, seat));
-        if (type != REIS_CONTEXT_RECEIVER)
-            done("disconnect", reis_connection_disconnect(connection, REIS_REASON_MODE, "it must receive", 15));
-    }
     while (reis_connection_next_request(connection, &request) == REIS_OK) {
-        if (request.kind == REIS_KIND_BIND)
+        if (request.kind == REIS_KIND_CONNECTED)
+            greet(connection);
+        else if (request.kind == REIS_KIND_BIND)
             serve(connection, request.seat, request.bind.capabilities);
     }
 }
 
 /* One client, until it is over and all is written. */
 static void play(struct peer *peer) {
-    uint64_t seat = 0;
     while (peer_waits(peer) || peer_end(peer) == REIS_END_GOES_ON) {
         bool waits = peer_waits(peer);
         struct pollfd polled = {.fd = peer->socket, .events = waits ? POLLOUT : POLLIN};
@@ -107,7 +112,7 @@ static void play(struct peer *peer) {
             return;
         if (waits ? !peer_write(peer) : !peer_read(peer, 0))
             return;
-        act(&peer->connection, &seat);
+        act(&peer->connection);
     }
 }
 

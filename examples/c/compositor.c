@@ -118,9 +118,7 @@ static void greet(struct client *client) {
     uint8_t name[64];
     size_t length;
     reis_context_type type;
-    reis_answer known = reis_connection_client(&client->peer.connection, &type, name, sizeof name, &length);
-    if (client->seat != 0 || known != REIS_OK)
-        return;
+    reis_connection_client(&client->peer.connection, &type, name, sizeof name, &length);
     printf("client %u: a %s\n", client->number, type == REIS_CONTEXT_SENDER ? "sender" : "receiver");
     says_why(client, "add_seat",
              reis_connection_add_seat(&client->peer.connection, "default", 7, given[0] | given[1] | given[2], &client->seat));
@@ -128,8 +126,11 @@ static void greet(struct client *client) {
 
 static void act(struct client *client) {
     reis_request request;
-    greet(client);
     while (reis_connection_next_request(&client->peer.connection, &request) == REIS_OK) {
+        if (request.kind == REIS_KIND_CONNECTED) {
+            greet(client);
+            continue;
+        }
         printf("client %u: %s %" PRIu64 " %" PRIu64 "\n", client->number, reis_kind_name(request.kind), request.fields[0],
                request.fields[1]);
         if (request.kind == REIS_KIND_BIND)

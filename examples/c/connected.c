@@ -75,6 +75,7 @@ static void starts(struct played *it, reis_context_type context_type, size_t cut
     size_t length = 1;
     reis_context_type told = REIS_CONTEXT_SENDER;
     uint64_t seat = 1;
+    reis_request request;
     memset(it, 0, sizeof *it);
     it->cut = cut;
     it->serial = SERIAL;
@@ -82,7 +83,9 @@ static void starts(struct played *it, reis_context_type context_type, size_t cut
     CHECK(reis_connection_start(&it->connection, SERIAL) == REIS_HAS_SESSION);
     CHECK(reis_connection_client(&it->connection, &told, name, sizeof name, &length) == REIS_NOTHING && told == 0 && length == 0);
     CHECK(reis_connection_add_seat(&it->connection, "x", 1, 1, &seat) == REIS_NOT_CONNECTED && seat == 0);
+    CHECK(reis_connection_ping(&it->connection, &seat) == REIS_NOT_CONNECTED && seat == 0);
     CHECK(reis_connection_resume(&it->connection, FIRST_SEAT) == REIS_NOT_CONNECTED);
+    CHECK(reis_connection_next_request(&it->connection, &request) == REIS_NOTHING);
     CHECK(reis_connection_disconnect(&it->connection, REIS_REASON_ERROR, NULL, 0) == REIS_NOT_CONNECTED);
     stream.count = 0;
     add_handshake(&stream, all_interfaces, context_type, "probe");
@@ -91,6 +94,9 @@ static void starts(struct played *it, reis_context_type context_type, size_t cut
     sends(it, 0);
     CHECK(reis_connection_client(&it->connection, &told, name, 4, &length) == REIS_NO_ROOM && told == context_type && length == 5);
     CHECK(reis_connection_client(&it->connection, &told, name, sizeof name, &length) == REIS_OK && memcmp(name, "probe", 5) == 0);
+    CHECK(reis_connection_next_request(&it->connection, &request) == REIS_OK && request.kind == REIS_KIND_CONNECTED);
+    CHECK(request.seat == 0 && request.device == 0 && request.time == 0 && request.fields[0] == 0);
+    CHECK(reis_connection_next_request(&it->connection, &request) == REIS_NOTHING);
 }
 
 /* The client asks for no more, and the connection is freed. */
@@ -268,6 +274,67 @@ static void test_sender(size_t cut) {
     ends(&played, REIS_END_DISCONNECTED);
 }
 
+/* ---- pings, and seats that a client releases ---- */
+
+static uint64_t pings(struct played *it, uint64_t id) {
+    uint64_t ping = 1;
+    CHECK(reis_connection_ping(&it->connection, NULL) == REIS_NULL);
+    CHECK(reis_connection_ping(&it->connection, &ping) == REIS_OK && ping == id);
+    add(&it->wanted, CONNECTION, 3, "lw", ping, 1u);
+    sends(it, 0);
+    return ping;
+}
+
+/* The client's message goes to no object, of which it is told. */
+static void goes_nowhere(struct played *it, uint64_t object, uint32_t opcode, const char *kinds, uint64_t value) {
+    asks(it, object, opcode, kinds, value);
+    add(&it->wanted, CONNECTION, 2, "wl", it->serial, object);
+    sends(it, 0);
+}
+
+static void is_answered(struct played *it, uint64_t ping, uint64_t data) {
+    reis_request request;
+    CHECK(reis_connection_next_request(&it->connection, &request) == REIS_OK && request.kind == REIS_KIND_PONG);
+    CHECK(request.pong.ping == ping && request.pong.callback_data == data);
+    CHECK(request.seat == 0 && request.device == 0 && request.time == 0 && request.fields[2] == 0 && request.fields[3] == 0);
+}
+
+static void test_notices(size_t cut) {
+    checking("notices", cut, 0);
+    reis_request request;
+    starts(&played, REIS_CONTEXT_SENDER, cut);
+    uint64_t first = pings(&played, FIRST_SEAT);
+    uint64_t second = pings(&played, FIRST_SEAT + 1);
+    asks(&played, second, 0, "l", 5);
+    asks(&played, first, 0, "l", 0x1122334455667788u);
+    sends(&played, 0);
+    is_answered(&played, second, 5);
+    is_answered(&played, first, 0x1122334455667788u);
+    goes_nowhere(&played, first, 0, "l", 0);
+    CHECK(reis_connection_next_request(&played.connection, &request) == REIS_NOTHING);
+    /* A seat's release and a pong come behind the requests, and in their order. */
+    uint64_t seat = adds_seat(&played, FIRST_SEAT + 2, REIS_CAPABILITY_KEYBOARD);
+    uint64_t third = pings(&played, seat + 1);
+    asks(&played, third, 0, "l", 6);
+    asks(&played, seat, 1, "l", REIS_CAPABILITY_KEYBOARD);
+    asks(&played, seat, 0, "", 0);
+    add(&played.wanted, seat, 0, "w", next_serial(&played));
+    sends(&played, 0);
+    is_asked(&played, REIS_KIND_BIND, seat, 0, REIS_CAPABILITY_KEYBOARD);
+    is_answered(&played, third, 6);
+    is_asked(&played, REIS_KIND_SEAT_RELEASED, seat, 0, 0);
+    goes_nowhere(&played, seat, 0, "", 0);
+    CHECK(reis_connection_remove_seat(&played.connection, seat) == REIS_OK);
+    sends(&played, 0);
+    uint64_t last = pings(&played, third + 1);
+    asks(&played, last, 0, "l", UINT64_MAX);
+    asks(&played, CONNECTION, 1, "", 0);
+    is_asked(&played, REIS_KIND_DISCONNECT, 0, 0, 0);
+    is_answered(&played, last, UINT64_MAX);
+    CHECK(reis_connection_ping(&played.connection, &last) == REIS_OVER && last == 0);
+    ends(&played, REIS_END_DISCONNECTED);
+}
+
 /* ---- a receiver ---- */
 
 /* All inputs, and what the client is told of each: the place of its interface behind the device, and its opcode. */
@@ -312,9 +379,11 @@ static void refuses_inputs(struct played *it, uint64_t device) {
         reis_request input = {.kind = (reis_kind)kind, .device = device};
         CHECK(reis_connection_send(&it->connection, &input, NULL, 0) == REIS_INVALID);
     }
-    reis_request input = {.kind = (reis_kind)25, .device = device};
-    CHECK(reis_connection_send(&it->connection, &input, NULL, 0) == REIS_INVALID);
-    input.kind = REIS_KIND_TEXT_UTF8;
+    for (uint32_t kind = REIS_KIND_GESTURE_PINCH + 1; kind < 30; kind++) {
+        reis_request input = {.kind = (reis_kind)kind, .device = device};
+        CHECK(reis_connection_send(&it->connection, &input, NULL, 0) == REIS_INVALID);
+    }
+    reis_request input = {.kind = REIS_KIND_TEXT_UTF8, .device = device};
     CHECK(reis_connection_send(&it->connection, &input, "\xff", 1) == REIS_INVALID);
     CHECK(reis_connection_send(&it->connection, &input, NULL, 1) == REIS_NULL);
     input.fields[1] = 2;
@@ -395,6 +464,8 @@ static void test_none(void) {
     CHECK(reis_connection_sent(&none, 0) == REIS_NO_SESSION);
     CHECK(reis_connection_end(&none, &end) == REIS_NO_SESSION && end == REIS_END_GOES_ON);
     CHECK(reis_connection_next_request(&none, &request) == REIS_NO_SESSION);
+    CHECK(reis_connection_ping(&none, &id) == REIS_NO_SESSION && id == 0);
+    id = 1;
     CHECK(reis_connection_add_device(&none, 1, &device, &id) == REIS_NO_SESSION && id == 0);
     CHECK(reis_connection_device_has(&none, 1, 1, &has) == REIS_NO_SESSION && has == 0);
     CHECK(reis_connection_send(&none, &request, NULL, 0) == REIS_NO_SESSION);
@@ -408,6 +479,7 @@ int main(void) {
     test_none();
     for (size_t i = 0; i < sizeof cuts / sizeof cuts[0]; i++) {
         test_sender(cuts[i]);
+        test_notices(cuts[i]);
         test_receiver(cuts[i]);
     }
     return checked("connected");

@@ -69,6 +69,8 @@ static void shake_hands(reis_context_type type) {
     CHECK(peer_open(&pair.peer, ends[1], SERIAL) == REIS_OK && blocks_here() > 0);
     add_handshake(&hello, all_interfaces, type, "probe");
     client_says(&hello);
+    reis_request request;
+    CHECK(reis_connection_next_request(&pair.peer.connection, &request) == REIS_OK && request.kind == REIS_KIND_CONNECTED);
     CHECK(peer_write(&pair.peer));
     add_welcome(&pair.wanted, all_interfaces, SERIAL);
     CHECK(client_hears() == -1);

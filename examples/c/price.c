@@ -48,6 +48,9 @@ static void begin(reis_context_type type) {
         reis_connection_add_device(&connection, seat, &described, &added) != REIS_OK || added != device)
         fail("it doesn't begin");
     take_all();
+    reis_request request;
+    while (reis_connection_next_request(&connection, &request) == REIS_OK)
+        continue;
 }
 
 /* All groups, one behind another. */

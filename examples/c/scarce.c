@@ -62,6 +62,17 @@ static reis_answer add_seat(struct told *it) {
     return answer;
 }
 
+static reis_answer ping(struct told *it) {
+    uint64_t id = 1;
+    reis_answer answer = reis_connection_ping(&it->connection, &id);
+    CHECK(id == (answer == REIS_OK ? it->next_id : 0));
+    if (answer != REIS_OK)
+        return answer;
+    add(&it->wanted, CONNECTION, 3, "lw", id, 1u);
+    it->next_id++;
+    return answer;
+}
+
 static reis_answer add_device(struct told *it) {
     static const reis_region region = {1, 2, 3, 4, 0.5f, 0, 4};
     uint64_t id = 1;
@@ -192,6 +203,8 @@ static void begin(struct told *it) {
     add_handshake(&hello, all_interfaces, REIS_CONTEXT_RECEIVER, "probe");
     CHECK(reis_connection_start(&it->connection, SERIAL) == REIS_OK);
     CHECK(reis_connection_feed(&it->connection, hello.bytes, hello.count, NULL, 0, 0) == REIS_OK);
+    reis_request request;
+    CHECK(reis_connection_next_request(&it->connection, &request) == REIS_OK && request.kind == REIS_KIND_CONNECTED);
     add_welcome(&it->wanted, all_interfaces, SERIAL);
     CHECK(add_seat(it) == REIS_OK && add_device(it) == REIS_OK);
     check_told(it, REIS_END_GOES_ON);
@@ -212,6 +225,7 @@ struct call {
 };
 
 static const struct call calls[] = {
+    {"ping", ping, ping, MOST_FILLS, REIS_END_GOES_ON},
     {"add_seat", add_seat, add_seat, 40, REIS_END_GOES_ON},
     {"add_device", add_device, add_device, 40, REIS_END_GOES_ON},
     {"remove_device", remove_device, resume, MOST_FILLS, REIS_END_GOES_ON},
@@ -333,6 +347,7 @@ static void add_requests(struct stream *stream) {
     }
     add(stream, device, 3, "wl", 7u, (uint64_t)1000);
     add(stream, device + 3, 0, "");
+    add(stream, seat, 0, "");
     add(stream, CONNECTION, 0, "lw", (uint64_t)1, 1u);
 }
 
@@ -347,6 +362,7 @@ static void test_requests(void) {
         checking("requests", number, 0);
         begin(&told);
         add(&told.wanted, device + 3, 0, "w", next_serial(&told));
+        add(&told.wanted, seat, 0, "w", next_serial(&told));
         add(&told.wanted, 1, 0, "l", (uint64_t)0);
         blocks_refuse(number);
         feed_all(&told, &asked, &ran_out);
@@ -354,7 +370,7 @@ static void test_requests(void) {
         blocks_refuse(0);
         while (reis_connection_next_request(&told.connection, &request) == REIS_OK)
             requests++;
-        CHECK(ran_out ? requests < 43 : requests == 43);
+        CHECK(ran_out ? requests < 44 : requests == 44);
         if (ran_out)
             check_over(&told, true);
         end(&told);
@@ -384,7 +400,7 @@ static void test_others(void) {
         reis_answer answer = reis_connection_request_text(&told.connection, text, sizeof text, &length);
         CHECK(answer == (request.kind == REIS_KIND_TEXT_UTF8 ? REIS_OK : REIS_NOTHING));
     }
-    CHECK(requests == 43);
+    CHECK(requests == 44);
     CHECK(reis_connection_client(&told.connection, &type, text, sizeof text, &length) == REIS_OK && length == 5);
     CHECK(reis_connection_device_has(&told.connection, device, REIS_CAPABILITY_TOUCH, &has) == REIS_OK && has == 1);
     while (reis_connection_unsent(&told.connection, &bytes, &count, &handles, &handle_count) == REIS_OK && count > 0)

@@ -28,6 +28,8 @@ int fields_in_view(const reis_request *request) {
     case REIS_KIND_DISCONNECT:
     case REIS_KIND_DEVICE_CLOSED:
     case REIS_KIND_READY:
+    case REIS_KIND_CONNECTED:
+    case REIS_KIND_SEAT_RELEASED:
         return 0;
     case REIS_KIND_BIND:
         return all(1, is(f[0], r.bind.capabilities));
@@ -71,6 +73,8 @@ int fields_in_view(const reis_request *request) {
         return all(3, is(f[0], r.gesture_swipe.fingers) && is_float(f[1], r.gesture_swipe.dx) && is_float(f[2], r.gesture_swipe.dy));
     case REIS_KIND_GESTURE_PINCH:
         return all(1, is_float(f[0], r.gesture_pinch.scale));
+    case REIS_KIND_PONG:
+        return all(2, is(f[0], r.pong.ping) && is(f[1], r.pong.callback_data));
     }
     return 0;
 }

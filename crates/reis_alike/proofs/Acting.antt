@@ -25,6 +25,7 @@ use Rattle.ei_serve.proofs.Following.{behind_last}
 use Rattle.reis_eis.specs.declared.call_error.CallError.{CallError}
 use Rattle.reis_eis.specs.declared.call_error.CallError.TheVariants as call_error
 use Rattle.reis_eis.specs.declared.ending.Ending.{Ending}
+use Rattle.reis_eis.specs.declared.notice.Notice.{Notice}
 use Rattle.reis_eis.specs.declared.phase.Phase.{Phase}
 use Rattle.reis_eis.specs.declared.phase.Phase.TheVariants as phase
 use Rattle.reis_eis.specs.View.{EisView}
@@ -34,9 +35,13 @@ use Rattle.reis_eis.proofs.Firsts.{by_key, without_key}
 use Rattle.reis_alike.specs.Program.{AddsAndResumes, AddsWanted, Does, TakesOut}
 use Rattle.reis_alike.proofs.Giving.{IsQuiet, AreQuiet, IsGiven, AllQuiet, WithLast}
 
+-- what stands beside a phase: how the connection ended, and the notices that wait
+abbrev pub Beside : Type 0
+Beside = Option Ending × List Notice
+
 -- a connection behind the handshake
-abbrev pub view_of : ConverterView → Option Ending → EisView
-view_of c how = record { phase = phase.Standing c; ending = how }
+abbrev pub view_of : ConverterView → Beside → EisView
+view_of c how = record { phase = phase.Standing c; ending = how.0; notices = how.1 }
 
 -- ---- a call
 
@@ -74,26 +79,27 @@ Done (DeviceClosed d) old new = RemovesDeviceAt d old new
 Done y old new = new ≡ old
 
 -- it was done behind the handshake, and no request came or went
-pub record DoesSo (P : ConnectionView → ConnectionView → Type 0) (c : ConverterView) (how : Option Ending) (new : EisView) : Type 0 where
+pub record DoesSo (P : ConnectionView → ConnectionView → Type 0) (c : ConverterView) (how : Beside) (new : EisView) : Type 0 where
   pub now : ConverterView
   pub is : new ≡ view_of now how
   pub done : P c.handle now.handle
   pub queue : now.queue ≡ c.queue
 
-view_is : (e : EisView) (c : ConverterView) (how : Option Ending) → e.phase ≡ phase.Standing c → e.ending ≡ how → e ≡ view_of c how
-view_is e c how p k = ap (λ (x : Phase). record { phase = x; ending = e.ending }) p ∙ ap (λ (x : Option Ending). view_of c x) k
+view_is : (e : EisView) (c : ConverterView) (how : Beside) → e.phase ≡ phase.Standing c → e.ending ≡ how.0 → e.notices ≡ how.1 → e ≡ view_of c how
+view_is e c how p k n =
+    ap (λ (x : Phase). record e { phase = x }) p ∙ ap (λ (x : Option Ending). view_of c (x, e.notices)) k ∙ ap (λ (x : List Notice). view_of c (how.0, x)) n
 
-acts_so : (does : ConnectionView → ConnectionView → Type 0) (c : ConverterView) (how : Option Ending) (new : EisView) → ActsOn does (view_of c how) new → DoesSo does c how new
-acts_so does c how new h = let a = acts_in does c new.phase h.acts in record { now = a.now; is = view_is new a.now how a.is h.kept; done = a.acts.done; queue = a.acts.queue }
+acts_so : (does : ConnectionView → ConnectionView → Type 0) (c : ConverterView) (how : Beside) (new : EisView) → ActsOn does (view_of c how) new → DoesSo does c how new
+acts_so does c how new h = let a = acts_in does c new.phase h.acts in record { now = a.now; is = view_is new a.now how a.is h.kept h.notices; done = a.acts.done; queue = a.acts.queue }
 
-nothing_so : (c : ConverterView) (how : Option Ending) (new : EisView) → new ≡ view_of c how → DoesSo (λ old new. new ≡ old) c how new
+nothing_so : (c : ConverterView) (how : Beside) (new : EisView) → new ≡ view_of c how → DoesSo (λ old new. new ≡ old) c how new
 nothing_so c how new is = record { now = c; is = is; done = refl; queue = refl }
 
-accepted_so : (wanted : DeviceCapabilities) (c : ConverterView) (how : Option Ending) → refusal (adding_device seat_id None wanted []) (view_of c how) ≡ None → adding_device seat_id None wanted [] c.handle ≡ None
-accepted_so wanted c None e = e
-accepted_so wanted c (Some x) e = absurd cc
+accepted_so : (wanted : DeviceCapabilities) (c : ConverterView) (how : Beside) → refusal (adding_device seat_id None wanted []) (view_of c how) ≡ None → adding_device seat_id None wanted [] c.handle ≡ None
+accepted_so wanted c (None, waiting) e = e
+accepted_so wanted c (Some x, waiting) e = absurd cc
 
-adds_so : (wanted : DeviceCapabilities) (c : ConverterView) (how : Option Ending) (new : EisView) → AddsAndResumes seat_id wanted (view_of c how) new → DoesSo (Adds wanted) c how new
+adds_so : (wanted : DeviceCapabilities) (c : ConverterView) (how : Beside) (new : EisView) → AddsAndResumes seat_id wanted (view_of c how) new → DoesSo (Adds wanted) c how new
 adds_so wanted c how new h =
     let a = acts_so (AddsDeviceAs h.id seat_id None Virtual wanted []) c how h.added h.adds in
     let b = acts_so (Resumes h.id) a.now how new (subst (λ (e : EisView). ActsOn (Resumes h.id) e new) a.is h.resumes) in
@@ -104,11 +110,11 @@ adds_so wanted c how new h =
       queue = b.queue ∙ a.queue;
     }
 
-wanted_so : (b : Bool) (wanted : DeviceCapabilities) (c : ConverterView) (how : Option Ending) (new : EisView) → AddsWanted b seat_id wanted (view_of c how) new → DoesSo (AddsSome b wanted) c how new
+wanted_so : (b : Bool) (wanted : DeviceCapabilities) (c : ConverterView) (how : Beside) (new : EisView) → AddsWanted b seat_id wanted (view_of c how) new → DoesSo (AddsSome b wanted) c how new
 wanted_so true wanted c how new h = nothing_so c how new h
 wanted_so false wanted c how new h = adds_so wanted c how new h
 
-pub does_so : (past : List Raw) (y : Plain) (c : ConverterView) (how : Option Ending) (new : EisView) → Does (plain_in_code past y) (view_of c how) new → DoesSo (Done y) c how new
+pub does_so : (past : List Raw) (y : Plain) (c : ConverterView) (how : Beside) (new : EisView) → Does (plain_in_code past y) (view_of c how) new → DoesSo (Done y) c how new
 does_so past (Bind seat mask) c how new h = wanted_so (mask == 0) (set_of mask) c how new h
 does_so past (RequestDevice seat mask) c how new h = wanted_so (mask == 0) (set_of mask) c how new h
 does_so past (DeviceClosed d) c how new h = acts_so (RemovesDeviceAt d) c how new h
@@ -129,17 +135,17 @@ quiet_does r e f q d = d
 abbrev pub waiting : ConnectionView → List EisRequest → ConverterView
 waiting h queue = record { handle = h; queue = queue }
 
-none_left : (h : ConnectionView) (how : Option Ending) (rs : List EisRequest) (new : EisView) → TakesOut rs (view_of (waiting h []) how) new → (rs ≡ []) × (new ≡ view_of (waiting h []) how)
+none_left : (h : ConnectionView) (how : Beside) (rs : List EisRequest) (new : EisView) → TakesOut rs (view_of (waiting h []) how) new → (rs ≡ []) × (new ≡ view_of (waiting h []) how)
 none_left h how [] new t = (refl, t.1)
 none_left h how (r ∷ rs) new t = let z : None ≡ Some r = t.0 in absurd cc
 
 -- the first were taken out, and then others
-record TakesFirst (q more : List EisRequest) (h : ConnectionView) (how : Option Ending) (rs : List EisRequest) (new : EisView) : Type 0 where
+record TakesFirst (q more : List EisRequest) (h : ConnectionView) (how : Beside) (rs : List EisRequest) (new : EisView) : Type 0 where
   others : List EisRequest
   all : rs ≡ q ++ others
   takes : TakesOut others (view_of (waiting h more) how) new
 
-takes_first : (q more : List EisRequest) (h : ConnectionView) (how : Option Ending) (rs : List EisRequest) (new : EisView) → AreQuiet q → TakesOut rs (view_of (waiting h (q ++ more)) how) new → TakesFirst q more h how rs new
+takes_first : (q more : List EisRequest) (h : ConnectionView) (how : Beside) (rs : List EisRequest) (new : EisView) → AreQuiet q → TakesOut rs (view_of (waiting h (q ++ more)) how) new → TakesFirst q more h how rs new
 takes_first [] more h how rs new quiet t = record { others = rs; all = refl; takes = t }
 takes_first (x ∷ q) more h how [] new quiet t = let z : Some x ≡ None = t.0 in absurd cc
 takes_first (x ∷ q) more h how (r ∷ rs) new quiet t =
@@ -267,21 +273,21 @@ module _ (past : List Raw) (h : ConnectionView) (keys : HasKeysOf past h) where
   all_follow (r ∷ s ∷ rs) q = all_follow (s ∷ rs) q.1
 
   -- these were the requests that waited, and what was done is what a session does behind the last; no ids ran out
-  pub record TakesSo (queue : List EisRequest) (how : Option Ending) (handed : List EisRequest) (new : EisView) : Type 0 where
+  pub record TakesSo (queue : List EisRequest) (how : Beside) (handed : List EisRequest) (new : EisView) : Type 0 where
     pub end : ConnectionView
     pub is : new ≡ view_of (waiting end []) how
     pub all : handed ≡ queue
     pub follows : Follows (policy_behind queue) h end
     pub enough_ids : LacksIds (policy_behind queue) h → ⊥
 
-  takes_quiet : (queue : List EisRequest) (how : Option Ending) (handed : List EisRequest) (new : EisView) → AreQuiet queue → TakesOut handed (view_of (waiting h queue) how) new → TakesSo queue how handed new
+  takes_quiet : (queue : List EisRequest) (how : Beside) (handed : List EisRequest) (new : EisView) → AreQuiet queue → TakesOut handed (view_of (waiting h queue) how) new → TakesSo queue how handed new
   takes_quiet queue how handed new q t =
       let f = takes_first queue [] h how handed new q (subst (λ (x : List EisRequest). TakesOut handed (view_of (waiting h x) how) new) (sym (append-nil queue)) t) in
       let n = none_left h how f.others new f.takes in
       let a = all_follow queue q in
       record { end = h; is = n.1; all = f.all ∙ ap (λ (x : List EisRequest). queue ++ x) n.0 ∙ append-nil queue; follows = a.0; enough_ids = a.1 }
 
-  takes_one : (r : EisRequest) (how : Option Ending) (handed : List EisRequest) (new : EisView) (P : ConnectionView → ConnectionView → Type 0) → ((done : EisView) → Does r (view_of (waiting h []) how) done → DoesSo P (waiting h []) how done) →
+  takes_one : (r : EisRequest) (how : Beside) (handed : List EisRequest) (new : EisView) (P : ConnectionView → ConnectionView → Type 0) → ((done : EisView) → Does r (view_of (waiting h []) how) done → DoesSo P (waiting h []) how done) →
       TakesOut handed (view_of (waiting h (r ∷ [])) how) new → (handed ≡ r ∷ []) × ((end : ConnectionView) × (new ≡ view_of (waiting end []) how) × P h end)
   takes_one r how [] new P does t = let z : Some r ≡ None = t.0 in absurd cc
   takes_one r how (x ∷ xs) new P does t =
@@ -291,7 +297,7 @@ module _ (past : List Raw) (h : ConnectionView) (keys : HasKeysOf past h) where
       let n = none_left d.now.handle how xs new (subst (λ (e : EisView). TakesOut xs e new) now t.1.2) in
       (ap (λ (y : EisRequest). y ∷ xs) same ∙ ap (λ (ys : List EisRequest). r ∷ ys) n.0, (d.now.handle, n.1, d.done))
 
-  takes_last : (rs : List EisRequest) (y : Plain) (how : Option Ending) (handed : List EisRequest) (new : EisView) → AreQuiet rs → TakesOut handed (view_of (waiting h (rs ++ plain_in_code past y ∷ [])) how) new → TakesSo (rs ++ plain_in_code past y ∷ []) how handed new
+  takes_last : (rs : List EisRequest) (y : Plain) (how : Beside) (handed : List EisRequest) (new : EisView) → AreQuiet rs → TakesOut handed (view_of (waiting h (rs ++ plain_in_code past y ∷ [])) how) new → TakesSo (rs ++ plain_in_code past y ∷ []) how handed new
   takes_last rs y how handed new q t =
       let f = takes_first rs (plain_in_code past y ∷ []) h how handed new q t in
       let o = takes_one (plain_in_code past y) how f.others new (Done y) (λ done d. does_so past y (waiting h []) how done d) f.takes in
@@ -304,7 +310,7 @@ module _ (past : List Raw) (h : ConnectionView) (keys : HasKeysOf past h) where
         enough_ids = rw (behind_last rs (plain_in_code past y)) l.1;
       }
 
-  pub takes_so : (queue : List EisRequest) (how : Option Ending) (handed : List EisRequest) (new : EisView) → IsGiven past queue → TakesOut handed (view_of (waiting h queue) how) new → TakesSo queue how handed new
+  pub takes_so : (queue : List EisRequest) (how : Beside) (handed : List EisRequest) (new : EisView) → IsGiven past queue → TakesOut handed (view_of (waiting h queue) how) new → TakesSo queue how handed new
   takes_so queue how handed new (AllQuiet q) t = takes_quiet queue how handed new q t
   takes_so queue how handed new (WithLast rs y q e) t =
       subst (λ (x : List EisRequest). TakesSo x how handed new) (sym e) (takes_last rs y how handed new q (subst (λ (x : List EisRequest). TakesOut handed (view_of (waiting h x) how) new) e t))

@@ -2,6 +2,7 @@
 use Rattle.std.proofs.Common.{◌≡◌, ℕ, Bool, true, false, ◌||◌, List, [], ◌∷◌, map, Option, Some, None, refl, sym, ap, subst, ◌∙◌, inl, inr, arith}
 use Rattle.std.specs.Prelude.{find}
 use Rattle.std.specs.Option.{option_map}
+use Rattle.ei_spec.specs.declared.interface.KnownInterface.TheVariants as known
 use Rattle.ei_spec.specs.Interface.{ObjectView}
 use Rattle.ei_spec.specs.Message.{Raw, Short, Whole, front}
 use Rattle.ei_types.specs.declared.error.Error.{Error}
@@ -15,10 +16,14 @@ use Rattle.ei_server.specs.Request.{target_of, opcode_of, values_of}
 use Rattle.ei_session.specs.Setup.{Setup}
 use Rattle.ei_session.specs.ByMeaning.{callback_in, disconnects}
 use Rattle.ei_session.specs.Devices.{exhausts}
-use Rattle.ei_session.specs.Meaning.{Shake, Meaning, meaning, Shakes, Syncs, Disconnects}
+use Rattle.ei_session.specs.Meaning.{Shake, Meaning, meaning, Shakes, Syncs, Disconnects, Pongs}
+use Rattle.ei_session.specs.Kept.{is_bare, home}
 use Rattle.ei_session.specs.Objects.{Entry, object}
 use Rattle.ei_session.specs.Refusals.{refusal, verdict, judge}
+use Rattle.ei_session.proofs.AskedByMeaning.{its_interface}
+use Rattle.ei_session.proofs.Choices.{none_some}
 use Rattle.ei_session.proofs.JudgedMeans.{judge_asked}
+use Rattle.ei_session.proofs.Placed.{object_placed}
 use Rattle.ei_session.proofs.RefusedMeans.{refusal_asked}
 use Rattle.ei_request.specs.Held.{SeatView, DeviceView, is_device}
 use Rattle.ei_request.specs.Keys.{DeviceKey}
@@ -33,18 +38,21 @@ use Rattle.ei_serve.specs.Standing.{IsConnected}
 use Rattle.ei_serve.specs.Steps.{Refuses}
 use Rattle.ei_serve.proofs.Asked.{View, view, TakenOut, NoObject, waits_by, gone_by, taken_by, held_with, asks_refused}
 use Rattle.ei_serve.proofs.TookBehind.{Behind, behind, behind_sync}
+use Rattle.reis_eis.specs.declared.ending.Ending.{Ending}
 use Rattle.reis_eis.specs.declared.ending.Ending.TheVariants as ending
+use Rattle.reis_eis.specs.declared.notice.Notice.{Notice}
 use Rattle.reis_eis.specs.Steps.{AnyStep as Step}
 use Rattle.reis_eis.specs.Steps as step
 use Rattle.reis_eis.specs.Words.{with_ctx}
 use Rattle.reis_eis.specs.Keys.{names_device}
-use Rattle.reis_eis.specs.Handling.{ends, refused, tells_no_object, TellsNoObject, TakesAt, RefusesAsked, Obeys, DoesRead, Converses}
+use Rattle.reis_eis.specs.Handling.{ends, notice_of, done_by, refused, tells_no_object, TellsNoObject, TakesAt, RefusesAsked, Obeys, DoesRead, Converses}
 use Rattle.reis_eis.proofs.Firsts.{find_of}
 use Rattle.reis_eis.proofs.Handled.{SameHeld, handled_held}
 use Rattle.reis_alike.proofs.Endpoints.{quietly, answers_so}
 use Rattle.reis_alike.proofs.Acting.{HasKeysOf}
 use Rattle.reis_alike.proofs.Asking.{Stood, Plainly, Syncing, unread_to, held_to, asks_so, stood, refused_so}
 use Rattle.reis_alike.proofs.Refusing.{no_handshake, refuses_as}
+use Rattle.reis_alike.proofs.Stepping.{how_of}
 
 -- ---- the clock of one message
 
@@ -64,9 +72,9 @@ times_of false waiting time = refl
 -- ---- what became of it
 
 -- the last message is that by which the client disconnects
-abbrev pub step_of : Bool → Step
-step_of true = step.Ended ending.Disconnected
-step_of false = step.Handled
+abbrev pub how_by : Bool → Option Ending
+how_by true = Some ending.Disconnected
+how_by false = None
 
 -- A request was taken out of a converter that stood, and its requests are queued; what the policy does behind them makes it
 -- stand for the message.
@@ -91,7 +99,7 @@ pub record Heard (setup : Setup) (past : List Raw) (times : List ℕ) (time : �
   pub does : new ≡ handled out m.id x time
   pub now_unread : new.handle.ctx.unread ≡ after
   pub last : Bool
-  pub step_is : s ≡ step_of last
+  pub how_is : how_of s ≡ how_by last
   pub judged : judge setup past m ≡ verdict None (last || exhausts past m)
 
 pub data Conversed (setup : Setup) (past : List Raw) (times : List ℕ) (time : ℕ) (c : ConverterView) (s : Step) (new : ConverterView) : Type 0 where
@@ -103,6 +111,15 @@ pub data Conversed (setup : Setup) (past : List Raw) (times : List ℕ) (time : 
   Refused : (e : Error) → Refuses setup past c.handle.ctx.unread e → (e ≡ error.NoMemory → ⊥) → s ≡ refused e → new.queue ≡ [] → Conversed setup past times time c s new
   -- memory ran out
   Full : s ≡ refused error.NoMemory → Conversed setup past times time c s new
+
+-- what tells something isn't the last
+not_last : (id : ℕ) (x : Meaning) (told : Notice) → notice_of id x ≡ Some told → ends x ≡ false
+not_last id Disconnects told is = cc
+not_last id x told is = refl
+
+without_pong : (c : ConverterView) (id : ℕ) (x : Meaning) (time : ℕ) → ((callback_data : ℕ) → x ≡ Pongs callback_data → ⊥) → done_by c id x time ≡ handled c id x time
+without_pong c id (Pongs callback_data) time never = absurd (never callback_data refl)
+without_pong c id x time never = refl
 
 same_end : (x : Meaning) → disconnects (Some x) ≡ ends x
 same_end Disconnects = refl
@@ -152,6 +169,12 @@ module _ (setup : Setup) (past : List Raw) (times : List ℕ) (time : ℕ) (c : 
     no_shaking : (shake : Shake) → meaning_of r ≡ Shakes shake → ⊥
     no_shaking shake is = no_shake setup past t.m times c t.e h t.there shake (asks ∙ ap (λ (x : Meaning). Some x) is)
 
+    -- a server of the fixed policy has no ping, so none is answered
+    no_pong : (callback_data : ℕ) → meaning_of r ≡ Pongs callback_data → ⊥
+    no_pong callback_data is =
+        let i : t.e.interface ≡ known.Pingpong = its_interface t.e.interface t.m (Pongs callback_data) known.Pingpong (asks ∙ ap (λ (x : Meaning). Some x) is) refl in
+        none_some t.m.id (sym (ap home i) ∙ (object_placed past t.m.id t.e t.there).at_home (ap is_bare i))
+
     module _ (new : ConverterView) (taken : TakesAt time (with_ctx c b) r new) where
       fine : refusal setup past t.m ≡ None
       fine = sym (refused_so setup past times c h b r t n) ∙ ap (option_map refusal_told) taken.accepted
@@ -163,7 +186,8 @@ module _ (setup : Setup) (past : List Raw) (times : List ℕ) (time : ℕ) (c : 
           ∙ ap (λ (x : Bool). verdict None (x || exhausts past t.m)) (same_end (meaning_of r))
 
       does_at : new ≡ handled (with_ctx c b) t.m.id (meaning_of r) time
-      does_at = taken.does ∙ ap (λ (o : ObjectView). handled (with_ctx c b) o.id (meaning_of r) time) t.target
+      does_at =
+          taken.does ∙ without_pong (with_ctx c b) (target_of r).id (meaning_of r) time no_pong ∙ ap (λ (o : ObjectView). handled (with_ctx c b) o.id (meaning_of r) time) t.target
 
       keys : HasKeysOf past new.handle
       keys =
@@ -175,7 +199,7 @@ module _ (setup : Setup) (past : List Raw) (times : List ℕ) (time : ℕ) (c : 
           (subst (λ (x : ConverterView). SameHeld (with_ctx c b).handle x.handle) (sym does_at) (handled_held (with_ctx c b) t.m.id (meaning_of r) time)).unread
           ∙ ap (λ (x : BackendView). x.unread) t.now
 
-      heard : (s : Step) → s ≡ step_of (ends (meaning_of r)) → Stood setup past times c b t.after (meaning_of r) → Heard setup past times time c s new
+      heard : (s : Step) → how_of s ≡ how_by (ends (meaning_of r)) → Stood setup past times c b t.after (meaning_of r) → Heard setup past times time c s new
       heard s is (Plainly b_is no_callback) =
           let out : ConverterView = unread_to c t.after in
           let closing : Bool = closes_group (meaning_of r) in
@@ -203,7 +227,7 @@ module _ (setup : Setup) (past : List Raw) (times : List ℕ) (time : ℕ) (c : 
             does = sym new_is;
             now_unread = now_unread;
             last = ends (meaning_of r);
-            step_is = is;
+            how_is = is;
             judged = judged;
           }
       heard s is (Syncing callback v table b_is announced x) =
@@ -233,11 +257,11 @@ module _ (setup : Setup) (past : List Raw) (times : List ℕ) (time : ℕ) (c : 
             does = sym new_is;
             now_unread = now_unread;
             last = ends (meaning_of r);
-            step_is = is;
+            how_is = is;
             judged = judged;
           }
 
-      takes : (s : Step) → s ≡ step_of (ends (meaning_of r)) → Conversed setup past times time c s new
+      takes : (s : Step) → how_of s ≡ how_by (ends (meaning_of r)) → Conversed setup past times time c s new
       takes s is = Took (heard s is (stood setup past times c h b r t n))
 
     refuses : (e : Error) (new : ConverterView) → (e ≡ error.NoMemory → ⊥) → RefusesAsked e (with_ctx c b) r new → Conversed setup past times time c (refused e) new
@@ -253,8 +277,9 @@ module _ (setup : Setup) (past : List Raw) (times : List ℕ) (time : ℕ) (c : 
 
     obeys : (s : Step) (new : ConverterView) → Obeys time (with_ctx c b) r s new → Conversed setup past times time c s new
     obeys step.Waiting new o = absurd o
-    obeys step.Handled new o = takes new o.1 step.Handled (ap step_of (sym o.0))
-    obeys (step.Ended ending.Disconnected) new o = takes new o.1 (step.Ended ending.Disconnected) (ap step_of (sym o.0))
+    obeys step.Handled new o = takes new o.2 step.Handled (ap how_by (sym o.0))
+    obeys (step.Noted told) new o = takes new o.1 (step.Noted told) (ap how_by (sym (not_last (target_of r).id (meaning_of r) told o.0)))
+    obeys (step.Ended ending.Disconnected) new o = takes new o.1 (step.Ended ending.Disconnected) (ap how_by (sym o.0))
     obeys (step.Ended ending.End) new o = absurd o
     obeys (step.Ended ending.Told) new o = absurd o
     obeys (step.Ended (ending.Refused e)) new o = refuses_by e new o
@@ -266,6 +291,7 @@ module _ (setup : Setup) (past : List Raw) (times : List ℕ) (time : ℕ) (c : 
       let g : NoObject past c.handle.ctx id b = gone_by setup past c.handle.ctx b id (next false c.handle.ctx) seen n in
       Told g.m g.after g.front_is g.none refl (told ∙ ap (λ (x : BackendView). tells_no_object (with_ctx c x) id) g.now ∙ ap (tells_no_object (unread_to c g.after)) g.id_is)
   gone id b step.Waiting new n told = Full told.0
+  gone id b (step.Noted given) new n told = Full told.0
   gone id b (step.Ended e) new n told = Full told.0
 
   reads : (said : Option (PendingRequestResult Request)) (b : BackendView) (s : Step) (new : ConverterView) → Answers target_of opcode_of values_of said b (next false c.handle.ctx) → DoesRead time (with_ctx c b) said s new → Conversed setup past times time c s new

@@ -24,11 +24,12 @@ use Rattle.ei_serve.proofs.Following.{behind_last}
 use Rattle.reis_eis.specs.declared.call_error.CallError.{CallError}
 use Rattle.reis_eis.specs.declared.call_error.CallError.TheVariants as call_error
 use Rattle.reis_eis.specs.declared.ending.Ending.{Ending}
+use Rattle.reis_eis.specs.declared.notice.Notice.{Notice}
 use Rattle.reis_eis.specs.View.{EisView}
 use Rattle.reis_eis.specs.Refusals.{first_reason, describing_at, has_keyboard, announcing, adding_device}
 use Rattle.reis_alike.specs.Program.{Does, LacksWanted, LacksIds, TakesOutTo, taken_from}
 use Rattle.reis_alike.proofs.Giving.{IsQuiet, AreQuiet, IsGiven, AllQuiet, WithLast}
-use Rattle.reis_alike.proofs.Acting.{view_of, waiting, quiet_does, does_so, HasKeysOf}
+use Rattle.reis_alike.proofs.Acting.{Beside, view_of, waiting, quiet_does, does_so, HasKeysOf}
 use Rattle.reis_alike.proofs.Feeding.{does_keep}
 
 -- ---- it goes on until then
@@ -58,18 +59,18 @@ quiet_enough (asked.Bind r) e q l = q
 quiet_enough (asked.RequestDevice r) e q l = q
 quiet_enough r e q l = l
 
-none_to : (h : ConnectionView) (how : Option Ending) (rs : List EisRequest) → TakesOutTo rs (view_of (waiting h []) how) → ⊥
+none_to : (h : ConnectionView) (how : Beside) (rs : List EisRequest) → TakesOutTo rs (view_of (waiting h []) how) → ⊥
 none_to h how [] t = t
 none_to h how (r ∷ []) t = let z : None ≡ Some r = t.0 in cc
 none_to h how (r ∷ s ∷ rs) t = let z : None ≡ Some r = t.0 in cc
 
 -- the first were taken out, and then others up to it
-record FirstTo (q more : List EisRequest) (h : ConnectionView) (how : Option Ending) (rs : List EisRequest) : Type 0 where
+record FirstTo (q more : List EisRequest) (h : ConnectionView) (how : Beside) (rs : List EisRequest) : Type 0 where
   others : List EisRequest
   all : rs ≡ q ++ others
   takes : TakesOutTo others (view_of (waiting h more) how)
 
-first_to : (q more : List EisRequest) (h : ConnectionView) (how : Option Ending) (rs : List EisRequest) → AreQuiet q → TakesOutTo rs (view_of (waiting h (q ++ more)) how) → FirstTo q more h how rs
+first_to : (q more : List EisRequest) (h : ConnectionView) (how : Beside) (rs : List EisRequest) → AreQuiet q → TakesOutTo rs (view_of (waiting h (q ++ more)) how) → FirstTo q more h how rs
 first_to [] more h how rs quiet t = record { others = rs; all = refl; takes = t }
 first_to (x ∷ q) more h how [] quiet t = absurd t
 first_to (x ∷ q) more h how (r ∷ []) quiet t =
@@ -115,7 +116,7 @@ held_out : (o : Option SeatView) (s : SeatView) (c : ConnectionView) (wanted : D
 held_out None s c wanted e l = absurd cc
 held_out (Some t) s c wanted e l = l
 
-module _ (past : List Raw) (h : ConnectionView) (keys : HasKeysOf past h) where
+module _ (past : List Raw) (h : ConnectionView) (keys : HasKeysOf past h) (told : List Notice) where
   too_few : (wanted : DeviceCapabilities) → adding_device seat_id None wanted [] h ≡ Some call_error.IdsExhausted → RunOutIfHeld (find (is_seat seat_id) h.seats) h wanted
   too_few wanted e =
       let a : announcing h None (length (granted_at h seat_id wanted)) [] ≡ Some call_error.IdsExhausted =
@@ -123,11 +124,11 @@ module _ (past : List Raw) (h : ConnectionView) (keys : HasKeysOf past h) where
       let s = seat_found h.seats past keys.seats in
       held_out (find (is_seat seat_id) h.seats) s.0 h wanted s.1 (less_by _ (is_long_description h.ctx.table.next_own None []) (own_end h.ctx.table) (h.ctx.table.next_own + (length (granted_at h seat_id wanted) + 1)) refl a)
 
-  wanted_few : (b : Bool) (mask : ℕ) → (mask == 0) ≡ b → LacksWanted b seat_id (set_of mask) (view_of (waiting h []) None) → Lacks (device_if (seat_of past) (set_of mask)) h
+  wanted_few : (b : Bool) (mask : ℕ) → (mask == 0) ≡ b → LacksWanted b seat_id (set_of mask) (view_of (waiting h []) (None, told)) → Lacks (device_if (seat_of past) (set_of mask)) h
   wanted_few true mask z l = absurd l
   wanted_few false mask z l = rw z (too_few (set_of mask) l)
 
-  last_few : (y : Plain) → LacksIds (plain_in_code past y) (view_of (waiting h []) None) → Lacks (policy_of (plain_in_code past y)) h
+  last_few : (y : Plain) → LacksIds (plain_in_code past y) (view_of (waiting h []) (None, told)) → Lacks (policy_of (plain_in_code past y)) h
   last_few (Bind seat mask) l = wanted_few (mask == 0) mask refl l
   last_few (RequestDevice seat mask) l = wanted_few (mask == 0) mask refl l
   last_few (DeviceClosed d) l = absurd l
@@ -136,23 +137,23 @@ module _ (past : List Raw) (h : ConnectionView) (keys : HasKeysOf past h) where
   last_few (DeviceStopEmulating d serial) l = absurd l
   last_few Disconnect l = absurd l
 
-  one_to : (y : Plain) (rs : List EisRequest) → TakesOutTo rs (view_of (waiting h (plain_in_code past y ∷ [])) None) → (rs ≡ plain_in_code past y ∷ []) × LacksIds (plain_in_code past y) (view_of (waiting h []) None)
+  one_to : (y : Plain) (rs : List EisRequest) → TakesOutTo rs (view_of (waiting h (plain_in_code past y ∷ [])) (None, told)) → (rs ≡ plain_in_code past y ∷ []) × LacksIds (plain_in_code past y) (view_of (waiting h []) (None, told))
   one_to y [] t = absurd t
   one_to y (r ∷ []) t =
       let same : r ≡ plain_in_code past y = let z : Some (plain_in_code past y) ≡ Some r = t.0 in cc in
-      (ap (λ (x : EisRequest). x ∷ []) same, subst (λ (x : EisRequest). LacksIds x (view_of (waiting h []) None)) same t.1)
+      (ap (λ (x : EisRequest). x ∷ []) same, subst (λ (x : EisRequest). LacksIds x (view_of (waiting h []) (None, told))) same t.1)
   one_to y (r ∷ s ∷ rs) t =
       let same : r ≡ plain_in_code past y = let z : Some (plain_in_code past y) ≡ Some r = t.0 in cc in
-      let d = does_so past y (waiting h []) None t.1.0 (subst (λ (x : EisRequest). Does x (view_of (waiting h []) None) t.1.0) same t.1.1) in
-      let now : t.1.0 ≡ view_of (waiting d.now.handle []) None = d.is ∙ ap (λ (q : List EisRequest). view_of (waiting d.now.handle q) None) d.queue in
-      absurd (none_to d.now.handle None (s ∷ rs) (subst (λ (e : EisView). TakesOutTo (s ∷ rs) e) now t.1.2))
+      let d = does_so past y (waiting h []) (None, told) t.1.0 (subst (λ (x : EisRequest). Does x (view_of (waiting h []) (None, told)) t.1.0) same t.1.1) in
+      let now : t.1.0 ≡ view_of (waiting d.now.handle []) (None, told) = d.is ∙ ap (λ (q : List EisRequest). view_of (waiting d.now.handle q) (None, told)) d.queue in
+      absurd (none_to d.now.handle (None, told) (s ∷ rs) (subst (λ (e : EisView). TakesOutTo (s ∷ rs) e) now t.1.2))
 
   -- these were the requests that waited, and too few ids are left for what the policy does behind the last
-  pub few_so : (queue rs : List EisRequest) → IsGiven past queue → TakesOutTo rs (view_of (waiting h queue) None) → (rs ≡ queue) × Lacks (policy_behind queue) h
+  pub few_so : (queue rs : List EisRequest) → IsGiven past queue → TakesOutTo rs (view_of (waiting h queue) (None, told)) → (rs ≡ queue) × Lacks (policy_behind queue) h
   few_so queue rs (AllQuiet q) t =
-      let f = first_to queue [] h None rs q (subst (λ (x : List EisRequest). TakesOutTo rs (view_of (waiting h x) None)) (sym (append-nil queue)) t) in
-      absurd (none_to h None f.others f.takes)
+      let f = first_to queue [] h (None, told) rs q (subst (λ (x : List EisRequest). TakesOutTo rs (view_of (waiting h x) (None, told))) (sym (append-nil queue)) t) in
+      absurd (none_to h (None, told) f.others f.takes)
   few_so queue rs (WithLast first y q e) t =
-      let f = first_to first (plain_in_code past y ∷ []) h None rs q (subst (λ (x : List EisRequest). TakesOutTo rs (view_of (waiting h x) None)) e t) in
+      let f = first_to first (plain_in_code past y ∷ []) h (None, told) rs q (subst (λ (x : List EisRequest). TakesOutTo rs (view_of (waiting h x) (None, told))) e t) in
       let o = one_to y f.others f.takes in
       (f.all ∙ ap (λ (x : List EisRequest). first ++ x) o.0 ∙ sym e, rw (e, behind_last first (plain_in_code past y)) (last_few y o.1))

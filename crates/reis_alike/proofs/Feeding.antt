@@ -22,6 +22,7 @@ use Rattle.ei_request.specs.declared.event.EisRequest.{EisRequest}
 use Rattle.ei_serve.proofs.Asked.{held_with}
 use Rattle.reis_eis.specs.declared.ending.Ending.{Ending}
 use Rattle.reis_eis.specs.declared.ending.Ending.TheVariants as ending
+use Rattle.reis_eis.specs.declared.notice.Notice.{Notice}
 use Rattle.reis_eis.specs.declared.shaking.Shaking.{Shaking}
 use Rattle.reis_eis.specs.declared.phase.Phase.{Phase}
 use Rattle.reis_eis.specs.declared.phase.Phase.TheVariants as phase
@@ -35,10 +36,9 @@ use Rattle.reis_alike.specs.Program.{Came, AddsSeatBehind, AddsWanted, Does, tak
 use Rattle.reis_alike.proofs.Turning.{AreAlike, Answered, IsLast, Stepped, Nothing, Taken, Rejected, WantsMemory, none_first, stepped}
 use Rattle.ei_backend.specs.Incoming.{Fits}
 use Rattle.reis_eis.specs.Steps.{AnyStep as Step}
-use Rattle.reis_eis.specs.Steps as step
-use Rattle.reis_eis.specs.Handling.{refused, Steps}
+use Rattle.reis_eis.specs.Handling.{IsHandled, Steps}
 use Rattle.reis_eis.specs.Feeding.{HandlesAll, TakesPiece, LeavesPiece, RefusesPiece, FeedsTo}
-use Rattle.reis_alike.proofs.Conversing.{step_of}
+use Rattle.reis_alike.proofs.Conversing.{how_by}
 use Rattle.reis_alike.proofs.Stepping.{IsStill, still, none_handled, how_of, IsOneStep, one_step}
 use Rattle.ei_serve.specs.Steps.{Refuses as RefusesSo}
 
@@ -210,7 +210,7 @@ HasRoom b c = length b.handles + length c.piece.handles ≤ 4096
 pub data Turned (setup : Setup) (past : List Raw) (readings : List ℕ) (c : Came) (p : Phase) (b : BackendView) (handed : List EisRequest) (new : EisView) : Type 0 where
   -- no message was whole
   Quiet : HasRoom b c → front (bytes_with b c) ≡ Short → new.ending ≡ None → handed ≡ [] → new.phase ≡ fed_with p b c → Turned setup past readings c p b handed new
-  Answers : HasRoom b c → (m : Raw) → (after : List ℕ) → (last : Bool) → front (bytes_with b c) ≡ Whole m after → IsLast setup past m last → new.ending ≡ how_of (step_of last) → Answered setup past m readings c.time after (fed_with p b c) new.ending handed new →
+  Answers : HasRoom b c → (m : Raw) → (after : List ℕ) → (last : Bool) → front (bytes_with b c) ≡ Whole m after → IsLast setup past m last → new.ending ≡ how_by last → Answered setup past m readings c.time after (fed_with p b c) new.ending handed new →
       Turned setup past readings c p b handed new
   Refuses : HasRoom b c → (e : Error) → RefusesSo setup past (bytes_with b c) e → (e ≡ error.NoMemory → ⊥) → new.ending ≡ Some (ending.Refused e) → handed ≡ [] → Turned setup past readings c p b handed new
   -- more handles would be unread than may
@@ -228,15 +228,17 @@ module _ (setup : Setup) (past : List Raw) (readings : List ℕ) (c : Came) (p :
 
   module _ (one : HasOneAtMost (bytes_with b c)) where
     -- behind one message no other is whole
-    behind_by : (y : Phase) → Steps c.time (fed_with p b c) step.Handled y → Stepped setup past readings c.time (fed_with p b c) step.Handled y → front (unread_of (context_in y)) ≡ Short
-    behind_by y x (Nothing short) = absurd (none_handled c.time (fed_with p b c) y short x)
-    behind_by y x (Taken m after last f is unread acts) = ap front unread ∙ one m after (ap front (sym fed_unread) ∙ f)
-    behind_by y x (Rejected e why some is alike empty) = let z : step.Handled ≡ refused e = is in absurd cc
-    behind_by y x (WantsMemory is) = let z : step.Handled ≡ refused error.NoMemory = is in absurd cc
+    behind_by : (s : Step) (y : Phase) → IsHandled s → Steps c.time (fed_with p b c) s y → Stepped setup past readings c.time (fed_with p b c) s y → front (unread_of (context_in y)) ≡ Short
+    behind_by s y h x (Nothing short) = absurd (none_handled c.time (fed_with p b c) s y short h x)
+    behind_by s y h x (Taken m after last f is unread acts) = ap front unread ∙ one m after (ap front (sym fed_unread) ∙ f)
+    behind_by s y h x (Rejected e why some is alike empty) = absurd (subst IsHandled is h)
+    behind_by s y h x (WantsMemory is) = absurd (subst IsHandled is h)
 
     -- the piece is one step
-    pub one_piece : (new : Phase) (how : Option Ending) → (how ≡ Some (ending.Refused error.NoMemory) → ⊥) → HandlesAll c.time (fed_with p b c) new how → IsOneStep c.time (fed_with p b c) new how
-    one_piece new how some h = one_step c.time (fed_with p b c) (λ y st. behind_by y st (stepped setup past readings c.time (fed_with p b c) step.Handled y fed_stands st)) new how some h
+    pub one_piece : (waiting : List Notice) (new : Phase) (told : List Notice) (how : Option Ending) → (how ≡ Some (ending.Refused error.NoMemory) → ⊥) → HandlesAll c.time (fed_with p b c) waiting new told how →
+        IsOneStep c.time (fed_with p b c) new how
+    one_piece waiting new told how some h =
+        one_step c.time (fed_with p b c) waiting (λ s y it st. behind_by s y it st (stepped setup past readings c.time (fed_with p b c) s y fed_stands st)) new told how some h
 
 module _ (setup : Setup) (past : List Raw) (readings : List ℕ) (c : Came) (old : EisView) (stands : StandsFor setup past readings old.phase) (b : BackendView) (context : context_in old.phase ≡ Some b) (handed : List EisRequest) (new : EisView)
     (t : Turns setup c old handed new) where
@@ -270,7 +272,7 @@ module _ (setup : Setup) (past : List Raw) (readings : List ℕ) (c : Came) (old
   old_queue = no_queue setup past readings old.phase stands
 
   -- the piece wasn't taken
-  refused_piece : (why : ReadError) (left : BackendView) → LeavesPiece why c.piece b left → t.fed ≡ record { phase = with_context old.phase left; ending = Some (ending.Refused (error_of_read why)) } → Result
+  refused_piece : (why : ReadError) (left : BackendView) → LeavesPiece why c.piece b left → t.fed ≡ record old { phase = with_context old.phase left; ending = Some (ending.Refused (error_of_read why)) } → Result
   refused_piece read_error.HandleLimit left l is =
       let phase_is : t.fed.phase ≡ with_context old.phase left = ap (λ (v : EisView). v.phase) is in
       let x = nothing_done (subst (λ (p : Phase). AreAlike old.phase p) (sym phase_is) (alike_with old.phase b left context)) (ap queue_in phase_is ∙ queue_with old.phase left ∙ old_queue) in
@@ -291,20 +293,20 @@ module _ (setup : Setup) (past : List Raw) (readings : List ℕ) (c : Came) (old
     stepped_so : (s : Step) → Steps c.time begun s t.fed.phase → t.fed.ending ≡ how_of s → Stepped setup past readings c.time begun s t.fed.phase → Result
     stepped_so s steps how (Nothing short) = still_so s short how (still c.time begun s t.fed.phase short steps)
     stepped_so s steps how (Taken m after last f is unread acts) =
-        let x = acts t.fed.ending t.seated new handed (seats_alike setup old.phase (with_piece c.piece b) t.fed.phase t.fed t.seated t.seats) t.takes in
-        Answers fits.limit m after last (ap front (sym begun_unread) ∙ f) x.0 (same_ending ∙ how ∙ ap how_of is)
+        let x = acts (t.fed.ending, t.fed.notices) t.seated new handed (seats_alike setup old.phase (with_piece c.piece b) t.fed.phase t.fed t.seated t.seats) t.takes in
+        Answers fits.limit m after last (ap front (sym begun_unread) ∙ f) x.0 (same_ending ∙ how ∙ is)
         (subst (λ (k : Option Ending). Answered setup past m readings c.time after begun k handed new) (sym same_ending) x.1)
     stepped_so s steps how (Rejected e why some is alike empty) =
         let d = nothing_done (alike_back old.phase (with_piece c.piece b) t.fed.phase alike) empty in
         Refuses fits.limit e (subst (λ (u : List ℕ). RefusesSo setup past u e) begun_unread why) some (same_ending ∙ how ∙ ap how_of is) d.0
     stepped_so s steps how (WantsMemory is) = Full (same_ending ∙ how ∙ ap how_of is)
 
-    handles_so : HandlesAll c.time begun t.fed.phase t.fed.ending → (t.fed.ending ≡ Some (ending.Refused error.NoMemory) → ⊥) → Result
+    handles_so : HandlesAll c.time begun old.notices t.fed.phase t.fed.notices t.fed.ending → (t.fed.ending ≡ Some (ending.Refused error.NoMemory) → ⊥) → Result
     handles_so h some =
-        let x = one_piece setup past readings c old.phase b context stands one t.fed.phase t.fed.ending some h in
+        let x = one_piece setup past readings c old.phase b context stands one old.notices t.fed.phase t.fed.notices t.fed.ending some h in
         stepped_so x.s x.steps x.how_is (stepped setup past readings c.time begun x.s t.fed.phase begun_stands x.steps)
 
-    by_ending : (how : Option Ending) → t.fed.ending ≡ how → HandlesAll c.time begun t.fed.phase t.fed.ending → Result
+    by_ending : (how : Option Ending) → t.fed.ending ≡ how → HandlesAll c.time begun old.notices t.fed.phase t.fed.notices t.fed.ending → Result
     by_ending (Some (ending.Refused error.NoMemory)) is h = Full (same_ending ∙ is)
     by_ending None is h = handles_so h (λ z. let y : None ≡ Some (ending.Refused error.NoMemory) = sym is ∙ z in cc)
     by_ending (Some how) is h = handles_so h (λ z. let y : Some how ≡ Some (ending.Refused error.NoMemory) = sym is ∙ z in cc)

@@ -51,15 +51,15 @@ module _ (setup : Setup) (before : List Came) (c : Came) (out : List EisRequest)
   Result = ((session setup (pieces_of (c ∷ before))).answer ≡ IdsExhausted) × ServesAlike setup (c ∷ before) (out ++ handed) written
 
   module _ (k new : ConverterView) (p_is : fed_with old.phase g.b c ≡ phase.Standing k) (q_is : u.fed.phase ≡ phase.Standing new) (h : Heard setup past g.readings c.time k once.step.s new) where
-    fed_is : u.fed ≡ view_of (waiting new.handle new.queue) None
-    fed_is = ap (λ (p : Phase). record { phase = p; ending = u.fed.ending }) q_is ∙ ap (λ (x : Option Ending). view_of new x) going
+    fed_is : u.fed ≡ view_of (waiting new.handle new.queue) (None, u.fed.notices)
+    fed_is = ap (λ (p : Phase). record u.fed { phase = p }) q_is ∙ ap (λ (x : Option Ending). view_of new (x, u.fed.notices)) going
 
     at_front : front (bytes_with g.b c) ≡ Whole h.m h.after
     at_front = ap front (sym (fed_unread setup past g.readings c old.phase g.b g.context g.stands) ∙ ap (λ (p : Phase). unread_of (context_in p)) p_is) ∙ h.front_is
 
     runs_out : Result
     runs_out =
-        let t = few_so past new.handle h.keys new.queue handed (given setup past g.readings c.time k once.step.s new h) (subst (λ (e : EisView). TakesOutTo handed e) fed_is u.takes) in
+        let t = few_so past new.handle h.keys u.fed.notices new.queue handed (given setup past g.readings c.time k once.step.s new h) (subst (λ (e : EisView). TakesOutTo handed e) fed_is u.takes) in
         let l = h.behind.lacks t.1 in
         let last : judge setup past h.m ≡ Final = exhausting_last setup past h.m h.fine l.0 in
         let o = over_with setup before c out written old g most (few setup before c out written old g most once.room) (reading (h.m ∷ past) h.after Ended)

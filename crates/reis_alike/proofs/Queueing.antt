@@ -75,7 +75,7 @@ module _ (setup : Setup) (past : List Raw) (readings : List ℕ) (c : Came) (old
   fed_by : TakesPiece c.piece c.time b old fed ⊎ RefusesPiece c.piece b old fed → FedOnce c old.phase b fed
   fed_by (inl x) = record {
     room = x.fits.limit;
-    step = one_piece setup past readings c old.phase b context stands one_here fed.phase fed.ending (λ z. let y : None ≡ Some (ending.Refused error.NoMemory) = sym going ∙ z in cc) x.handles;
+    step = one_piece setup past readings c old.phase b context stands one_here old.notices fed.phase fed.notices fed.ending (λ z. let y : None ≡ Some (ending.Refused error.NoMemory) = sym going ∙ z in cc) x.handles;
   }
   fed_by (inr x) = let z = sym going ∙ ap (λ (v : EisView). v.ending) x.is in absurd cc
 

@@ -51,8 +51,7 @@ use Rattle.ei_types.specs.Capability.{all_bits}
 use Rattle.ei_serve.proofs.Running.{nothing_read}
 use Rattle.ei_session.proofs.SettledMapLaws.{first_map}
 use Rattle.reis_eis.specs.Starting.{started, waits_in, with_unsent_in}
-use Rattle.reis_alike.proofs.Conversing.{step_of}
-use Rattle.reis_alike.proofs.Stepping.{how_of}
+use Rattle.reis_alike.proofs.Conversing.{how_by}
 use Rattle.reis_alike.proofs.Feeding.{Turned, Quiet, Answers, Refuses, Overflown, Full, HasRoom, bytes_with, context_with, stands_piece, stands_written, no_handle, count_readings, enough_readings, some_context, shaking_written, turned as turned_by}
 
 -- ---- requests and replies of one message more
@@ -375,7 +374,7 @@ module _ (setup : Setup) (before : List Came) (c : Came) (out : List EisRequest)
           Over ending.Disconnected (last_ending ∙ is)
           (λ some. (o.0 ∙ ap (λ (b : Bool). cond b IdsExhausted Disconnect) enough, serves_so setup (c ∷ before) (g.readings ++ a.used) (out ++ handed) (written ++ more) (m ∷ past) times_now (count_readings setup (m ∷ past) (g.readings ++ a.used) turned.phase a.stands) o.1 requests_now replies_now))
 
-    last_by : (last : Bool) (fits : HasRoom g.b c) (m : Raw) (after : List ℕ) → front bytes ≡ Whole m after → front after ≡ Short → turned.ending ≡ how_of (step_of last) → IsLast setup past m last → Answered setup past m g.readings c.time after begun turned.ending handed turned → Result
+    last_by : (last : Bool) (fits : HasRoom g.b c) (m : Raw) (after : List ℕ) → front bytes ≡ Whole m after → front after ≡ Short → turned.ending ≡ how_by last → IsLast setup past m last → Answered setup past m g.readings c.time after begun turned.ending handed turned → Result
     last_by true fits m after f short is l a = disconnects_by fits m after f a (writes_by (Some ending.Disconnected) is) l.judged (l.enough refl) is
     last_by false fits m after f short is l a = goes_on_by fits m after f a (writes_by None is) l.judged short is
 

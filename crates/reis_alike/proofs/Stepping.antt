@@ -1,5 +1,5 @@
 -- Where no message is whole there is no step, and a piece that makes at most one message whole is one step.
-use Rattle.std.proofs.Common.{◌≡◌, ◌⊎◌, ℕ, zero, suc, false, true, Option, Some, None, refl, sym, ap, subst, ◌∙◌, inl, inr}
+use Rattle.std.proofs.Common.{◌≡◌, ◌⊎◌, ℕ, zero, suc, false, true, List, Option, Some, None, refl, sym, ap, subst, ◌∙◌, inl, inr}
 use Rattle.std.specs.Prelude.{IfSome, IsSome}
 use Rattle.ei_spec.specs.Reading.{Fault}
 use Rattle.ei_spec.specs.Message.{Short, front}
@@ -13,6 +13,7 @@ use Rattle.ei_server.specs.Request.{target_of, opcode_of, values_of}
 use Rattle.ei_request.specs.Converter.{ConverterView}
 use Rattle.reis_eis.specs.declared.ending.Ending.{Ending}
 use Rattle.reis_eis.specs.declared.ending.Ending.TheVariants as ending
+use Rattle.reis_eis.specs.declared.notice.Notice.{Notice}
 use Rattle.reis_eis.specs.declared.shaking.Shaking.{Shaking}
 use Rattle.reis_eis.specs.Steps.{AnyShaken as Shaken}
 use Rattle.reis_eis.specs.Steps.{AnyStep as Step}
@@ -20,8 +21,8 @@ use Rattle.reis_eis.specs.Steps as step
 use Rattle.reis_eis.specs.declared.phase.Phase.{Phase}
 use Rattle.reis_eis.specs.declared.phase.Phase.TheVariants as phase
 use Rattle.reis_eis.specs.Words.{context_in, unread_of, with_ctx, shaking_with}
-use Rattle.reis_eis.specs.Handling.{refused, failed, DoesRead, Converses, ConversesOn, ShakesRead, Shakes, GoesOver, ShakesOn, Steps}
-use Rattle.reis_eis.specs.Feeding.{HandlesSome, EndsBy, HandlesAll}
+use Rattle.reis_eis.specs.Handling.{refused, failed, IsHandled, DoesRead, Converses, ConversesOn, ShakesRead, Shakes, GoesOver, ShakesOn, Steps}
+use Rattle.reis_eis.specs.Feeding.{TellsBy, HandlesSome, EndsBy, HandlesAll}
 
 abbrev pair : FrontAnswer → BackendView → FrontAnswer × BackendView
 pair a b = (a, b)
@@ -83,12 +84,12 @@ still time phase.Between s q short x = inl x
 -- ---- every whole message
 
 -- no message is handled where none is whole
-pub none_handled : (time : ℕ) (p q : Phase) → front (unread_of (context_in p)) ≡ Short → Steps time p step.Handled q → ⊥
-none_handled time p q short x = by (still time p step.Handled q short x)
+pub none_handled : (time : ℕ) (p : Phase) (s : Step) (q : Phase) → front (unread_of (context_in p)) ≡ Short → IsHandled s → Steps time p s q → ⊥
+none_handled time p s q short h x = by (still time p s q short x)
   where
-    by : IsStill p step.Handled q → ⊥
-    by (inl w) = let z : step.Handled ≡ step.Waiting = w.0 in absurd cc
-    by (inr w) = let z : step.Handled ≡ refused error.NoMemory = w in absurd cc
+    by : IsStill p s q → ⊥
+    by (inl w) = subst IsHandled w.0 h
+    by (inr w) = subst IsHandled w h
 
 -- how a step ends the connection
 abbrev pub how_of : Step → Option Ending
@@ -104,31 +105,58 @@ pub record IsOneStep (time : ℕ) (old new : Phase) (how : Option Ending) : Type
 ended_so : (s : Step) (how : Option Ending) → EndsBy s how → how ≡ how_of s
 ended_so step.Waiting how e = e
 ended_so step.Handled how e = absurd e
+ended_so (step.Noted told) how e = absurd e
 ended_so (step.Ended x) how e = e
 
-module _ (time : ℕ) (old : Phase) where
-  none_of : (n : ℕ) (q : Phase) → ((x : Phase) → Steps time old step.Handled x → ⊥) → HandlesSome n time old q → q ≡ old
-  none_of zero q never h = h
-  none_of (suc n) q never h = absurd (never q (subst (λ (x : Phase). Steps time x step.Handled q) (none_of n h.0 never h.1) h.2))
+handled_by : (s : Step) (old new : List Notice) → TellsBy s old new → IsHandled s
+handled_by step.Handled old new t = tt
+handled_by (step.Noted told) old new t = tt
+handled_by step.Waiting old new t = absurd t
+handled_by (step.Ended e) old new t = absurd t
+
+pub goes_on : (s : Step) → IsHandled s → how_of s ≡ None
+goes_on step.Handled h = refl
+goes_on (step.Noted told) h = refl
+goes_on step.Waiting h = absurd h
+goes_on (step.Ended e) h = absurd h
+
+-- one message was handled, and behind it no other is whole
+record IsOneHandled (time : ℕ) (old new : Phase) : Type 0 where
+  pub by : Step
+  pub handled : IsHandled by
+  pub steps : Steps time old by new
+  pub short : front (unread_of (context_in new)) ≡ Short
+
+module _ (time : ℕ) (old : Phase) (waiting : List Notice) where
+  none_of : (n : ℕ) (q : Phase) (told : List Notice) → ((s : Step) (x : Phase) → IsHandled s → Steps time old s x → ⊥) → HandlesSome n time old waiting q told → q ≡ old
+  none_of zero q told never h = h.0
+  none_of (suc n) q told never h =
+      absurd (never h.by q (handled_by h.by h.waiting told h.tells) (subst (λ (x : Phase). Steps time x h.by q) (none_of n h.reached h.waiting never h.handled) h.steps))
 
   -- behind one message no other is whole
-  module _ (behind : (x : Phase) → Steps time old step.Handled x → front (unread_of (context_in x)) ≡ Short) where
-    one_of : (n : ℕ) (q : Phase) → HandlesSome (suc n) time old q → (front (unread_of (context_in q)) ≡ Short) × Steps time old step.Handled q
-    one_of zero q h =
-        let x : Steps time old step.Handled q = subst (λ (x : Phase). Steps time x step.Handled q) h.1 h.2 in
-        (behind q x, x)
-    one_of (suc n) q h = absurd (none_handled time h.0 q (one_of n h.0 h.1).0 h.2)
+  module _ (behind : (s : Step) (x : Phase) → IsHandled s → Steps time old s x → front (unread_of (context_in x)) ≡ Short) where
+    one_of : (n : ℕ) (q : Phase) (told : List Notice) → HandlesSome (suc n) time old waiting q told → IsOneHandled time old q
+    one_of zero q told h =
+        let it = handled_by h.by h.waiting told h.tells in
+        let x : Steps time old h.by q = subst (λ (x : Phase). Steps time x h.by q) h.handled.0 h.steps in
+        record { by = h.by; handled = it; steps = x; short = behind h.by q it x }
+    one_of (suc n) q told h = absurd (none_handled time h.reached h.by q (one_of n h.reached h.waiting h.handled).short (handled_by h.by h.waiting told h.tells) h.steps)
 
-    by_last : (s : Step) (q new : Phase) (how : Option Ending) → front (unread_of (context_in q)) ≡ Short → Steps time old step.Handled q → (how ≡ Some (ending.Refused error.NoMemory) → ⊥) → Steps time q s new → EndsBy s how → IsOneStep time old new how
-    by_last s q new how short one some x e = by (still time q s new short x)
+    by_last : (s : Step) (q new : Phase) (how : Option Ending) → IsOneHandled time old q → (how ≡ Some (ending.Refused error.NoMemory) → ⊥) → Steps time q s new → EndsBy s how → IsOneStep time old new how
+    by_last s q new how one some x e = by (still time q s new one.short x)
       where
         by : IsStill q s new → IsOneStep time old new how
-        by (inl w) = record { s = step.Handled; steps = subst (λ (y : Phase). Steps time old step.Handled y) (sym w.1) one; how_is = ended_so s how e ∙ ap how_of w.0 }
+        by (inl w) = record {
+          s = one.by;
+          steps = subst (λ (y : Phase). Steps time old one.by y) (sym w.1) one.steps;
+          how_is = ended_so s how e ∙ ap how_of w.0 ∙ sym (goes_on one.by one.handled);
+        }
         by (inr w) = absurd (some (ended_so s how e ∙ ap how_of w))
 
-    one_by : (n : ℕ) (reached new : Phase) (last : Step) (how : Option Ending) → (how ≡ Some (ending.Refused error.NoMemory) → ⊥) → HandlesSome n time old reached → Steps time reached last new → EndsBy last how → IsOneStep time old new how
-    one_by zero reached new last how some h x e = record { s = last; steps = subst (λ (y : Phase). Steps time y last new) h x; how_is = ended_so last how e }
-    one_by (suc n) reached new last how some h x e = let o = one_of n reached h in by_last last reached new how o.0 o.1 some x e
+    one_by : (n : ℕ) (reached new : Phase) (told : List Notice) (last : Step) (how : Option Ending) → (how ≡ Some (ending.Refused error.NoMemory) → ⊥) → HandlesSome n time old waiting reached told → Steps time reached last new → EndsBy last how →
+        IsOneStep time old new how
+    one_by zero reached new told last how some h x e = record { s = last; steps = subst (λ (y : Phase). Steps time y last new) h.0 x; how_is = ended_so last how e }
+    one_by (suc n) reached new told last how some h x e = by_last last reached new how (one_of n reached told h) some x e
 
-    pub one_step : (new : Phase) (how : Option Ending) → (how ≡ Some (ending.Refused error.NoMemory) → ⊥) → HandlesAll time old new how → IsOneStep time old new how
-    one_step new how some h = one_by h.count h.reached new h.last how some h.handled h.steps h.ends
+    pub one_step : (new : Phase) (told : List Notice) (how : Option Ending) → (how ≡ Some (ending.Refused error.NoMemory) → ⊥) → HandlesAll time old waiting new told how → IsOneStep time old new how
+    one_step new told how some h = one_by h.count h.reached new told h.last how some h.handled h.steps h.ends

@@ -50,9 +50,10 @@ use Rattle.reis_alike.specs.Standing.{IsShaking, IsStanding, StandsFor}
 use Rattle.reis_alike.specs.Program.{AddsTheSeat, AddsSeatBehind, TakesOut}
 use Rattle.reis_alike.specs.Alike.{IsReadAt}
 use Rattle.reis_alike.proofs.Giving.{IsGiven, is_given}
-use Rattle.reis_alike.proofs.Acting.{takes_so, acts_in}
+use Rattle.reis_alike.proofs.Acting.{Beside, takes_so, acts_in}
 use Rattle.reis_alike.proofs.Asking.{unread_to, held_to}
-use Rattle.reis_alike.proofs.Conversing.{Heard, Conversed, Waited, Took, Told, Refused, Full, step_of, conversed}
+use Rattle.reis_alike.proofs.Stepping.{how_of}
+use Rattle.reis_alike.proofs.Conversing.{Heard, Conversed, Waited, Took, Told, Refused, Full, how_by, conversed}
 use Rattle.reis_alike.proofs.Shaking.{KeptOn, Finished, Shook, shook}
 use Rattle.reis_alike.proofs.Shaking.{Waited as NothingCame, Kept, Done, Refused as Failed, Full as NoMemory}
 
@@ -82,8 +83,8 @@ pub record IsLast (setup : Setup) (past : List Raw) (m : Raw) (last : Bool) : Ty
 goes_on : {setup : Setup} {past : List Raw} {m : Raw} → judge setup past m ≡ Accepted → IsLast setup past m false
 goes_on j = record { judged = j; enough = λ last. let z : false ≡ true = last in absurd cc }
 
-abbrev at : Phase → Option Ending → EisView
-at p how = record { phase = p; ending = how }
+abbrev at : Phase → Beside → EisView
+at p how = record { phase = p; ending = how.0; notices = how.1 }
 
 -- the phases are of one kind
 abbrev pub AreAlike : Phase → Phase → Type 0
@@ -94,8 +95,8 @@ AreAlike p q = ⊥
 -- what became of the message at the front, and what comes of it by what the program does
 pub data Stepped (setup : Setup) (past : List Raw) (times : List ℕ) (time : ℕ) (p : Phase) (s : Step) (q : Phase) : Type 0 where
   Nothing : front (unread_of (context_in p)) ≡ Short → Stepped setup past times time p s q
-  Taken : (m : Raw) → (after : List ℕ) → (last : Bool) → front (unread_of (context_in p)) ≡ Whole m after → s ≡ step_of last → unread_of (context_in q) ≡ after →
-      ((how : Option Ending) (seated acted : EisView) (handed : List EisRequest) → AddsSeatBehind setup p q (at q how) seated → TakesOut handed seated acted → IsLast setup past m last × Answered setup past m times time after p how handed acted) →
+  Taken : (m : Raw) → (after : List ℕ) → (last : Bool) → front (unread_of (context_in p)) ≡ Whole m after → how_of s ≡ how_by last → unread_of (context_in q) ≡ after →
+      ((how : Beside) (seated acted : EisView) (handed : List EisRequest) → AddsSeatBehind setup p q (at q how) seated → TakesOut handed seated acted → IsLast setup past m last × Answered setup past m times time after p how.0 handed acted) →
       Stepped setup past times time p s q
   Rejected : (e : Error) → Refuses setup past (unread_of (context_in p)) e → (e ≡ error.NoMemory → ⊥) → s ≡ refused e → AreAlike p q → queue_in q ≡ [] → Stepped setup past times time p s q
   WantsMemory : s ≡ refused error.NoMemory → Stepped setup past times time p s q
@@ -133,7 +134,7 @@ module _ (setup : Setup) (past : List Raw) (times : List ℕ) (time : ℕ) (c : 
   pub given : IsGiven past new.queue
   given = subst (IsGiven past) (sym (queued [])) (is_given setup ((times ++ b.used) ++ []) past h.m)
 
-  answers : (how : Option Ending) (acted : EisView) (handed : List EisRequest) → TakesOut handed (at (phase.Standing new) how) acted → IsLast setup past h.m h.last × Answered setup past h.m times time h.after (phase.Standing c) how handed acted
+  answers : (how : Beside) (acted : EisView) (handed : List EisRequest) → TakesOut handed (at (phase.Standing new) how) acted → IsLast setup past h.m h.last × Answered setup past h.m times time h.after (phase.Standing c) how.0 handed acted
   answers how acted handed t =
       let x = takes_so past new.handle h.keys new.queue how handed acted given t in
       let took : TookOne setup past h.m times b.used h.out (record new { handle = x.end }) = b.took x.enough_ids x.end x.follows in
@@ -158,7 +159,7 @@ module _ (setup : Setup) (past : List Raw) (times : List ℕ) (time : ℕ) (c : 
 
 module _ (setup : Setup) (past : List Raw) (times : List ℕ) (time : ℕ) (c new : ConverterView) (held : IsHeld setup past times c) (none : c.queue ≡ []) (m : Raw) (after : List ℕ) (gone : object past m.id ≡ None)
     (is : new ≡ record (unread_to c after) { handle = tells_no_object (unread_to c after).handle m.id }) where
-  told_none : (how : Option Ending) (acted : EisView) (handed : List EisRequest) → TakesOut handed (at (phase.Standing new) how) acted → IsLast setup past m false × Answered setup past m times time after (phase.Standing c) how handed acted
+  told_none : (how : Beside) (acted : EisView) (handed : List EisRequest) → TakesOut handed (at (phase.Standing new) how) acted → IsLast setup past m false × Answered setup past m times time after (phase.Standing c) how.0 handed acted
   told_none how acted handed t =
       let took : TookOne setup past m times [] (unread_to c after) new = subst (λ (x : ConverterView). TookOne setup past m times [] (unread_to c after) x) (sym is) (after_unknown setup past m times (unread_to c after) (held_to setup past times c after held) gone) in
       let empty : new.queue ≡ [] = ap (λ (x : ConverterView). x.queue) is ∙ none in
@@ -190,8 +191,8 @@ module _ (setup : Setup) (past : List Raw) (times : List ℕ) (time : ℕ) (unus
   quiet : (m : Raw) (later : List ℕ) → [] ≡ map (request_in_code past) (gives ((times ++ []) ++ later) (each (slot setup) past) (slot setup past m))
   quiet m later = sym (ap (map (request_in_code past)) (gives_none setup ((times ++ []) ++ later) past m (early_item past m i.unfinished)))
 
-  keeps : (k : Shaking) (x : KeptOn setup past h k) (how : Option Ending) (seated acted : EisView) (handed : List EisRequest) → seated ≡ at (phase.Shaking k) how → TakesOut handed seated acted →
-      IsLast setup past x.m false × Answered setup past x.m times time x.after (phase.Shaking h) how handed acted
+  keeps : (k : Shaking) (x : KeptOn setup past h k) (how : Beside) (seated acted : EisView) (handed : List EisRequest) → seated ≡ at (phase.Shaking k) how → TakesOut handed seated acted →
+      IsLast setup past x.m false × Answered setup past x.m times time x.after (phase.Shaking h) how.0 handed acted
   keeps k x how seated acted handed e t =
       let y = none_first handed seated acted (ap (λ (v : EisView). queue_in v.phase) e) t in
       let now : acted ≡ at (phase.Shaking k) how = y.1 ∙ e in (
@@ -222,8 +223,8 @@ module _ (setup : Setup) (past : List Raw) (times : List ℕ) (time : ℕ) (unus
         ∙ append_assoc h.context.unsent (all_bytes first) (all_bytes (seat_events setup past))
         ∙ ap (λ (y : List ℕ). h.context.unsent ++ y) (sym (flat_map-append bytes_of first (seat_events setup past)) ∙ ap all_bytes (finish_is setup past ∙ sym (reply_finish setup past x.m x.finish)))
 
-    finishes : (how : Option Ending) (seated acted : EisView) (handed : List EisRequest) → AddsTheSeat setup (at (phase.Standing (connected_by k resp)) how) seated → TakesOut handed seated acted →
-        IsLast setup past x.m false × Answered setup past x.m times time x.after (phase.Shaking h) how handed acted
+    finishes : (how : Beside) (seated acted : EisView) (handed : List EisRequest) → AddsTheSeat setup (at (phase.Standing (connected_by k resp)) how) seated → TakesOut handed seated acted →
+        IsLast setup past x.m false × Answered setup past x.m times time x.after (phase.Shaking h) how.0 handed acted
     finishes how seated acted handed s t =
         let a = acts_in (AddsSeatAs s.id None (set_of setup.capabilities)) (connected_by k resp) seated.phase s.adds.acts in
         let adds = seats_so a.now.handle s.id a.acts.done in
@@ -251,10 +252,10 @@ module _ (setup : Setup) (past : List Raw) (times : List ℕ) (time : ℕ) (unus
   shaken s q (NothingCame short) = Nothing short
   shaken s q (Kept k x is now) =
       subst (λ (p : Phase). Stepped setup past times time (phase.Shaking h) s p) (sym now)
-      (Taken x.m x.after false x.front_is is x.unread (λ how seated acted handed e t. keeps k x how seated acted handed e t))
+      (Taken x.m x.after false x.front_is (ap how_of is) x.unread (λ how seated acted handed e t. keeps k x how seated acted handed e t))
   shaken s q (Done k resp x is now) =
       subst (λ (p : Phase). Stepped setup past times time (phase.Shaking h) s p) (sym now)
-      (Taken x.m x.after false x.front_is is x.unread (λ how seated acted handed e t. finishes k resp x how seated acted handed e t))
+      (Taken x.m x.after false x.front_is (ap how_of is) x.unread (λ how seated acted handed e t. finishes k resp x how seated acted handed e t))
   shaken s q (Failed e k why some is now) = subst (λ (p : Phase). Stepped setup past times time (phase.Shaking h) s p) (sym now) (Rejected e why some is tt refl)
   shaken s q (NoMemory is) = WantsMemory is
 
@@ -264,10 +265,10 @@ module _ (setup : Setup) (past : List Raw) (times : List ℕ) (time : ℕ) (c : 
   conversing : (s : Step) (new : ConverterView) → Conversed setup past times time c s new → Stepped setup past times time (phase.Standing c) s (phase.Standing new)
   conversing s new (Waited short) = Nothing short
   conversing s new (Took h) =
-      Taken h.m h.after h.last h.front_is h.step_is h.now_unread
+      Taken h.m h.after h.last h.front_is h.how_is h.now_unread
       (λ how seated acted handed e t. answers setup past times time c s new h how acted handed (subst (λ (v : EisView). TakesOut handed v acted) e t))
   conversing s new (Told m after f gone is now) =
-      Taken m after false f is (ap (λ (x : ConverterView). x.handle.ctx.unread) now)
+      Taken m after false f (ap how_of is) (ap (λ (x : ConverterView). x.handle.ctx.unread) now)
       (λ how seated acted handed e t. told_none setup past times time c new i.held i.queue m after gone now how acted handed (subst (λ (v : EisView). TakesOut handed v acted) e t))
   conversing s new (Refused e why some is none) = Rejected e why some is tt none
   conversing s new (Full is) = WantsMemory is

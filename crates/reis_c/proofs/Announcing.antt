@@ -3,7 +3,6 @@ use Rattle.std.proofs.Common.{◌≡◌, ℕ, ◌≤◌, true, false, List, map,
 use Rattle.std.specs.Str.{is_utf8}
 use Rattle.ei_types.specs.Capability.{all_bits, bits_of}
 use Rattle.ei_types.specs.declared.capability.DeviceCapabilities.{DeviceCapabilities}
-use Rattle.ei_request.specs.declared.event.EisRequest.{EisRequest}
 use Rattle.ei_request.specs.declared.making.DeviceSetup.{DeviceSetup}
 use Rattle.reis_eis.specs.declared.call_error.CallError.{CallError}
 use Rattle.reis_eis.specs.View.{EisView}
@@ -17,6 +16,7 @@ use Rattle.reis_c.specs.Connecting.{Tries, AddsDeviceTo, AnnouncesOr}
 use Rattle.reis_c.specs.Describing.{item_of, items_of, is_wrong, type_of}
 use Rattle.reis_c.specs.Given.{named, set_of, text_fault}
 use Rattle.reis_c.proofs.Given.{nothing_wrong}
+use Rattle.reis_c.specs.declared.connection.Handed.{Handed}
 use Rattle.reis_c.proofs.Obliging.{behind, tried_ok, tried_err}
 
 set_is : (set : DeviceCapabilities) (bits : ℕ) → bits_of set ≡ bits → set ≡ set_of bits
@@ -27,7 +27,7 @@ fault_none : (d : ReisDevice) (regions : List ReisRegion) (ids name : List ℕ) 
 fault_none d regions ids name e f = rw (e, f) refl
 
 module _ (seat : ℕ) (d : ReisDevice) (regions : List ReisRegion) (ids name : List ℕ) (text : Option (List ℕ)) (set : DeviceCapabilities)
-    (setup : List DeviceSetup) (old new : EisView) (last : Option EisRequest) (id : ℕ) (within : d.capabilities ≤ all_bits)
+    (setup : List DeviceSetup) (old new : EisView) (last : Handed) (id : ℕ) (within : d.capabilities ≤ all_bits)
     (set_bits : bits_of set ≡ d.capabilities) (fine : is_wrong d regions ids ≡ false) (is_text : is_utf8 name ≡ true) (text_is : text ≡ named name)
     (items : map item_of setup ≡ items_of d regions ids) where
   device_tries : (answer : ℕ) → (answer ≡ NO_MEMORY → IsKept old new)
@@ -47,7 +47,7 @@ module _ (seat : ℕ) (d : ReisDevice) (regions : List ReisRegion) (ids name : L
               (behind new last)) text_is tries);
         };
         kept = kept;
-        last = refl;
+        handed = refl;
       })
 
   pub device_added : ActsOn (AddsDeviceAs id seat text (type_of d) set setup) old new → refusal (adding_device seat text set setup) old ≡ None

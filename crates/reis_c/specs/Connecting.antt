@@ -1,5 +1,5 @@
 -- What each call does to the connection behind the word.
-use Rattle.std.specs.Prelude.{◌≡◌, ◌≢◌, ℕ, List, [], ◌∷◌, length, map, Bool, Option, Some, None, is_some}
+use Rattle.std.specs.Prelude.{◌≡◌, ◌≢◌, ℕ, List, [], ◌∷◌, length, map, Bool, true, false, not, ◌&&◌, Option, Some, None, is_some}
 use Rattle.ei_types.specs.Capability.{bit_of}
 use Rattle.ei_types.specs.declared.capability.DeviceCapability.{DeviceCapability}
 use Rattle.ei_backend.specs.Outgoing.{unsent_after}
@@ -8,20 +8,22 @@ use Rattle.ei_request.specs.Connection.{ConnectionView}
 use Rattle.ei_request.specs.declared.event.EisRequest.{EisRequest}
 use Rattle.ei_request.specs.declared.making.DeviceSetup.{DeviceSetup}
 use Rattle.reis_eis.specs.declared.call_error.CallError.{CallError}
+use Rattle.reis_eis.specs.declared.notice.Notice.{Notice}
 use Rattle.reis_eis.specs.View.{EisView}
-use Rattle.reis_eis.specs.Words.{queue_in, with_queue, unsent_in}
+use Rattle.reis_eis.specs.Words.{handle_in, queue_in, with_queue, unsent_in}
 use Rattle.reis_eis.specs.Starting.{started, with_unsent_in}
 use Rattle.reis_eis.specs.Feeding.{Feeds, end_of}
 use Rattle.reis_eis.specs.Refusals.{feed_answer, end_answer, sent_answer, adding_seat, adding_device, sending, disconnecting}
 use Rattle.reis_eis.specs.Acting.{AddsSeatAs, AddsDeviceAs, SendsInput, Ends, ActsOn, TellsEnd, IsKept, refusal, refusal_in, has_in}
 use Rattle.reis_c.specs.Answers.{outcome_number, reason_number}
 use Rattle.reis_c.specs.Describing.{item_of, items_of, type_of, device_fault}
-use Rattle.reis_c.specs.Flat.{flat, truth}
+use Rattle.reis_c.specs.Flat.{flat, of_connected, of_notice, truth}
 use Rattle.reis_c.specs.Given.{Unless, named, set_of, text_fault, bits_fault}
 use Rattle.reis_c.specs.Handles.{handle_of}
 use Rattle.reis_c.specs.declared.device.ReisDevice.{ReisDevice}
 use Rattle.reis_c.specs.declared.device.ReisRegion.{ReisRegion}
 use Rattle.reis_c.specs.declared.flat.ReisRequest.{ReisRequest}
+use Rattle.reis_c.specs.declared.connection.Handed.{Handed}
 use Rattle.reis_c.specs.declared.connection.HeldConnection.{HeldConnection}
 use Rattle.reis_c.specs.Numbers.{OK, CAPABILITIES, NO_MEMORY, NOTHING, GONE, INVALID}
 
@@ -29,14 +31,14 @@ use Rattle.reis_c.specs.Numbers.{OK, CAPABILITIES, NO_MEMORY, NOTHING, GONE, INV
 
 -- it was just started with that serial: its greeting waits, and nothing was handed out
 abbrev pub begun : ℕ → HeldConnection
-begun serial = record { connection = started serial; last = None }
+begun serial = record { connection = started serial; handed = record { last = None; connected = false } }
 
--- It takes a piece, or answers why not and is as it was. What was handed out last stays.
+-- It takes a piece, or answers why not and is as it was. What was handed out stays.
 pub record FeedsConnection (bytes handles : List ℕ) (time answer : ℕ) (old new : HeldConnection) : Type 0 where
   pub answers : answer ≡ outcome_number (feed_answer (is_some old.connection.ending) (length bytes) (length handles))
   pub kept : answer ≢ OK → new ≡ old
   pub feeds : answer ≡ OK → Feeds (record { bytes = bytes; handles = map handle_of handles }) time old.connection new.connection
-  pub last : new.last ≡ old.last
+  pub handed : new.handed ≡ old.handed
 
 -- the connection that ended for want of input
 abbrev pub without_input : EisView → EisView
@@ -59,15 +61,41 @@ pub record SendsBytes (bytes answer : ℕ) (old new : HeldConnection) : Type 0 w
 abbrev pub awaiting : EisView → List EisRequest → EisView
 awaiting c requests = record c { phase = with_queue c.phase requests }
 
--- the first of these requests is written, waits no more and is the last one; or there is none, and all is as it was
-abbrev pub HandsFirst : List EisRequest → ReisRequest → ℕ → ReisRequest → HeldConnection → HeldConnection → Type 0
-HandsFirst [] room answer request old new = (answer ≡ NOTHING) × (request ≡ room) × (new ≡ old)
-HandsFirst (r ∷ rest) room answer request old new =
-    (answer ≡ OK) × (request ≡ flat r) × (new ≡ record { connection = awaiting old.connection rest; last = Some r })
+-- what was handed out, the last of it this request, where it is one
+abbrev pub with_last : Handed → Option EisRequest → Handed
+with_last handed last = record handed { last = last }
 
--- It hands out the next request.
+-- the connection in which these notices wait
+abbrev pub noticing : EisView → List Notice → EisView
+noticing c notices = record c { notices = notices }
+
+-- the first of these notices is written, and waits no more; or there is none, and all is as it was
+abbrev pub HandsNotice : List Notice → ReisRequest → ℕ → ReisRequest → HeldConnection → HeldConnection → Type 0
+HandsNotice [] room answer request old new = (answer ≡ NOTHING) × (request ≡ room) × (new ≡ old)
+HandsNotice (n ∷ rest) room answer request old new =
+    (answer ≡ OK) × (request ≡ of_notice n)
+    × (new ≡ record { connection = noticing old.connection rest; handed = with_last old.handed None })
+
+-- the first of these requests is written, waits no more and is the last one; or there is none, and a notice may be
+abbrev pub HandsFirst : List EisRequest → ReisRequest → ℕ → ReisRequest → HeldConnection → HeldConnection → Type 0
+HandsFirst [] room answer request old new = HandsNotice old.connection.notices room answer request old new
+HandsFirst (r ∷ rest) room answer request old new =
+    (answer ≡ OK) × (request ≡ flat r)
+    × (new ≡ record { connection = awaiting old.connection rest; handed = with_last old.handed (Some r) })
+
+-- that the handshake is done is written, where it is to be told; else a request or a notice is
+abbrev pub HandsFrom : Bool → ReisRequest → ℕ → ReisRequest → HeldConnection → HeldConnection → Type 0
+HandsFrom true room answer request old new =
+    (answer ≡ OK) × (request ≡ of_connected) × (new ≡ record old { handed = record { last = None; connected = true } })
+HandsFrom false room answer request old new = HandsFirst (queue_in old.connection.phase) room answer request old new
+
+-- whether the handshake is done, and that isn't told yet
+abbrev pub is_untold : HeldConnection → Bool
+is_untold held = not held.handed.connected && is_some (handle_in held.connection.phase)
+
+-- It hands out what comes next: once, that the handshake is done; and then the next request, or, where none waits, the next notice.
 abbrev pub HandsNext : ReisRequest → ℕ → ReisRequest → HeldConnection → HeldConnection → Type 0
-HandsNext room answer request old new = HandsFirst (queue_in old.connection.phase) room answer request old new
+HandsNext room answer request old new = HandsFrom (is_untold old) room answer request old new
 
 -- ---- calls that are refused for a reason, or do something
 
@@ -77,7 +105,7 @@ pub record Tries (reason : ConnectionView → Option CallError) (does : Connecti
   pub answers : answer ≢ NO_MEMORY → answer ≡ reason_number (refusal reason old.connection)
   pub done : answer ≡ OK → ActsOn does old.connection new.connection
   pub kept : answer ≢ OK → IsKept old.connection new.connection
-  pub last : new.last ≡ old.last
+  pub handed : new.handed ≡ old.handed
 
 -- The same, and memory runs out only where there is no reason.
 pub record Does (reason : ConnectionView → Option CallError) (does : ConnectionView → ConnectionView → Type 0) (answer : ℕ)
@@ -101,7 +129,7 @@ pub record Announces (seat : ℕ) (d : ReisDevice) (regions : List ReisRegion) (
 pub record AnnouncesOr (seat : ℕ) (d : ReisDevice) (regions : List ReisRegion) (ids name : List ℕ) (answer id : ℕ) (old new : HeldConnection) : Type 0 where
   pub announces : answer ≢ NO_MEMORY → Announces seat d regions ids name answer id old new
   pub kept : answer ≡ NO_MEMORY → IsKept old.connection new.connection
-  pub last : new.last ≡ old.last
+  pub handed : new.handed ≡ old.handed
 
 -- the same where nothing is wrong with what was given
 abbrev pub AddsDeviceTo : ℕ → ReisDevice → List ReisRegion → List ℕ → List ℕ → ℕ → ℕ → HeldConnection → HeldConnection → Type 0
@@ -114,7 +142,7 @@ pub record EndsBy (reason : ℕ) (text : Option (List ℕ)) (answer : ℕ) (old 
   pub memory : answer ≡ NO_MEMORY → refusal_in (disconnecting reason text) old.connection.phase ≡ None
   pub done : answer ≡ OK → TellsEnd (Ends reason text) old.connection new.connection
   pub kept : answer ≢ OK → IsKept old.connection new.connection
-  pub last : new.last ≡ old.last
+  pub handed : new.handed ≡ old.handed
 
 -- the same with the bytes of the text
 abbrev pub Disconnects : ℕ → List ℕ → ℕ → HeldConnection → HeldConnection → Type 0

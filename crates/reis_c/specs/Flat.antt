@@ -8,6 +8,8 @@ use Rattle.ei_types.specs.Enums.{button_state_number, key_state_number}
 use Rattle.ei_request.specs.Keys.{DeviceKey}
 use Rattle.ei_request.specs.declared.event.EisRequest.{EisRequest}
 use Rattle.ei_request.specs.declared.event.EisRequest.TheVariants as request
+use Rattle.reis_eis.specs.declared.notice.Notice.{Notice}
+use Rattle.reis_eis.specs.declared.notice.Notice.TheVariants as notice
 use Rattle.reis_c.specs.declared.flat.ReisRequest.{ReisRequest}
 
 -- a request to a seat: its fields are a set of capabilities
@@ -65,6 +67,14 @@ flat (request.TextKeysym r) = of_device 21 r.device r.time (two r.keysym (key_st
 flat (request.TextUtf8 r) = of_device 22 r.device r.time (one (length r.text))
 flat (request.GestureSwipe r) = of_device 23 r.device r.time (three r.fingers r.dx.0 r.dy.0)
 flat (request.GesturePinch r) = of_device 24 r.device r.time (one r.scale.0)
+
+-- what else a connection hands out: that its handshake is done, and each notice
+abbrev pub of_connected : ReisRequest
+of_connected = record { kind = 25; seat = 0; device = 0; time = 0; fields = none }
+
+abbrev pub of_notice : Notice → ReisRequest
+of_notice (notice.SeatReleased seat) = record { kind = 26; seat = seat; device = 0; time = 0; fields = none }
+of_notice (notice.Pong ping callback_data) = record { kind = 27; seat = 0; device = 0; time = 0; fields = two ping callback_data }
 
 -- the text that a request bears, if it bears one
 abbrev pub text_in : EisRequest → Option (List ℕ)

@@ -9,8 +9,8 @@ ghost use Rattle.ei_types.specs.Enums.{disconnect_reason_number};
 ghost use Rattle.reis_c.specs.Given.{named};
 
 use crate::device::{ReisDevice, ReisRegion, describe, is_wrong, type_of};
-use crate::flat::{ReisRequest, flat};
-use crate::held::keep;
+use crate::flat::{ReisRequest, flat, of_connected, of_notice};
+use crate::held::{forget, keep};
 use crate::input::input_in;
 use crate::numbers::{
     CAPABILITIES, GONE, INVALID, NO_MEMORY, NOTHING, OK, outcome_number, refusal_number,
@@ -22,11 +22,18 @@ use ei_types::{DeviceCapabilities, DeviceCapability, DisconnectReason, OtherReas
 use reis_eis::Connection;
 use std::alloc::Global;
 
-/// The connection, and the request that it handed out last.
+/// What was handed out: the request that was the last, where that was one, and whether it was told that the handshake is done.
+#[derive(Drop)]
+pub(crate) struct Handed {
+    pub(crate) last: Option<EisRequest>,
+    pub(crate) connected: bool,
+}
+
+/// The connection, and what it handed out.
 #[derive(Drop)]
 pub(crate) struct HeldConnection {
     pub(crate) connection: Connection,
-    pub(crate) last: Option<EisRequest>,
+    pub(crate) handed: Handed,
 }
 
 /// The text of some bytes: there is none where there is no byte. `None` where they are no text.
@@ -82,7 +89,7 @@ fn reason_of(number: u32) -> DisconnectReason
 
 // What comes and goes.
 impl HeldConnection {
-    ghost use Rattle.reis_c.specs.Connecting.{begun, FeedsConnection, EndsConnection, SendsBytes, HandsNext, Disconnects};
+    ghost use Rattle.reis_c.specs.Connecting.{begun, FeedsConnection, EndsConnection, SendsBytes, HandsNext, HandsNotice, is_untold, Disconnects};
 
     /// A connection that was just started; `None` where memory ran out.
     pub(crate) fn start(alloc: Global, initial_serial: u32) -> Option<Box<HeldConnection>>
@@ -93,7 +100,10 @@ impl HeldConnection {
             alloc,
             HeldConnection {
                 connection,
-                last: None,
+                handed: Handed {
+                    last: None,
+                    connected: false,
+                },
             },
         )
         .ok()
@@ -122,14 +132,41 @@ impl HeldConnection {
         outcome_number(self.connection.sent(bytes))
     }
 
-    /// Hands out the next request.
+    /// Hands out what comes next: once, that the handshake is done; and then a request, or, where none waits, a notice.
     pub(crate) fn next_request(&mut self, request: &mut ReisRequest) -> u32
         ensures { HandsNext request.old result request.new self.old self.new }
     {
+        if self.is_untold() {
+            *request = of_connected();
+            forget(&mut self.handed.last);
+            self.handed.connected = true;
+            return OK;
+        }
         match self.connection.next_request() {
             Some(next) => {
                 *request = flat(&next);
-                keep(&mut self.last, next);
+                keep(&mut self.handed.last, next);
+                OK
+            }
+            None => self.next_notice(request),
+        }
+    }
+
+    /// Whether the handshake is done, and that isn't told yet.
+    fn is_untold(&self) -> bool
+        ensures { result ≡ is_untold self.now }
+    {
+        !self.handed.connected && self.connection.client().is_some()
+    }
+
+    /// Hands out the next notice.
+    fn next_notice(&mut self, request: &mut ReisRequest) -> u32
+        ensures { HandsNotice self.old.connection.notices request.old result request.new self.old self.new }
+    {
+        match self.connection.next_notice() {
+            Some(notice) => {
+                *request = of_notice(notice);
+                forget(&mut self.handed.last);
                 OK
             }
             None => NOTHING,
@@ -147,12 +184,27 @@ impl HeldConnection {
     }
 }
 
-// Seats and devices.
+// Pings, seats and devices.
 impl HeldConnection {
     ghost use Rattle.ei_spec.specs.declared.interface.KnownInterface.TheVariants as known;
-    ghost use Rattle.reis_eis.specs.Refusals.{on_seat, on_device, on_interface};
-    ghost use Rattle.reis_eis.specs.Acting.{RemovesSeatAt, RemovesDeviceAt, Resumes, Pauses, TellsModifiers};
+    ghost use Rattle.reis_eis.specs.Refusals.{pinging, on_seat, on_device, on_interface};
+    ghost use Rattle.reis_eis.specs.Acting.{PingsAs, RemovesSeatAt, RemovesDeviceAt, Resumes, Pauses, TellsModifiers};
     ghost use Rattle.reis_c.specs.Connecting.{AddsSeatTo, AddsDeviceTo, Does, TellsDevice};
+
+    /// Announces a ping.
+    pub(crate) fn ping(&mut self, ping: &mut u64) -> u32
+        ensures pings { Does pinging (PingsAs ping.new) result self.old self.new }
+        ensures none { result ≢ OK → ping.new ≡ 0 }
+    {
+        *ping = 0;
+        match self.connection.ping() {
+            Ok(id) => {
+                *ping = id;
+                OK
+            }
+            Err(refusal) => refusal_number(refusal),
+        }
+    }
 
     /// Announces a seat.
     pub(crate) fn add_seat(&mut self, name: &[u8], capabilities: u64, seat: &mut u64) -> u32

@@ -2,8 +2,8 @@
 
 ghost use Rattle.std.specs.Prelude.{◌≡◌, ◌≢◌, ◌⊎◌, ◌↔◌, length, IsSome, is_some, if◌then◌else◌, None, Some};
 ghost use Rattle.ei_spec.specs.declared.interface.KnownInterface.TheVariants as known;
-ghost use Rattle.reis_eis.specs.Refusals.{on_seat, on_device, on_interface, on_receiver};
-ghost use Rattle.reis_eis.specs.Acting.{RemovesSeatAt, RemovesDeviceAt, Resumes, Pauses, TellsModifiers, StartsEmulating, StopsEmulating, Frames};
+ghost use Rattle.reis_eis.specs.Refusals.{pinging, on_seat, on_device, on_interface, on_receiver};
+ghost use Rattle.reis_eis.specs.Acting.{PingsAs, RemovesSeatAt, RemovesDeviceAt, Resumes, Pauses, TellsModifiers, StartsEmulating, StopsEmulating, Frames};
 ghost use Rattle.reis_eis.specs.Words.{unsent_in, handle_in};
 ghost use Rattle.reis_c.specs.Answers.{Writes};
 ghost use Rattle.reis_c.specs.Calls.{OnWord, ReadsWord, TellsClient, text_of_last};
@@ -122,7 +122,8 @@ pub extern "C" fn reis_c_connection_sent(
     on_word!(connection, alloc, |held| held.sent(bytes))
 }
 
-/// Hands out the next request.
+/// Hands out what comes next: once, that the handshake is done; and then the next request, or, where none waits, the next
+/// notice.
 ///
 /// `NO_SESSION`; `NOTHING` where there is none.
 #[unsafe(no_mangle)]
@@ -149,14 +150,14 @@ pub extern "C" fn reis_c_connection_request_text(
     length: &mut usize,
 ) -> u32
     ensures written { ReadsWord connection.old.held result connection.new.held
-        (λ held. Writes (text_of_last held.last) text.old result length.new text.new) }
+        (λ held. Writes (text_of_last held.handed.last) text.old result length.new text.new) }
     ensures none { result ≡ number.NO_SESSION → (length.new ≡ 0) × (text.new ≡ text.old) }
 {
     *length = 0;
     on_word!(
         connection,
         alloc,
-        |held| write_text_of(&held.last, text, length)
+        |held| write_text_of(&held.handed.last, text, length)
     )
 }
 
@@ -231,6 +232,22 @@ pub extern "C" fn reis_c_connection_free(alloc: Global, connection: &mut ReisCon
         Some(_) => OK,
         None => NO_SESSION,
     }
+}
+
+/// Announces a ping, which the client is to answer, and tells its id.
+///
+/// `NO_SESSION`; what `Connection::ping` answers.
+#[unsafe(no_mangle)]
+pub extern "C" fn reis_c_connection_ping(
+    alloc: Global,
+    connection: &mut ReisConnection,
+    ping: &mut u64,
+) -> u32
+    ensures pings { OnWord connection.old.held result connection.new.held (Does pinging (PingsAs ping.new) result) }
+    ensures none { result ≢ number.OK → ping.new ≡ 0 }
+{
+    *ping = 0;
+    on_word!(connection, alloc, |held| held.ping(ping))
 }
 
 /// Announces a seat of these capabilities, and tells its id. A name without a byte is none.

@@ -4,12 +4,13 @@ ghost use Rattle.std.specs.Prelude.{◌≡◌, [], ◌∷◌};
 ghost use Rattle.std.specs.Option.{option_copied};
 ghost use Rattle.std.specs.Int.{cast_unsigned, w32};
 ghost use Rattle.ei_types.specs.Enums.{button_state_number, key_state_number};
-ghost use Rattle.reis_c.specs.Flat.{of_device, of_seat, flat, text_in, truth};
+ghost use Rattle.reis_c.specs.Flat.{of_device, of_seat, flat, of_connected, of_notice, text_in, truth};
 
 use ei_backend::Interface;
 use ei_request::{Device, EisRequest, Seat};
 use ei_types::DeviceCapabilities;
 use ei_wire::RawFloat;
+use reis_eis::Notice;
 
 // ---- the kinds of requests
 
@@ -60,6 +61,14 @@ pub const TEXT_UTF8: u32 = 22;
 pub const GESTURE_SWIPE: u32 = 23;
 
 pub const GESTURE_PINCH: u32 = 24;
+
+// ---- what else a connection hands out
+
+pub const CONNECTED: u32 = 25;
+
+pub const SEAT_RELEASED: u32 = 26;
+
+pub const PONG: u32 = 27;
 
 /// A request, flat. The header says which fields each kind has; the others are 0.
 #[repr(C)]
@@ -202,6 +211,44 @@ pub(crate) fn flat(request: &EisRequest) -> ReisRequest
         }
         EisRequest::GestureSwipe(r) => timed!(touch, GESTURE_SWIPE, r: r.fingers, r.dx, r.dy),
         EisRequest::GesturePinch(r) => timed!(change, GESTURE_PINCH, r: r.scale.0, 0),
+    }
+}
+
+/// That the handshake is done, as C reads it.
+pub(crate) fn of_connected() -> ReisRequest
+    ensures { result ≡ of_connected }
+{
+    ReisRequest {
+        kind: CONNECTED,
+        seat: 0,
+        device: 0,
+        time: 0,
+        fields: [0, 0, 0, 0],
+    }
+}
+
+/// The notice as C reads it.
+pub(crate) fn of_notice(notice: Notice) -> ReisRequest
+    ensures { result ≡ of_notice notice }
+{
+    match notice {
+        Notice::SeatReleased { seat } => ReisRequest {
+            kind: SEAT_RELEASED,
+            seat,
+            device: 0,
+            time: 0,
+            fields: [0, 0, 0, 0],
+        },
+        Notice::Pong {
+            ping,
+            callback_data,
+        } => ReisRequest {
+            kind: PONG,
+            seat: 0,
+            device: 0,
+            time: 0,
+            fields: [ping, callback_data, 0, 0],
+        },
     }
 }
 

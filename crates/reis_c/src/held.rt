@@ -32,6 +32,13 @@ pub(crate) fn keep(last: &mut Option<EisRequest>, next: EisRequest)
     drop(mem::replace(last, Some(next)));
 }
 
+/// Keeps none.
+pub(crate) fn forget(last: &mut Option<EisRequest>)
+    ensures { last.new ≡ None }
+{
+    drop(mem::replace(last, None));
+}
+
 /// Starts a server, with this limit or with none.
 fn start_server(
     alloc: Global,

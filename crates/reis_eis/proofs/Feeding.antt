@@ -18,10 +18,10 @@ use Rattle.reis_eis.specs.declared.phase.Phase.TheVariants as phase
 use Rattle.reis_eis.specs.Lent.{lent, lent_view}
 use Rattle.reis_eis.specs.Words.{IsWhole, shaking_with, with_ctx}
 use Rattle.reis_eis.specs.Passing.{ReadsPhase}
+use Rattle.reis_eis.specs.declared.notice.Notice.{Notice}
 use Rattle.reis_eis.specs.declared.step.Step.{Step}
-use Rattle.reis_eis.specs.declared.step.Step.TheVariants as step
 use Rattle.reis_eis.specs.Handling.{Steps}
-use Rattle.reis_eis.specs.Feeding.{HandlesSome, HandlesAll, LeavesPiece, Feeds}
+use Rattle.reis_eis.specs.Feeding.{HandlesSome, HandlesAll, TellsBy, LeavesPiece, Feeds}
 
 on_closed : {X : Type 0} (b : Bool) → (b ≡ true → X) → (b ≡ false → X) → X
 on_closed true is_so is_not = is_so refl
@@ -85,36 +85,36 @@ module _ {S : Type 0} (view : S → SourceView) (later : S → S → Type 0) (be
 
   -- ---- in a phase
 
-  pub fed : (n time : ℕ) (p q last_phase : Phase) (how : Option Ending) → ReadsPhase view later (Ok n) p q before after → HandlesAll time q last_phase how →
-      Feeds piece time (record { phase = p; ending = None }) (record { phase = last_phase; ending = how })
-  fed n time (phase.Shaking h) q last_phase how r all =
+  pub fed : (n time : ℕ) (p q last_phase : Phase) (ns now : List Notice) (how : Option Ending) → ReadsPhase view later (Ok n) p q before after → HandlesAll time q ns last_phase now how →
+      Feeds piece time (record { phase = p; ending = None; notices = ns }) (record { phase = last_phase; ending = how; notices = now })
+  fed n time (phase.Shaking h) q last_phase ns now how r all =
       let x = came n h.context r.read r.reads in
-      inl (record { size = n; fits = x.fits; handles = subst (λ (s : Phase). HandlesAll time s last_phase how) (r.is ∙ ap (λ (c : BackendView). phase.Shaking (shaking_with h c)) x.is) all })
-  fed n time (phase.Standing c) q last_phase how r all =
+      inl (record { size = n; fits = x.fits; handles = subst (λ (s : Phase). HandlesAll time s ns last_phase now how) (r.is ∙ ap (λ (c : BackendView). phase.Shaking (shaking_with h c)) x.is) all })
+  fed n time (phase.Standing c) q last_phase ns now how r all =
       let x = came n c.handle.ctx r.read r.reads in
-      inl (record { size = n; fits = x.fits; handles = subst (λ (s : Phase). HandlesAll time s last_phase how) (r.is ∙ ap (λ (w : BackendView). phase.Standing (with_ctx c w)) x.is) all })
-  fed n time phase.Between q last_phase how r all = let e = r.0 in cc
+      inl (record { size = n; fits = x.fits; handles = subst (λ (s : Phase). HandlesAll time s ns last_phase now how) (r.is ∙ ap (λ (w : BackendView). phase.Standing (with_ctx c w)) x.is) all })
+  fed n time phase.Between q last_phase ns now how r all = let e = r.0 in cc
 
-  pub unfed : (view after).faults ≡ 0 → (e : ReadError) (time : ℕ) (p q : Phase) → IsWhole p → ReadsPhase view later (Err e) p q before after →
-      Feeds piece time (record { phase = p; ending = None }) (record { phase = q; ending = Some (ending.Refused (error_of_read e)) })
-  unfed g e time (phase.Shaking h) q whole r =
+  pub unfed : (view after).faults ≡ 0 → (e : ReadError) (time : ℕ) (p q : Phase) (ns : List Notice) → IsWhole p → ReadsPhase view later (Err e) p q before after →
+      Feeds piece time (record { phase = p; ending = None; notices = ns }) (record { phase = q; ending = Some (ending.Refused (error_of_read e)); notices = ns })
+  unfed g e time (phase.Shaking h) q ns whole r =
       inr (record { why = e; left = r.read; leaves = left g e h.context r.read r.reads; is = rw r.is refl })
-  unfed g e time (phase.Standing c) q whole r =
+  unfed g e time (phase.Standing c) q ns whole r =
       inr (record { why = e; left = r.read; leaves = left g e c.handle.ctx r.read r.reads; is = rw r.is refl })
-  unfed g e time phase.Between q whole r = absurd whole
+  unfed g e time phase.Between q ns whole r = absurd whole
 
 -- a piece with a byte, as it was handed in, to a connection that goes on
 module _ {S : Type 0} (view : S → SourceView) (later : S → S → Type 0) (before after : S) (handles : List Handle) (given : List Piece) (last : LastAnswer) where
-  fed_list : (bytes : List ℕ) → 1 ≤ length bytes → view before ≡ lent_view (lent bytes handles) given last → (n time : ℕ) (p q last_phase : Phase) (how : Option Ending) → ReadsPhase view later (Ok n) p q before after →
-      HandlesAll time q last_phase how → Feeds (record { bytes = bytes; handles = handles }) time (record { phase = p; ending = None }) (record { phase = last_phase; ending = how })
-  fed_list [] some is n time p q last_phase how r all = absurd (omega (arith, some))
-  fed_list (b ∷ bytes) some is n time p q last_phase how r all = fed view later before after b bytes handles given last is n time p q last_phase how r all
+  fed_list : (bytes : List ℕ) → 1 ≤ length bytes → view before ≡ lent_view (lent bytes handles) given last → (n time : ℕ) (p q last_phase : Phase) (ns now : List Notice) (how : Option Ending) → ReadsPhase view later (Ok n) p q before after →
+      HandlesAll time q ns last_phase now how → Feeds (record { bytes = bytes; handles = handles }) time (record { phase = p; ending = None; notices = ns }) (record { phase = last_phase; ending = how; notices = now })
+  fed_list [] some is n time p q last_phase ns now how r all = absurd (omega (arith, some))
+  fed_list (b ∷ bytes) some is n time p q last_phase ns now how r all = fed view later before after b bytes handles given last is n time p q last_phase ns now how r all
 
-  unfed_list : (bytes : List ℕ) → 1 ≤ length bytes → view before ≡ lent_view (lent bytes handles) given last → (view after).faults ≡ 0 → (e : ReadError) (time : ℕ) (p q : Phase) → IsWhole p →
+  unfed_list : (bytes : List ℕ) → 1 ≤ length bytes → view before ≡ lent_view (lent bytes handles) given last → (view after).faults ≡ 0 → (e : ReadError) (time : ℕ) (p q : Phase) (ns : List Notice) → IsWhole p →
       ReadsPhase view later (Err e) p q before after →
-      Feeds (record { bytes = bytes; handles = handles }) time (record { phase = p; ending = None }) (record { phase = q; ending = Some (ending.Refused (error_of_read e)) })
-  unfed_list [] some is g e time p q whole r = absurd (omega (arith, some))
-  unfed_list (b ∷ bytes) some is g e time p q whole r = unfed view later before after b bytes handles given last is g e time p q whole r
+      Feeds (record { bytes = bytes; handles = handles }) time (record { phase = p; ending = None; notices = ns }) (record { phase = q; ending = Some (ending.Refused (error_of_read e)); notices = ns })
+  unfed_list [] some is g e time p q ns whole r = absurd (omega (arith, some))
+  unfed_list (b ∷ bytes) some is g e time p q ns whole r = unfed view later before after b bytes handles given last is g e time p q ns whole r
 
 module _ {S : Type 0} (view : S → SourceView) (later : S → S → Type 0) (before after : S) (lent_bytes : List ℕ) (lent_handles : List Handle) (given : List Piece) (last : LastAnswer)
     (is_lent : view before ≡ lent_view (lent lent_bytes lent_handles) given last) (bytes : List ℕ) (handles : List Handle) (bytes_are : lent_bytes ≡ bytes) (handles_are : lent_handles ≡ handles)
@@ -122,19 +122,23 @@ module _ {S : Type 0} (view : S → SourceView) (later : S → S → Type 0) (be
   is_piece : view before ≡ lent_view (lent bytes handles) given last
   is_piece = is_lent ∙ ap (λ (bs : List ℕ). lent_view (lent bs lent_handles) given last) bytes_are ∙ ap (λ (hs : List Handle). lent_view (lent bytes hs) given last) handles_are
 
-  pub takes_all : (n time : ℕ) (q last_phase : Phase) (how : Option Ending) → ReadsPhase view later (Ok n) p q before after → HandlesAll time q last_phase how →
-      Feeds (record { bytes = bytes; handles = handles }) time (record { phase = p; ending = how_old }) (record { phase = last_phase; ending = how })
-  takes_all n time q last_phase how r all =
-      subst (λ (e : Option Ending). Feeds (record { bytes = bytes; handles = handles }) time (record { phase = p; ending = e }) (record { phase = last_phase; ending = how })) (sym going)
-      (fed_list view later before after handles given last bytes some is_piece n time p q last_phase how r all)
+  pub takes_all : (n time : ℕ) (q last_phase : Phase) (ns now : List Notice) (how : Option Ending) → ReadsPhase view later (Ok n) p q before after → HandlesAll time q ns last_phase now how →
+      Feeds (record { bytes = bytes; handles = handles }) time (record { phase = p; ending = how_old; notices = ns }) (record { phase = last_phase; ending = how; notices = now })
+  takes_all n time q last_phase ns now how r all =
+      subst (λ (e : Option Ending). Feeds (record { bytes = bytes; handles = handles }) time (record { phase = p; ending = e; notices = ns }) (record { phase = last_phase; ending = how; notices = now })) (sym going)
+      (fed_list view later before after handles given last bytes some is_piece n time p q last_phase ns now how r all)
 
-  pub takes_none : (view after).faults ≡ 0 → (e : ReadError) (time : ℕ) (q : Phase) → IsWhole p → ReadsPhase view later (Err e) p q before after →
-      Feeds (record { bytes = bytes; handles = handles }) time (record { phase = p; ending = how_old }) (record { phase = q; ending = Some (ending.Refused (error_of_read e)) })
-  takes_none g e time q whole r =
-      subst (λ (o : Option Ending). Feeds (record { bytes = bytes; handles = handles }) time (record { phase = p; ending = o }) (record { phase = q; ending = Some (ending.Refused (error_of_read e)) })) (sym going)
-      (unfed_list view later before after handles given last bytes some is_piece g e time p q whole r)
+  pub takes_none : (view after).faults ≡ 0 → (e : ReadError) (time : ℕ) (q : Phase) (ns : List Notice) → IsWhole p → ReadsPhase view later (Err e) p q before after →
+      Feeds (record { bytes = bytes; handles = handles }) time (record { phase = p; ending = how_old; notices = ns }) (record { phase = q; ending = Some (ending.Refused (error_of_read e)); notices = ns })
+  takes_none g e time q ns whole r =
+      subst (λ (o : Option Ending). Feeds (record { bytes = bytes; handles = handles }) time (record { phase = p; ending = o; notices = ns }) (record { phase = q; ending = Some (ending.Refused (error_of_read e)); notices = ns })) (sym going)
+      (unfed_list view later before after handles given last bytes some is_piece g e time p q ns whole r)
 
 -- ---- one message after another
 
-pub some_more : (time : ℕ) (old reached new : Phase) (s : Step) → (n : ℕ) × HandlesSome n time old reached → Steps time reached s new → s ≡ step.Handled → (n : ℕ) × HandlesSome n time old new
-some_more time old reached new s h steps is = (suc h.0, (reached, h.1, subst (λ (x : Step). Steps time reached x new) is steps))
+-- these were handled, and what they told waits
+abbrev pub SomeHandled : ℕ → Phase → List Notice → Phase → List Notice → Type 0
+SomeHandled time old waiting new notices = (n : ℕ) × HandlesSome n time old waiting new notices
+
+pub one_more : (time : ℕ) (old : Phase) (waiting : List Notice) (reached new : Phase) (told now : List Notice) (s : Step) → SomeHandled time old waiting reached told → Steps time reached s new → TellsBy s told now → SomeHandled time old waiting new now
+one_more time old waiting reached new told now s h steps tells = (suc h.0, record { reached = reached; waiting = told; handled = h.1; by = s; steps = steps; tells = tells })

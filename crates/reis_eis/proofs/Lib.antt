@@ -6,6 +6,7 @@ pub mod HeldKeys
 pub mod Telling
 pub mod TellingInputs
 pub mod Obeying
+pub mod Noting
 pub mod Feeding
 pub mod Starting
 pub mod HandshakeRead

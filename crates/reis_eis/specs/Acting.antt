@@ -2,19 +2,20 @@
 use Rattle.std.specs.Prelude.{◌≡◌, ℕ, Bool, List, [], ◌∷◌, codes, Option, Some, None, Result, OnOk, OnErr, IfErr, is_some, unwrap_or, find}
 use Rattle.std.specs.Option.{option_map}
 use Rattle.ei_spec.specs.declared.interface.KnownInterface.TheVariants as known
-use Rattle.ei_spec.specs.Interface.{ObjectView}
+use Rattle.ei_spec.specs.Interface.{Known, ObjectView}
 use Rattle.ei_spec.specs.Message.{Raw}
-use Rattle.ei_spec.specs.Value.{Word}
+use Rattle.ei_spec.specs.Value.{Word, Long}
 use Rattle.ei_wire.specs.declared.error.SendError.{SendError}
 use Rattle.ei_input.specs.declared.input_event.InputEvent.{InputEvent}
 use Rattle.ei_types.specs.Capability.{interface_of}
 use Rattle.ei_types.specs.declared.capability.DeviceCapabilities.{DeviceCapabilities}
 use Rattle.ei_types.specs.declared.capability.DeviceCapability.{DeviceCapability}
 use Rattle.ei_types.specs.declared.enums.DeviceType.{DeviceType}
+use Rattle.ei_backend.specs.Backend.{BackendView, with_object}
 use Rattle.ei_session.specs.Arguments.{event}
 use Rattle.ei_session.specs.Events.{resumed_event}
 use Rattle.ei_request.specs.Held.{SeatView, DeviceView, is_seat, is_device, gone_ids, without_first, changed_first, untouched}
-use Rattle.ei_request.specs.Connection.{ConnectionView, Unchanged}
+use Rattle.ei_request.specs.Connection.{ConnectionView, Unchanged, version_in}
 use Rattle.ei_request.specs.Converter.{ConverterView}
 use Rattle.ei_request.specs.Making.{AddsSeat, AddsDevice, new_seat, granted_at}
 use Rattle.ei_request.specs.Reading.{interface_in}
@@ -104,6 +105,22 @@ pub record TellsInput (input : InputEvent) (to : Option ObjectView) (old : Conne
   pub why : IfErr result (λ e. Tells (too_long input) (of_send e))
   pub err : OnErr result (new ≡ old)
 
+-- the client is asked to answer by a new ping of that id and version
+abbrev pub ping_event : ℕ → ℕ → ℕ → Raw
+ping_event connection ping v = event known.Connection (codes "ping") connection (Long ping ∷ Word v ∷ [])
+
+-- the endpoint that asked so, in which the ping has the next id
+abbrev pub asks_by_ping : BackendView → ℕ → ℕ → BackendView
+asks_by_ping b connection v = with_object (says b (ping_event connection b.table.next_own v)) (Known known.Pingpong) v
+
+-- the connection that did, with a ping of the version that both ends have
+abbrev pub pinged : ConnectionView → ConnectionView
+pinged c = record c { ctx = asks_by_ping c.ctx c.proxy.id (version_in c.negotiated known.Pingpong) }
+
+-- a ping is announced, and has that id
+abbrev pub PingsAs : ℕ → ConnectionView → ConnectionView → Type 0
+PingsAs id old new = (id ≡ old.ctx.table.next_own) × (new ≡ pinged old)
+
 -- the client is told that all is gone, and why
 abbrev pub Ends : ℕ → Option (List ℕ) → ConnectionView → ConnectionView → Type 0
 Ends reason text old new = Disconnects old reason text new
@@ -138,16 +155,19 @@ pub record ActsOn (does : ConnectionView → ConnectionView → Type 0) (old new
   pub going : old.ending ≡ None
   pub acts : ActsIn does old.phase new.phase
   pub kept : new.ending ≡ old.ending
+  pub notices : new.notices ≡ old.notices
 
 -- The client was told that the connection ends, which it does by that where it hadn't ended.
 pub record TellsEnd (does : ConnectionView → ConnectionView → Type 0) (old new : EisView) : Type 0 where
   pub acts : ActsIn does old.phase new.phase
   pub ending : new.ending ≡ Some (unwrap_or old.ending ending.Told)
+  pub notices : new.notices ≡ old.notices
 
 -- Nothing changed but how much memory is ready.
 pub record IsKept (old new : EisView) : Type 0 where
   pub phase : IsLeftIn old.phase new.phase
   pub ending : new.ending ≡ old.ending
+  pub notices : new.notices ≡ old.notices
 
 -- why a call on a connection is refused: the handshake isn't done, or else for that reason
 abbrev pub refusal_in : (ConnectionView → Option CallError) → Phase → Option CallError

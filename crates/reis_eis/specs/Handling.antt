@@ -1,14 +1,14 @@
 -- What becomes of the message at the front.
-use Rattle.std.specs.Prelude.{◌≡◌, ◌⊎◌, ℕ, Bool, true, false, [], Option, Some, None, Result, Ok, Err}
+use Rattle.std.specs.Prelude.{◌≡◌, ◌⊎◌, ℕ, ◌<◌, Bool, true, false, [], Option, Some, None, Result, Ok, Err}
 use Rattle.ei_types.specs.declared.error.Error.{Error}
 use Rattle.ei_types.specs.declared.error.Error.TheVariants as error
 use Rattle.ei_types.specs.declared.error.HandshakeError.TheVariants as handshake_error
-use Rattle.ei_backend.specs.Backend.{BackendView, next, Answers}
+use Rattle.ei_backend.specs.Backend.{BackendView, next, removed, Answers}
 use Rattle.ei_backend.specs.declared.message.PendingRequestResult.{PendingRequestResult}
 use Rattle.ei_backend.specs.declared.message.PendingRequestResult.TheVariants as pending
 use Rattle.ei_server.specs.declared.request.Request.{Request}
 use Rattle.ei_server.specs.Request.{target_of, opcode_of, values_of}
-use Rattle.ei_session.specs.Meaning.{Meaning, Disconnects}
+use Rattle.ei_session.specs.Meaning.{Meaning, Disconnects, Pongs, ReleasesSeat}
 use Rattle.ei_handshake.specs.Handshaker.{Handles}
 use Rattle.ei_handshake.specs.declared.server.EisHandshakeResp.{EisHandshakeResp}
 use Rattle.ei_request.specs.Connection.{new_connection}
@@ -18,6 +18,8 @@ use Rattle.ei_request.specs.Refusing.{refusal, Tells}
 use Rattle.ei_request.specs.Sending.{no_object_event, says}
 use Rattle.ei_request.specs.Typed.{meaning_of}
 use Rattle.reis_eis.specs.declared.ending.Ending.TheVariants as ending
+use Rattle.reis_eis.specs.declared.notice.Notice.{Notice}
+use Rattle.reis_eis.specs.declared.notice.Notice.TheVariants as notice
 use Rattle.reis_eis.specs.declared.step.Step.{Step}
 use Rattle.reis_eis.specs.declared.step.Step.TheVariants as step
 use Rattle.reis_eis.specs.declared.shaking.Shaking.{Shaking}
@@ -30,6 +32,17 @@ use Rattle.reis_eis.specs.Words.{shaking_with, with_ctx}
 -- the connection ends so
 abbrev pub refused : Error → Step
 refused e = step.Ended (ending.Refused e)
+
+-- a message was taken by it
+abbrev pub IsHandled : Step → Type 0
+IsHandled step.Handled = Unit {0}
+IsHandled (step.Noted told) = Unit {0}
+IsHandled s = ⊥
+
+-- there is room for the notice that it tells
+abbrev pub HasRoomFor : Step → ℕ → Type 0
+HasRoomFor (step.Noted told) room = 0 < room
+HasRoomFor s room = Unit {0}
 
 -- memory ran out, and nothing changed
 abbrev pub RunsOut : {V : Type 0} → Step → V → V → Type 0
@@ -51,10 +64,21 @@ abbrev pub ends : Meaning → Bool
 ends Disconnects = true
 ends other = false
 
--- The request is taken: nothing refuses it, and the converter does what it asks. A frame that it makes bears the time.
+-- what a request to the object of that id tells, if it tells something
+abbrev pub notice_of : ℕ → Meaning → Option Notice
+notice_of id (Pongs callback_data) = Some (notice.Pong id callback_data)
+notice_of id ReleasesSeat = Some (notice.SeatReleased id)
+notice_of id other = None
+
+-- what a request does: what the converter does with it; and a ping that is answered is gone by that
+abbrev pub done_by : ConverterView → ℕ → Meaning → ℕ → ConverterView
+done_by c id (Pongs callback_data) time = with_ctx c (removed c.handle.ctx id)
+done_by c id m time = handled c id m time
+
+-- The request is taken: nothing refuses it, and what it asks is done. A frame that this makes bears the time.
 pub record TakesAt (time : ℕ) (old : ConverterView) (r : Request) (new : ConverterView) : Type 0 where
   pub accepted : refusal old.handle (target_of r).id (target_of r).version (meaning_of r) ≡ None
-  pub does : new ≡ handled old (target_of r).id (meaning_of r) time
+  pub does : new ≡ done_by old (target_of r).id (meaning_of r) time
 
 -- The request is refused: the error says why, and nothing changes.
 pub record RefusesAsked (e : Error) (old : ConverterView) (r : Request) (new : ConverterView) : Type 0 where
@@ -63,7 +87,9 @@ pub record RefusesAsked (e : Error) (old : ConverterView) (r : Request) (new : C
 
 -- what becomes of a request of the client
 abbrev pub Obeys : ℕ → ConverterView → Request → Step → ConverterView → Type 0
-Obeys time old r step.Handled new = (ends (meaning_of r) ≡ false) × TakesAt time old r new
+Obeys time old r step.Handled new =
+    (ends (meaning_of r) ≡ false) × (notice_of (target_of r).id (meaning_of r) ≡ None) × TakesAt time old r new
+Obeys time old r (step.Noted told) new = (notice_of (target_of r).id (meaning_of r) ≡ Some told) × TakesAt time old r new
 Obeys time old r (step.Ended ending.Disconnected) new = (ends (meaning_of r) ≡ true) × TakesAt time old r new
 Obeys time old r (step.Ended (ending.Refused e)) new = RefusesAsked e old r new
 Obeys time old r s new = ⊥

@@ -136,6 +136,10 @@ adding_device seat name wanted setup c =
     first_reason (describing_at (find (is_seat seat) c.seats) wanted setup (length c.ctx.unsent_handles)) (announcing c name
     (length (granted_at c seat wanted)) setup)
 
+-- a ping for which no id is left
+abbrev pub pinging : ConnectionView → Option CallError
+pinging c = if nat_le (own_end c.ctx.table) c.ctx.table.next_own then Some call_error.IdsExhausted else None
+
 -- a connection whose client was told already that it ends, or a text that is too long
 abbrev pub disconnecting : ℕ → Option (List ℕ) → ConnectionView → Option CallError
 disconnecting reason text c =

@@ -1,5 +1,5 @@
 -- A connection as a whole: a new one, and one of which bytes were written.
-use Rattle.std.specs.Prelude.{ℕ, Option, Some, None}
+use Rattle.std.specs.Prelude.{ℕ, [], Option, Some, None}
 use Rattle.ei_spec.specs.Piece.{Piece}
 use Rattle.ei_backend.specs.Backend.{BackendView, with_unsent}
 use Rattle.reis_eis.specs.declared.phase.Phase.{Phase}
@@ -9,7 +9,7 @@ use Rattle.reis_eis.specs.Words.{context_in, with_context, greeted}
 
 -- a new connection, whose greeting waits to be written
 abbrev pub started : ℕ → EisView
-started serial = record { phase = phase.Shaking (greeted serial); ending = None }
+started serial = record { phase = phase.Shaking (greeted serial); ending = None; notices = [] }
 
 -- the phase in which this waits to be written
 abbrev pub waits_in : Phase → Piece → Option BackendView → Phase

@@ -7,17 +7,19 @@ ghost use Rattle.ei_types.specs.Enums.{disconnect_reason_number};
 ghost use Rattle.ei_backend.specs.Outgoing.{unsent_after};
 ghost use Rattle.ei_input.specs.Queue.{first_of, rest_of};
 ghost use Rattle.reis_eis.specs.Words.{unsent_in, handle_in, queue_in, with_queue};
-ghost use Rattle.reis_eis.specs.Refusals.{Tells, TellsOrWants, feed_answer, end_answer, sent_answer, adding_seat, on_seat, adding_device, on_device, on_interface, on_receiver, sending, disconnecting};
+ghost use Rattle.reis_eis.specs.Refusals.{Tells, TellsOrWants, feed_answer, end_answer, sent_answer, adding_seat, on_seat, adding_device, on_device, on_interface, on_receiver, sending, pinging, disconnecting};
 ghost use Rattle.reis_eis.specs.Feeding.{end_of};
-ghost use Rattle.reis_eis.specs.Acting.{AddsSeatAs, RemovesSeatAt, AddsDeviceAs, RemovesDeviceAt, Resumes, Pauses, StartsEmulating, StopsEmulating, Frames, TellsModifiers, SendsInput, Ends, refusal_in, has_in};
+ghost use Rattle.reis_eis.specs.Acting.{AddsSeatAs, RemovesSeatAt, AddsDeviceAs, RemovesDeviceAt, Resumes, Pauses, StartsEmulating, StopsEmulating, Frames, TellsModifiers, SendsInput, PingsAs, Ends, refusal_in, has_in};
 
 use crate::call_error::CallError;
 use crate::ending::Ending;
+use crate::notice::Notice;
 use crate::one_piece::OnePiece;
 use crate::phase::Phase;
 use crate::shaking::Shaking;
 use crate::written::Written;
 use ei_backend::HasBackend;
+use ei_input::Queue;
 use ei_input::input_event::InputEvent;
 use ei_request::{Connection as Handle, DeviceSetup, EisRequest};
 use ei_spec::Handle as Descriptor;
@@ -27,11 +29,12 @@ use ei_wire::NoMemory;
 use std::alloc::Global;
 use std::marker::Model;
 
-/// A server's connection with one client: what waits to be written, what the client asks, and the seats and devices that the
-/// program announced, each named by the id of its object.
+/// A server's connection with one client: what waits to be written, what the client asks and tells, and the seats and devices
+/// that the program announced, each named by the id of its object.
 ///
 /// It does nothing by itself: hand in what came with `feed`, write out what `unsent` and `unsent_handles` show and say so with
-/// `sent`, act on each `next_request`, and let go of the client when `ending` tells how it ended and all is written.
+/// `sent`, act on each `next_request` and each `next_notice`, and let go of the client when `ending` tells how it ended and all
+/// is written.
 ///
 /// A call that is refused changes nothing, but that more memory may be ready. `NoMemory` may come in place of any other
 /// refusal of a call that announces something.
@@ -40,6 +43,7 @@ pub struct Connection {
     alloc: Global,
     phase: Phase,
     ending: Option<Ending>,
+    notices: Queue<Notice>,
 }
 
 impl Model for Connection {
@@ -51,7 +55,7 @@ impl Model for Connection {
 
     ghost use Rattle.reis_eis.specs.Words.{IsWhole};
 
-    ghost view = { λ c. record { phase = c.phase; ending = c.ending } };
+    ghost view = { λ c. record { phase = c.phase; ending = c.ending; notices = c.notices.items } };
 
     ghost invariant = { λ c. IsWhole c.phase };
 }
@@ -73,6 +77,7 @@ impl Connection {
             alloc,
             phase: Phase::Shaking(shaking),
             ending: None,
+            notices: Queue::new(alloc),
         })
     }
 
@@ -118,7 +123,9 @@ impl Connection {
             self.ending = Some(Ending::Refused(Error::from(error)));
             return;
         }
-        self.ending = self.phase.handle_messages(self.alloc, time);
+        self.ending = self
+            .phase
+            .handle_messages(self.alloc, time, &mut self.notices);
     }
 
     /// Says that no more comes from the client: the connection ends, with `End` behind the handshake, and before that with
@@ -179,7 +186,7 @@ impl Connection {
         Ok(())
     }
 
-    /// The next request of the client, which waits no more.
+    /// The next request of the client, which waits no more. The notices of the client wait apart.
     pub fn next_request(&mut self) -> Option<EisRequest>
         ensures first { result ≡ first_of (queue_in self.old.phase) }
         ensures rest { self.new ≡ record self.old {
@@ -188,6 +195,17 @@ impl Connection {
         } }
     {
         self.phase.next_request()
+    }
+
+    /// The oldest notice of the client, which waits no more: that it released a seat, or answered a ping.
+    ///
+    /// A notice may be older or newer than a request that waits; each list is in order for itself. A program that wants the
+    /// answer to a ping behind all that the client sent before it takes requests until none waits, and then notices.
+    pub fn next_notice(&mut self) -> Option<Notice>
+        ensures first { result ≡ first_of self.old.notices }
+        ensures rest { self.new ≡ record self.old { notices = rest_of self.old.notices } }
+    {
+        self.notices.take_first()
     }
 
     /// The connection behind the handshake, which knows the client's name, its context type and the interfaces that both ends
@@ -251,9 +269,23 @@ macro_rules! on_standing {
     }};
 }
 
-// Seats. Each of these calls answers `Over` where the connection has ended, and else `NotConnected` before the handshake is done.
+// Pings and seats. Each of these calls answers `Over` where the connection has ended, and else `NotConnected` before the
+// handshake is done.
 impl Connection {
     ghost use Rattle.reis_eis.specs.Acting.{ActsOn, IsKept, refusal};
+
+    /// Asks the client to answer: `ping`, which announces a ping. It answers the ping's id. The client answers it once it did
+    /// all that was sent before, and the notice `Pong` tells so; each ping is answered at most once.
+    ///
+    /// `IdsExhausted` where no id is left; `NoMemory`.
+    pub fn ping(&mut self) -> Result<u64, CallError>
+        ensures pings { IfOk result (λ id. ActsOn (PingsAs id) self.old self.new) }
+        ensures accepted { OnOk result (refusal pinging self.old ≡ None) }
+        ensures why { IfErr result (Tells (refusal pinging self.old)) }
+        ensures err { OnErr result (IsKept self.old self.new) }
+    {
+        on_standing!(self, keyed => keyed.ping())
+    }
 
     /// Announces a seat: `seat`, `name` where there is one, `capability` for each of these capabilities whose interface both
     /// ends have, by rising bit, and `done`. It answers the seat's id.

@@ -53,6 +53,17 @@ fn axis(stops: bool) -> u32
     u32::from(stops)
 }
 
+/// Tells by a call of the proxy of the device's interface. The proxy is let go by a call: at the end of a scope the drop of
+/// each field is proved anew.
+macro_rules! told {
+    ($handle:ident, $device:ident, $kind:ident, $to:ident => $call:expr) => {{
+        let $to = interface::<$kind>($handle, $device);
+        let told = $call;
+        drop($to);
+        told
+    }};
+}
+
 /// Tells the client of an input, by the device's interface for it, which it has left.
 pub(crate) fn tell(handle: &mut Connection, device: &Device, input: &InputEvent) -> Sent
     requires { is_some (interface_in (told_by input.now).interface (find (is_of_key device.now) handle.old.devices))
@@ -62,75 +73,43 @@ pub(crate) fn tell(handle: &mut Connection, device: &Device, input: &InputEvent)
         handle.old result handle.new }
 {
     match input {
-        InputEvent::PointerMotion { dx, dy } => {
-            let to = interface::<Pointer>(handle, device);
-            to.motion_relative(handle.context_mut(), *dx, *dy)
-        }
+        InputEvent::PointerMotion { dx, dy } =>
+            told!(handle, device, Pointer, to => to.motion_relative(handle.context_mut(), *dx, *dy)),
         InputEvent::PointerMotionAbsolute {
             dx_absolute,
             dy_absolute,
-        } => {
-            let to = interface::<PointerAbsolute>(handle, device);
-            to.motion_absolute(handle.context_mut(), *dx_absolute, *dy_absolute)
-        }
-        InputEvent::Button { button, state } => {
-            let to = interface::<Button>(handle, device);
-            to.button(handle.context_mut(), *button, *state)
-        }
-        InputEvent::ScrollDelta { dx, dy } => {
-            let to = interface::<Scroll>(handle, device);
-            to.scroll(handle.context_mut(), *dx, *dy)
-        }
-        InputEvent::ScrollStop { x, y } => {
-            let to = interface::<Scroll>(handle, device);
-            to.scroll_stop(handle.context_mut(), axis(*x), axis(*y), 0)
-        }
-        InputEvent::ScrollCancel { x, y } => {
-            let to = interface::<Scroll>(handle, device);
-            to.scroll_stop(handle.context_mut(), axis(*x), axis(*y), 1)
-        }
+        } =>
+            told!(handle, device, PointerAbsolute, to => to.motion_absolute(handle.context_mut(), *dx_absolute, *dy_absolute)),
+        InputEvent::Button { button, state } =>
+            told!(handle, device, Button, to => to.button(handle.context_mut(), *button, *state)),
+        InputEvent::ScrollDelta { dx, dy } =>
+            told!(handle, device, Scroll, to => to.scroll(handle.context_mut(), *dx, *dy)),
+        InputEvent::ScrollStop { x, y } =>
+            told!(handle, device, Scroll, to => to.scroll_stop(handle.context_mut(), axis(*x), axis(*y), 0)),
+        InputEvent::ScrollCancel { x, y } =>
+            told!(handle, device, Scroll, to => to.scroll_stop(handle.context_mut(), axis(*x), axis(*y), 1)),
         InputEvent::ScrollDiscrete {
             discrete_dx,
             discrete_dy,
-        } => {
-            let to = interface::<Scroll>(handle, device);
-            to.scroll_discrete(handle.context_mut(), *discrete_dx, *discrete_dy)
-        }
-        InputEvent::KeyboardKey { key, state } => {
-            let to = interface::<Keyboard>(handle, device);
-            to.key(handle.context_mut(), *key, *state)
-        }
-        InputEvent::TouchDown { touch_id, x, y } => {
-            let to = interface::<Touchscreen>(handle, device);
-            to.down(handle.context_mut(), *touch_id, *x, *y)
-        }
-        InputEvent::TouchMotion { touch_id, x, y } => {
-            let to = interface::<Touchscreen>(handle, device);
-            to.motion(handle.context_mut(), *touch_id, *x, *y)
-        }
-        InputEvent::TouchUp { touch_id } => {
-            let to = interface::<Touchscreen>(handle, device);
-            to.up(handle.context_mut(), *touch_id)
-        }
-        InputEvent::TouchCancel { touch_id } => {
-            let to = interface::<Touchscreen>(handle, device);
-            to.cancel(handle.context_mut(), *touch_id)
-        }
-        InputEvent::TextKeysym { keysym, state } => {
-            let to = interface::<Text>(handle, device);
-            to.keysym(handle.context_mut(), *keysym, *state)
-        }
-        InputEvent::TextUtf8 { text } => {
-            let to = interface::<Text>(handle, device);
-            to.utf8(handle.context_mut(), text.as_str())
-        }
-        InputEvent::GestureSwipe { fingers, dx, dy } => {
-            let to = interface::<Gesture>(handle, device);
-            to.swipe(handle.context_mut(), *fingers, *dx, *dy)
-        }
-        InputEvent::GesturePinch { scale } => {
-            let to = interface::<Gesture>(handle, device);
-            to.pinch(handle.context_mut(), *scale)
-        }
+        } =>
+            told!(handle, device, Scroll, to => to.scroll_discrete(handle.context_mut(), *discrete_dx, *discrete_dy)),
+        InputEvent::KeyboardKey { key, state } =>
+            told!(handle, device, Keyboard, to => to.key(handle.context_mut(), *key, *state)),
+        InputEvent::TouchDown { touch_id, x, y } =>
+            told!(handle, device, Touchscreen, to => to.down(handle.context_mut(), *touch_id, *x, *y)),
+        InputEvent::TouchMotion { touch_id, x, y } =>
+            told!(handle, device, Touchscreen, to => to.motion(handle.context_mut(), *touch_id, *x, *y)),
+        InputEvent::TouchUp { touch_id } =>
+            told!(handle, device, Touchscreen, to => to.up(handle.context_mut(), *touch_id)),
+        InputEvent::TouchCancel { touch_id } =>
+            told!(handle, device, Touchscreen, to => to.cancel(handle.context_mut(), *touch_id)),
+        InputEvent::TextKeysym { keysym, state } =>
+            told!(handle, device, Text, to => to.keysym(handle.context_mut(), *keysym, *state)),
+        InputEvent::TextUtf8 { text } =>
+            told!(handle, device, Text, to => to.utf8(handle.context_mut(), text.as_str())),
+        InputEvent::GestureSwipe { fingers, dx, dy } =>
+            told!(handle, device, Gesture, to => to.swipe(handle.context_mut(), *fingers, *dx, *dy)),
+        InputEvent::GesturePinch { scale } =>
+            told!(handle, device, Gesture, to => to.pinch(handle.context_mut(), *scale)),
     }
 }

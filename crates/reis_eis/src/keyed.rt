@@ -8,23 +8,27 @@ ghost use Rattle.ei_types.specs.Enums.{disconnect_reason_number};
 ghost use Rattle.ei_input.specs.Queue.{first_of, rest_of};
 ghost use Rattle.ei_request.specs.Held.{is_seat, is_device};
 ghost use Rattle.ei_request.specs.Connection.{new_connection};
-ghost use Rattle.reis_eis.specs.declared.step.Step.TheVariants as step;
 ghost use Rattle.reis_eis.specs.Words.{with_ctx};
 ghost use Rattle.ei_request.specs.Making.{setup_handle, setup_handles};
 ghost use Rattle.ei_request.specs.Sending.{AllOrNothing, tells};
 ghost use Rattle.ei_request.specs.Typed.{meaning_of};
 ghost use Rattle.ei_spec.specs.declared.interface.KnownInterface.TheVariants as known;
-ghost use Rattle.reis_eis.specs.Handling.{Converses, Obeys, TellsNoObject, ends};
-ghost use Rattle.reis_eis.specs.Refusals.{Tells, TellsOrWants, adding_seat, on_seat, adding_device, on_device, on_interface, receives, on_receiver, sending, disconnecting, describing_at};
-ghost use Rattle.reis_eis.specs.Acting.{Acts, IsLeft, AddsSeatAs, RemovesSeatAt, AddsDeviceAs, RemovesDeviceAt, Resumes, Pauses, StartsEmulating, StopsEmulating, Frames, TellsModifiers, modifiers_event, SendsInput, Ends, device_has};
+ghost use Rattle.ei_server.specs.Request.{target_of};
+ghost use Rattle.ei_request.specs.Handling.{handled};
+ghost use Rattle.ei_request.specs.Refusing.{refusal};
+ghost use Rattle.reis_eis.specs.Handling.{Converses, Obeys, RefusesAsked, TellsNoObject, IsHandled, HasRoomFor, notice_of, ends};
+ghost use Rattle.reis_eis.specs.Refusals.{Tells, TellsOrWants, adding_seat, on_seat, adding_device, on_device, on_interface, receives, on_receiver, sending, pinging, disconnecting, describing_at};
+ghost use Rattle.reis_eis.specs.Acting.{Acts, IsLeft, AddsSeatAs, RemovesSeatAt, AddsDeviceAs, RemovesDeviceAt, Resumes, Pauses, StartsEmulating, StopsEmulating, Frames, TellsModifiers, modifiers_event, SendsInput, PingsAs, Ends, device_has};
 
 use crate::call_error::CallError;
 use crate::ending::Ending;
 use crate::moment::Moment;
+use crate::notice::{Notice, notice_of};
 use crate::step::Step;
-use crate::{inputs, keys};
+use crate::{inputs, keys, ping};
 use ei_backend::{HasBackend, PendingRequestResult, Sink, Source};
 use ei_handshake::EisHandshakeResp;
+use ei_input::Queue;
 use ei_input::input_event::InputEvent;
 use ei_request::{Connection, Device, DeviceSetup, EisRequest, EisRequestConverter, Seat};
 use ei_server::{Context, Keyboard, Request, connection};
@@ -108,15 +112,18 @@ impl KeyedConverter {
         self.converter.next_request()
     }
 
-    /// Handles the message at the front, if one is whole. Each frame that this makes bears the time.
-    pub(crate) fn step(&mut self, time: u64) -> Step
+    /// Handles the message at the front, if one is whole. Each frame that this makes bears the time. There is room for the
+    /// notice that it tells.
+    pub(crate) fn step(&mut self, time: u64, notices: &mut Queue<Notice>) -> Step
         ensures steps { Converses time self.old result self.new }
-        ensures shorter { result ≡ step.Handled →
+        ensures shorter { IsHandled result →
             length self.new.handle.ctx.unread < length self.old.handle.ctx.unread }
+        ensures waiting { notices.new.items ≡ notices.old.items }
+        ensures room { HasRoomFor result notices.new.room }
     {
         match self.converter.handle_mut().context_mut().pending_request() {
             Ok(None) => Step::Waiting,
-            Ok(Some(PendingRequestResult::Request(request))) => self.obey(time, request),
+            Ok(Some(PendingRequestResult::Request(request))) => self.obey(time, request, notices),
             Ok(Some(PendingRequestResult::ParseError(error))) => {
                 Step::Ended(Ending::Refused(Error::Parse(error)))
             }
@@ -125,18 +132,62 @@ impl KeyedConverter {
         }
     }
 
-    /// Does what a request of the client asks.
-    fn obey(&mut self, time: u64, request: Request) -> Step
+    /// Does what a request of the client asks. There is room for the notice that it tells.
+    fn obey(&mut self, time: u64, request: Request, notices: &mut Queue<Notice>) -> Step
         ensures obeys { Obeys time self.old request result self.new }
         ensures kept { self.new.handle.ctx.unread ≡ self.old.handle.ctx.unread }
+        ensures waiting { notices.new.items ≡ notices.old.items }
+        ensures room { HasRoomFor result notices.new.room }
     {
+        if let Some(notice) = notice_of(&request) {
+            return self.note(time, request, notice, notices);
+        }
         let ends = is_disconnect(&request);
-        let mut clock = Moment::at(time);
-        match self.converter.handle_request(&mut clock, request) {
+        match self.hear(time, request) {
             Ok(()) if ends => Step::Ended(Ending::Disconnected),
             Ok(()) => Step::Handled,
             Err(error) => Step::Ended(Ending::Refused(error)),
         }
+    }
+
+    /// The same of a request that tells this. The room for the notice is made first, so that nothing is half done.
+    #[inline(never)]
+    fn note(
+        &mut self,
+        time: u64,
+        request: Request,
+        notice: Notice,
+        notices: &mut Queue<Notice>,
+    ) -> Step
+        requires tells { notice_of (target_of request).id (meaning_of request) ≡ Some notice }
+        ensures obeys { Obeys time self.old request result self.new }
+        ensures kept { self.new.handle.ctx.unread ≡ self.old.handle.ctx.unread }
+        ensures waiting { notices.new.items ≡ notices.old.items }
+        ensures room { HasRoomFor result notices.new.room }
+    {
+        if notices.reserve(1).is_err() {
+            return Step::Ended(Ending::Refused(Error::NoMemory));
+        }
+        if let Err(error) = self.hear(time, request) {
+            return Step::Ended(Ending::Refused(error));
+        }
+        if let Notice::Pong { ping, .. } = notice {
+            ping::forget(self.converter.handle_mut(), ping);
+        }
+        Step::Noted(notice)
+    }
+
+    /// Has the converter do what a request asks. A frame that it makes bears the time.
+    #[inline(always)]
+    fn hear(&mut self, time: u64, request: Request) -> Result<(), Error>
+        ensures accepted { OnOk result (refusal self.old.handle (target_of request).id (target_of request).version
+            (meaning_of request) ≡ None) }
+        ensures does { OnOk result (self.new ≡ handled self.old (target_of request).id (meaning_of request) time) }
+        ensures err { IfErr result (λ e. RefusesAsked e self.old request self.new) }
+        ensures kept { self.new.handle.ctx.unread ≡ self.old.handle.ctx.unread }
+    {
+        let mut clock = Moment::at(time);
+        self.converter.handle_request(&mut clock, request)
     }
 
     /// Tells the client that no object has the id.
@@ -383,8 +434,18 @@ impl KeyedConverter {
     }
 }
 
-// The end.
+// The connection itself.
 impl KeyedConverter {
+    /// Announces a ping. It answers its id.
+    pub(crate) fn ping(&mut self) -> Result<u64, CallError>
+        ensures ok { IfOk result (λ id. Acts (PingsAs id) self.old self.new) }
+        ensures accepted { OnOk result (pinging self.old.handle ≡ None) }
+        ensures why { IfErr result (Tells (pinging self.old.handle)) }
+        ensures err { OnErr result (IsLeft self.old self.new) }
+    {
+        Ok(ping::announce(self.converter.handle_mut())?)
+    }
+
     /// Ends the connection: the client is told that all is gone, and why.
     pub(crate) fn disconnect(
         &mut self,

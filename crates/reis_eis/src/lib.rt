@@ -2,8 +2,8 @@
 //! devices as it likes.
 //!
 //! There is no input and no output here, no clock and no policy: pieces of bytes, handles and the time are handed in, what is
-//! to be written and what the client asks wait until they are taken, and seats and devices are named by their ids. Begin with
-//! `Connection`.
+//! to be written and what the client asks and tells wait until they are taken, and seats and devices are named by their ids.
+//! Begin with `Connection`.
 #![tactic(auto)]
 
 mod call_error;
@@ -13,8 +13,10 @@ mod inputs;
 mod keyed;
 mod keys;
 mod moment;
+mod notice;
 mod one_piece;
 mod phase;
+mod ping;
 mod shaking;
 mod step;
 mod written;
@@ -22,3 +24,4 @@ mod written;
 pub use call_error::CallError;
 pub use connection::Connection;
 pub use ending::Ending;
+pub use notice::Notice;

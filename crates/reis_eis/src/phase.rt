@@ -4,18 +4,19 @@ ghost use Rattle.std.specs.Prelude.{◌≡◌, ◌<◌, length};
 ghost use Rattle.std.specs.Option.{option_map};
 ghost use Rattle.ei_input.specs.Queue.{first_of, rest_of};
 ghost use Rattle.reis_eis.specs.declared.phase.Phase.TheVariants as phase;
-ghost use Rattle.reis_eis.specs.declared.step.Step.TheVariants as step;
 ghost use Rattle.reis_eis.specs.Words.{IsWhole, context_in, unread_of, queue_in, with_queue};
-ghost use Rattle.reis_eis.specs.Handling.{Steps, connected_in};
+ghost use Rattle.reis_eis.specs.Handling.{Steps, IsHandled, HasRoomFor, connected_in};
 ghost use Rattle.reis_eis.specs.Feeding.{HandlesAll};
 ghost use Rattle.reis_eis.specs.Passing.{ReadsPhase, FlushesPhase};
 
 use crate::ending::Ending;
 use crate::keyed::KeyedConverter;
+use crate::notice::Notice;
 use crate::shaking::{Shaken, Shaking};
 use crate::step::Step;
 use ei_backend::{Sink, Source};
 use ei_handshake::EisHandshakeResp;
+use ei_input::Queue;
 use ei_request::EisRequest;
 use ei_server::Context;
 use ei_wire::{FlushError, ReadError};
@@ -81,15 +82,17 @@ impl Phase {
         }
     }
 
-    /// Handles the message at the front, if one is whole.
-    fn step(&mut self, alloc: Global, time: u64) -> Step
+    /// Handles the message at the front, if one is whole. There is room for the notice that it tells.
+    fn step(&mut self, alloc: Global, time: u64, notices: &mut Queue<Notice>) -> Step
         ensures steps { Steps time self.old result self.new }
-        ensures shorter { result ≡ step.Handled →
+        ensures waiting { notices.new.items ≡ notices.old.items }
+        ensures room { HasRoomFor result notices.new.room }
+        ensures shorter { IsHandled result →
             length (unread_of (context_in self.new)) < length (unread_of (context_in self.old)) }
         ensures whole { IsWhole self.old → IsWhole self.new }
     {
         match self {
-            Phase::Standing(keyed) => keyed.step(time),
+            Phase::Standing(keyed) => keyed.step(time, notices),
             Phase::Shaking(shaking) => match shaking.step() {
                 Shaken::Still(step) => step,
                 Shaken::Done(resp) => {
@@ -105,25 +108,35 @@ impl Phase {
     fn connect(&mut self, alloc: Global, resp: EisHandshakeResp)
         ensures { self.new ≡ connected_in resp self.old }
     {
-        if let Phase::Shaking(shaking) = mem::replace(self, Phase::Between) {
-            let Shaking {
-                context,
-                handshaker: _,
-                initial_serial,
-            } = shaking;
-            *self = Phase::Standing(KeyedConverter::new(alloc, context, resp, initial_serial));
+        match mem::replace(self, Phase::Between) {
+            Phase::Shaking(shaking) => {
+                let (context, serial) = shaking.into_parts();
+                let standing = KeyedConverter::new(alloc, context, resp, serial);
+                // by a call: at the end of a scope the drop of each field is proved anew
+                drop(mem::replace(self, Phase::Standing(standing)));
+            }
+            other => {
+                drop(other);
+                drop(resp);
+            }
         }
     }
 
-    /// Handles every whole message, up to one that ends the connection.
-    pub(crate) fn handle_messages(&mut self, alloc: Global, time: u64) -> Option<Ending>
-        ensures handles { HandlesAll time self.old self.new result }
+    /// Handles every whole message, up to one that ends the connection. What they tell waits behind what waited.
+    pub(crate) fn handle_messages(
+        &mut self,
+        alloc: Global,
+        time: u64,
+        notices: &mut Queue<Notice>,
+    ) -> Option<Ending>
+        ensures handles { HandlesAll time self.old notices.old.items self.new notices.new.items result }
         ensures whole { IsWhole self.old → IsWhole self.new }
     {
         'messages: loop {
-            match self.step(alloc, time) {
+            match self.step(alloc, time, notices) {
                 Step::Waiting => return None,
                 Step::Handled => {}
+                Step::Noted(notice) => notices.push_reserved(notice),
                 Step::Ended(ending) => return Some(ending),
             }
         }

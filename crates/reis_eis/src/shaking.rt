@@ -46,6 +46,19 @@ impl Shaking {
         })
     }
 
+    /// The endpoint, and the serial that the connection will bear.
+    pub(crate) fn into_parts(self) -> (Context, u32)
+        ensures { result ≡ (self.context, self.initial_serial) }
+    {
+        let Shaking {
+            context,
+            handshaker,
+            initial_serial,
+        } = self;
+        drop(handshaker);
+        (context, initial_serial)
+    }
+
     /// Handles the message at the front, if one is whole.
     pub(crate) fn step(&mut self) -> Shaken
         ensures shakes { Shakes self.old result self.new }

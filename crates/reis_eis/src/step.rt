@@ -1,6 +1,7 @@
 //! What becomes of a message.
 
 use crate::ending::Ending;
+use crate::notice::Notice;
 
 /// What became of the message at the front.
 #[derive(Drop)]
@@ -9,6 +10,8 @@ pub(crate) enum Step {
     Waiting,
     /// It was handled.
     Handled,
+    /// It was handled, and tells this.
+    Noted(Notice),
     /// It ended the connection.
     Ended(Ending),
 }

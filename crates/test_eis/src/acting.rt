@@ -13,7 +13,7 @@ use test_table::{Stop, first, id, number};
 /// - `has ID CAPABILITY`: whether the device has it left;
 /// - `start-emulating ID SEQUENCE`, `stop-emulating ID` and `frame ID TIME`;
 /// - `modifiers ID DEPRESSED LOCKED LATCHED GROUP`, and `send ID INPUT VALUE ..`;
-/// - `disconnect REASON TEXT`.
+/// - `ping`, and `disconnect REASON TEXT`.
 pub(crate) fn act(
     alloc: Global,
     connection: &mut Connection,
@@ -33,6 +33,7 @@ pub(crate) fn act(
         "frame" => frame(alloc, connection, rest),
         "modifiers" => modifiers(alloc, connection, rest),
         "send" => send(alloc, connection, rest),
+        "ping" => made(alloc, connection.ping()),
         "disconnect" => disconnect(alloc, connection, rest),
         _ => Err(Stop::Line),
     }

@@ -2,7 +2,7 @@
 
 use crate::acting::act;
 use crate::feeding::{done, feed, feed_cut, sent, start};
-use crate::told::{requests, told};
+use crate::told::{notices, requests, told};
 use reis_eis::Connection;
 use std::alloc::Global;
 use test_table::{Answers, Stop, first};
@@ -31,7 +31,7 @@ impl Answers for Calls {
 /// - `cut SIZE TIME HANDLES PART ..`: whether they are taken in pieces of so many bytes, each with so many handles;
 /// - `end`: whether the end of the input is taken;
 /// - `sent BYTES`: whether so many bytes wait no more, and with the first of them the handles;
-/// - `next` and `requests`: the next request, and all that wait;
+/// - `next` and `requests`: the next request, and all that wait; `notice` and `notices`: the same of notices;
 /// - `unsent`, `unsent-handles`, `ending` and `client`: what waits to be written, how the connection ended, and the client's
 ///   context type with its name;
 /// - the calls of `acting`.
@@ -48,6 +48,8 @@ fn answer(
         "sent" => sent(alloc, connection, rest),
         "next" => requests(alloc, connection, 1),
         "requests" => requests(alloc, connection, 100),
+        "notice" => notices(alloc, connection, 1),
+        "notices" => notices(alloc, connection, 100),
         "unsent" | "unsent-handles" | "ending" | "client" => told(alloc, connection, name),
         _ => act(alloc, connection, name, rest),
     }

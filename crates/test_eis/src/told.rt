@@ -25,11 +25,33 @@ fn push_next(alloc: Global, connection: &mut Connection, text: &mut String) -> R
     let Some(request) = connection.next_request() else {
         return Ok(false);
     };
+    push(text, format!(in alloc; "{request:?}")?.as_str())?;
+    Ok(true)
+}
+
+/// The next notices, as the requests.
+pub(crate) fn notices(
+    alloc: Global,
+    connection: &mut Connection,
+    most: usize,
+) -> Result<String, Stop> {
+    let mut text = String::new(alloc);
+    for _ in 0..most {
+        let Some(notice) = connection.next_notice() else {
+            break;
+        };
+        push(&mut text, format!(in alloc; "{notice:?}")?.as_str())?;
+    }
+    or_nothing(text)
+}
+
+/// Adds one to those before it.
+fn push(text: &mut String, one: &str) -> Result<(), Stop> {
     if !text.is_empty() {
         text.push_str(" / ")?;
     }
-    text.push_str(format!(in alloc; "{request:?}")?.as_str())?;
-    Ok(true)
+    text.push_str(one)?;
+    Ok(())
 }
 
 /// What a connection tells by a call that changes nothing.

@@ -160,6 +160,9 @@ extern "C" {
     /// As `reis_session_free`.
     pub fn reis_connection_free(connection: *mut reis_connection) -> reis_answer;
 
+    /// Asks the client to answer, and tells the ping's id, which `REIS_KIND_PONG` bears.
+    pub fn reis_connection_ping(connection: *mut reis_connection, ping: *mut u64) -> reis_answer;
+
     /// Announces a seat, and tells its id.
     pub fn reis_connection_add_seat(
         connection: *mut reis_connection,

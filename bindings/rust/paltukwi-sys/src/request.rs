@@ -54,6 +54,12 @@ pub const REIS_KIND_TEXT_UTF8: reis_kind = reis_kind(22);
 pub const REIS_KIND_GESTURE_SWIPE: reis_kind = reis_kind(23);
 /// Fingers moved apart or together (`gesture_pinch`).
 pub const REIS_KIND_GESTURE_PINCH: reis_kind = reis_kind(24);
+/// The handshake is done: see `reis_connection_client`.
+pub const REIS_KIND_CONNECTED: reis_kind = reis_kind(25);
+/// The client wants the seat no more: see `reis_connection_remove_seat`.
+pub const REIS_KIND_SEAT_RELEASED: reis_kind = reis_kind(26);
+/// The client answered a ping (`pong`).
+pub const REIS_KIND_PONG: reis_kind = reis_kind(27);
 
 /// A field: it stands where a number of eight bytes would.
 #[repr(C, align(8))]
@@ -192,6 +198,15 @@ pub struct reis_pinch {
     pub scale: Field<f32>,
 }
 
+/// The id that `reis_connection_ping` told, and a number of the client's choice.
+#[repr(C)]
+#[derive(Clone, Copy, Debug)]
+#[allow(missing_docs)]
+pub struct reis_pong {
+    pub ping: Field<u64>,
+    pub callback_data: Field<u64>,
+}
+
 /// The fields of a request, in the order of the view of its kind; those that the kind hasn't are 0.
 #[repr(C)]
 #[derive(Clone, Copy)]
@@ -219,6 +234,7 @@ pub union reis_fields {
     pub text_utf8: reis_text,
     pub gesture_swipe: reis_swipe,
     pub gesture_pinch: reis_pinch,
+    pub pong: reis_pong,
 }
 
 /// What a client asks for.

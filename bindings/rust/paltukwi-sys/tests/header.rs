@@ -93,7 +93,7 @@ fn each_call_is_that_of_the_header() {
     let mut wanted = calls(&header, "\nreis_answer ");
     wanted.extend(calls(&header, "\nuint32_t "));
     wanted.extend(calls(&header, "\nconst char *"));
-    assert_eq!(wanted.len(), 38, "{wanted:?}");
+    assert_eq!(wanted.len(), 39, "{wanted:?}");
     assert_eq!(calls(&sources, "pub fn "), wanted);
 }
 
@@ -129,7 +129,7 @@ fn each_view_is_that_of_the_header() {
         assert_eq!(fields(&sources, &format!("pub struct {name} "), of_source), wanted, "{name}");
         views += 1;
     }
-    assert_eq!(views, 15);
+    assert_eq!(views, 16);
 
     let of_union = |line: &str| {
         let line = line.strip_prefix("struct ")?.strip_suffix(';')?;
@@ -141,7 +141,7 @@ fn each_view_is_that_of_the_header() {
         Some(format!("reis_{declared} {name}"))
     };
     let wanted = fields(&header, "uint64_t time;\n    union", of_union);
-    assert_eq!(wanted.len(), 21, "{wanted:?}");
+    assert_eq!(wanted.len(), 22, "{wanted:?}");
     assert_eq!(fields(&sources, "pub union reis_fields ", of_source), wanted);
 }
 
@@ -290,7 +290,7 @@ fn no_seat_and_no_device_of_no_connection() {
     use paltukwi_sys::*;
     use std::ptr::null;
     let mut it = reis_connection::none();
-    let (mut seat, mut device, mut has) = (7, 7, 7);
+    let (mut ping, mut seat, mut device, mut has) = (7, 7, 7, 7);
     let described = reis_device {
         size: size_of::<reis_device>(),
         name: null(),
@@ -311,6 +311,7 @@ fn no_seat_and_no_device_of_no_connection() {
     // SAFETY: each pointer is one of its type or null, and each count beside a null is 0.
     let (answers, of_another_size) = unsafe {
         let answers = [
+            reis_connection_ping(&mut it, &mut ping),
             reis_connection_add_seat(&mut it, null(), 0, 1, &mut seat),
             reis_connection_remove_seat(&mut it, 1),
             reis_connection_add_device(&mut it, 1, &described, &mut device),
@@ -326,7 +327,7 @@ fn no_seat_and_no_device_of_no_connection() {
         ];
         (answers, reis_connection_add_device(&mut it, 1, &other, &mut device))
     };
-    assert_eq!(answers, [REIS_NO_SESSION; 12]);
-    assert_eq!((seat, device, has), (0, 0, 0));
+    assert_eq!(answers, [REIS_NO_SESSION; 13]);
+    assert_eq!((ping, seat, device, has), (0, 0, 0, 0));
     assert_eq!(of_another_size, REIS_SIZE);
 }

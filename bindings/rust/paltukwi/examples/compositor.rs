@@ -55,7 +55,6 @@ fn given() -> [Capabilities; DEVICES] {
 struct Client {
     number: usize,
     peer: Peer,
-    seat: Option<SeatId>,
     devices: [Option<DeviceId>; DEVICES],
 }
 
@@ -68,21 +67,21 @@ struct Desk {
 impl Client {
     /// Gives a seat to a client that is known by now.
     fn greet(&mut self) -> Result<(), TellError> {
-        if let (None, None, Some(client)) = (self.seat, self.peer.end(), self.peer.client()) {
+        if let Some(client) = self.peer.client() {
             println!("client {}: {:?}", self.number, client.context_type);
-            let all = given().into_iter().fold(Capabilities::NONE, |all, some| all | some);
-            self.seat = Some(self.peer.add_seat(Some("default"), all)?);
         }
-        Ok(())
+        let all = given().into_iter().fold(Capabilities::NONE, |all, some| all | some);
+        self.peer.add_seat(Some("default"), all).map(drop)
     }
 
     /// Acts on what the client asks for.
     fn act(&mut self, desk: &Desk) {
-        let greeted = self.greet();
-        self.note(greeted);
         while let Some(request) = self.peer.next_request() {
-            println!("client {}: {request}", self.number);
+            if request != Request::Connected {
+                println!("client {}: {request}", self.number);
+            }
             let acted = match request {
+                Request::Connected => self.greet(),
                 Request::Bind { seat, capabilities } => self.bind(desk, seat, capabilities),
                 Request::DeviceClosed { device, .. } => self.forget(device),
                 _ => Ok(()), // input: a compositor acts on it here
@@ -251,7 +250,7 @@ impl Compositor {
         if let Some(stream) = self.listener.accept()? {
             self.accepted += 1;
             let (number, peer) = (self.accepted, Peer::open(stream, 1)?);
-            self.clients.push(Client { number, peer, seat: None, devices: [None; DEVICES] });
+            self.clients.push(Client { number, peer, devices: [None; DEVICES] });
         }
         Ok(())
     }

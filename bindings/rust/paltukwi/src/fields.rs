@@ -73,6 +73,16 @@ impl Field for u32 {
     }
 }
 
+impl Field for u64 {
+    fn field(field: u64, _: &mut String) -> u64 {
+        field
+    }
+
+    fn number(&self) -> u64 {
+        *self
+    }
+}
+
 impl Field for i32 {
     fn field(field: u64, text: &mut String) -> i32 {
         i32::from_ne_bytes(u32::field(field, text).to_ne_bytes())

@@ -71,7 +71,7 @@ mod peer;
 pub use peer::Peer;
 
 mod request;
-pub use request::{DeviceId, Input, Request, SeatId};
+pub use request::{DeviceId, Input, PingId, Request, SeatId};
 
 mod session;
 pub use session::{check_version, Session, Setup, Unsent, MOST_BYTES, MOST_HANDLES};

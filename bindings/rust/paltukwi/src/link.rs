@@ -5,8 +5,8 @@ use crate::device::Regions;
 use crate::errors::{FeedError, NotUnsent, StartError, TellError};
 use crate::session::check_version;
 use crate::{
-    Capabilities, Client, DeviceId, DeviceSetup, End, Input, Modifiers, Reason, Request, SeatId,
-    Unsent,
+    Capabilities, Client, DeviceId, DeviceSetup, End, Input, Modifiers, PingId, Reason, Request,
+    SeatId, Unsent,
 };
 use paltukwi_sys as sys;
 use std::os::fd::OwnedFd;
@@ -20,8 +20,8 @@ use std::ptr::null;
 ///
 /// It does nothing by itself. Hand in what came ([`feed`](Link::feed)), act on what the client asks for
 /// ([`next_request`](Link::next_request)), write what waits ([`unsent`](Link::unsent), [`sent`](Link::sent)), and let go of it
-/// when it is over and all is written ([`end`](Link::end)). Once [`client`](Link::client) tells who the client is, seats can be
-/// added, and devices where the client binds.
+/// when it is over and all is written ([`end`](Link::end)). Behind [`Connected`](Request::Connected) [`client`](Link::client)
+/// tells who the client is, and seats can be added, and devices where the client binds.
 ///
 /// A [`SeatId`] and a [`DeviceId`] borrow nothing: a call with one that is gone answers [`Gone`](TellError::Gone). Where the
 /// client disconnects all are gone. A call that tells the client something only makes bytes that wait; one that is refused
@@ -134,8 +134,10 @@ impl Link {
         Ok(())
     }
 
-    /// The next request of the client, which waits no more, in the order in which they were made. It works after the end too;
-    /// behind the client's own disconnect there is none.
+    /// The next request of the client, which waits no more, in the order in which they were made, but that
+    /// [`Connected`](Request::Connected) comes first, once the handshake is done, and [`SeatReleased`](Request::SeatReleased) and
+    /// [`Pong`](Request::Pong) only while no other waits. It works after the end too; behind the client's own disconnect only
+    /// those that are older come.
     pub fn next_request(&mut self) -> Option<Request> {
         let mut written = sys::reis_request::none();
         // SAFETY: the word is a link's, and the request is borrowed alone.
@@ -186,9 +188,21 @@ impl Link {
     }
 }
 
-/// Seats and devices. Each of these calls answers `Over`, where the link is over, and `NotConnected`, where the handshake isn't
+/// Pings, seats and devices. Each of these calls answers `Over`, where the link is over, and `NotConnected`, where the handshake isn't
 /// done; any may answer `NoMemory`.
 impl Link {
+    /// Asks the client to answer, which [`Pong`](Request::Pong) tells, with the ping's id.
+    ///
+    /// # Errors
+    ///
+    /// `IdsExhausted`.
+    pub fn ping(&mut self) -> Result<PingId, TellError> {
+        let mut ping = 0;
+        // SAFETY: the word is a link's, and the id is borrowed alone.
+        told(unsafe { sys::reis_connection_ping(&mut self.raw, &mut ping) })?;
+        Ok(PingId(ping))
+    }
+
     /// Announces a seat of that name, if it has one, which gives these capabilities. An empty name is none.
     ///
     /// # Errors

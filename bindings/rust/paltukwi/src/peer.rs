@@ -3,8 +3,8 @@
 use crate::socket::{Socket, PIECE};
 use crate::wait::Interest;
 use crate::{
-    Capabilities, Client, DeviceId, DeviceSetup, End, Input, Link, Modifiers, Reason, Request,
-    SeatId, StartError, TellError,
+    Capabilities, Client, DeviceId, DeviceSetup, End, Input, Link, Modifiers, PingId, Reason,
+    Request, SeatId, StartError, TellError,
 };
 use std::io;
 use std::os::fd::{AsFd, BorrowedFd};
@@ -31,14 +31,14 @@ use std::os::unix::net::UnixStream;
 /// use std::os::fd::AsFd;
 ///
 /// # fn serve(stream: std::os::unix::net::UnixStream) -> Result<(), Box<dyn std::error::Error>> {
-/// let (mut client, mut seat) = (Peer::open(stream, 1)?, None);
+/// let mut client = Peer::open(stream, 1)?;
 /// while !client.is_done() {
 ///     wait(&[(client.as_fd(), client.interest())], None)?;
 ///     client.turn(now())?;
-///     if seat.is_none() && client.client().is_some() {
-///         seat = Some(client.add_seat(Some("default"), Capabilities::KEYBOARD)?);
-///     }
 ///     while let Some(request) = client.next_request() {
+///         if request == Request::Connected {
+///             client.add_seat(Some("default"), Capabilities::KEYBOARD)?;
+///         }
 ///         if let Request::Bind { seat, capabilities } = request {
 ///             let device = client.add_device(seat, &DeviceSetup { capabilities, ..DeviceSetup::default() })?;
 ///             client.resume(device)?;
@@ -178,6 +178,7 @@ macro_rules! calls_of_link {
 }
 
 calls_of_link! {
+    ping() -> PingId;
     add_seat(name: Option<&str>, capabilities: Capabilities) -> SeatId;
     remove_seat(seat: SeatId) -> ();
     add_device(seat: SeatId, setup: &DeviceSetup<'_>) -> DeviceId;

@@ -13,6 +13,10 @@ pub struct SeatId(pub u64);
 #[derive(Clone, Copy, Debug, PartialEq, Eq, PartialOrd, Ord, Hash)]
 pub struct DeviceId(pub u64);
 
+/// The id of a ping: no connection gives it twice, and it is nothing to another one.
+#[derive(Clone, Copy, Debug, PartialEq, Eq, PartialOrd, Ord, Hash)]
+pub struct PingId(pub u64);
+
 /// In hexadecimal digits.
 impl fmt::Display for SeatId {
     fn fmt(&self, f: &mut fmt::Formatter<'_>) -> fmt::Result {
@@ -22,6 +26,13 @@ impl fmt::Display for SeatId {
 
 /// In hexadecimal digits.
 impl fmt::Display for DeviceId {
+    fn fmt(&self, f: &mut fmt::Formatter<'_>) -> fmt::Result {
+        write!(f, "{:x}", self.0)
+    }
+}
+
+/// In hexadecimal digits.
+impl fmt::Display for PingId {
     fn fmt(&self, f: &mut fmt::Formatter<'_>) -> fmt::Result {
         write!(f, "{:x}", self.0)
     }
@@ -104,6 +115,11 @@ macro_rules! request_enum {
         pub enum Request {
             /// The client ends the connection.
             Disconnect,
+            /// Of a [`Link`](crate::Link): the handshake is done, and the client is known. It comes once, before all others.
+            Connected,
+            /// Of a [`Link`](crate::Link): the client answered a ping, with a number of its own choice. It comes behind all that
+            /// the client asked before it.
+            Pong { ping: PingId, callback_data: u64 },
             $($(#[doc = $doc])+
             $name { $($part: part!($part),)+ $($field: $of),* },)+
             /// A kind that these bindings don't know: pass it over.
@@ -116,6 +132,10 @@ macro_rules! request_enum {
                 let mut fields = Fields::of(raw, text);
                 match raw.kind {
                     sys::REIS_KIND_DISCONNECT => Request::Disconnect,
+                    sys::REIS_KIND_CONNECTED => Request::Connected,
+                    sys::REIS_KIND_PONG => {
+                        Request::Pong { ping: PingId(fields.next()), callback_data: fields.next() }
+                    }
                     $(sys::$kind => Request::$name {
                         $($part: Part::part(raw.$part),)+
                         $($field: fields.next()),*
@@ -124,11 +144,14 @@ macro_rules! request_enum {
                 }
             }
 
-            /// Whose it is: the seat of the client; `None` for `Disconnect` and `Unknown`.
+            /// Whose it is: the seat of the client; `None` where the kind has none.
             #[must_use]
             pub fn seat(&self) -> Option<SeatId> {
                 match self {
-                    Request::Disconnect | Request::Unknown { .. } => None,
+                    Request::Disconnect
+                    | Request::Connected
+                    | Request::Pong { .. }
+                    | Request::Unknown { .. } => None,
                     $(Request::$name { seat, .. } => Some(*seat),)+
                 }
             }
@@ -138,7 +161,10 @@ macro_rules! request_enum {
             #[allow(unused_variables)] // a row's other parts
             pub fn device(&self) -> Option<DeviceId> {
                 match self {
-                    Request::Disconnect | Request::Unknown { .. } => None,
+                    Request::Disconnect
+                    | Request::Connected
+                    | Request::Pong { .. }
+                    | Request::Unknown { .. } => None,
                     $(Request::$name { $($part,)+ .. } => device_of!($($part)+),)+
                 }
             }
@@ -148,7 +174,10 @@ macro_rules! request_enum {
             #[allow(unused_variables)] // a row's other parts
             pub fn time(&self) -> Option<u64> {
                 match self {
-                    Request::Disconnect | Request::Unknown { .. } => None,
+                    Request::Disconnect
+                    | Request::Connected
+                    | Request::Pong { .. }
+                    | Request::Unknown { .. } => None,
                     $(Request::$name { $($part,)+ .. } => time_of!($($part)+),)+
                 }
             }
@@ -158,6 +187,8 @@ macro_rules! request_enum {
             pub fn name(&self) -> &'static str {
                 match self {
                     Request::Disconnect => "disconnect",
+                    Request::Connected => "connected",
+                    Request::Pong { .. } => "pong",
                     $(Request::$name { .. } => $line,)+
                     Request::Unknown { .. } => "unknown",
                 }
@@ -165,7 +196,10 @@ macro_rules! request_enum {
 
             fn write_fields(&self, f: &mut fmt::Formatter<'_>) -> fmt::Result {
                 match self {
-                    Request::Disconnect => Ok(()),
+                    Request::Disconnect | Request::Connected => Ok(()),
+                    Request::Pong { ping, callback_data } => {
+                        write!(f, " ping={ping} callback_data={callback_data}")
+                    }
                     $(Request::$name { $($field,)* .. } => {
                         $(show!(f, $field, $field)?;)*
                         Ok(())
@@ -255,6 +289,9 @@ requests! {
         StartEmulating = REIS_KIND_START_EMULATING "start_emulating" (seat device) { serial: u32, sequence: u32 }
         /// It sends no more.
         StopEmulating = REIS_KIND_STOP_EMULATING "stop_emulating" (seat device) { serial: u32 }
+        /// Of a [`Link`](crate::Link): it wants the seat no more, which stays until the program takes it away. It comes behind
+        /// all that the client asked before it.
+        SeatReleased = REIS_KIND_SEAT_RELEASED "seat_released" (seat) {}
     }
     {
         /// The pointer moved by a distance.

@@ -4,7 +4,7 @@ mod common;
 
 use common::wire::{handshake, message, Arg, CONNECTION, FIRST_SEAT, RECEIVER, SENDER};
 use common::{all_worked, pair, read_now, turns, Worked};
-use paltukwi::{Capabilities, DeviceSetup, End, Input, KeymapFile, Peer, Reason, Region};
+use paltukwi::{Capabilities, DeviceSetup, End, Input, KeymapFile, Peer, Reason, Region, Request};
 use std::fs;
 use std::io::Write;
 use std::net::Shutdown;
@@ -66,6 +66,7 @@ fn serve(round: usize, file: &KeymapFile) {
     let mut peer = Peer::open(server, 1).unwrap();
     client.write_all(&handshake(if round % 2 == 0 { SENDER } else { RECEIVER }, "probe")).unwrap();
     peer.turn(0).unwrap();
+    assert_eq!(peer.next_request(), Some(Request::Connected));
     tell(&mut peer, file);
     if round % 3 == 2 {
         return;

@@ -8,7 +8,7 @@ use common::wire::{
 use common::{all_worked, bytes_of, Worked};
 use paltukwi::{
     Capabilities, Client, ContextType, DeviceId, DeviceSetup, DeviceType, End, ErrorKind,
-    FeedError, Input, Keymap, Link, Modifiers, NotUnsent, Reason, Region, Request, SeatId,
+    FeedError, Input, Keymap, Link, Modifiers, NotUnsent, PingId, Reason, Region, Request, SeatId,
     TellError, MOST_BYTES, MOST_HANDLES,
 };
 use std::collections::BTreeSet;
@@ -51,6 +51,8 @@ fn shaken(context_type: u32) -> Link {
     let mut link = Link::start(SERIAL).unwrap();
     link.feed(&handshake(context_type, "probe"), &[], 0).unwrap();
     assert_eq!(take(&mut link, 1000), welcome(SERIAL));
+    assert_eq!(link.next_request(), Some(Request::Connected));
+    assert_eq!(link.next_request(), None);
     link
 }
 
@@ -161,6 +163,14 @@ fn destroyed(ids: impl IntoIterator<Item = u64>) -> Vec<u8> {
 
 fn calls_on_seats() -> Vec<Call> {
     vec![
+        Call {
+            name: "ping",
+            call: |link| {
+                assert_eq!(link.ping()?, PingId(ID + 9));
+                Ok(())
+            },
+            told: message(CONNECTION, 3, &[Long(ID + 9), Word(1)]),
+        },
         Call {
             name: "add_seat",
             call: |link| {
@@ -489,6 +499,45 @@ fn a_made_frame_has_the_time_of_its_piece() {
     assert_eq!(link.next_request(), Some(Request::Ready { seat, device }));
 }
 
+/// Two pings are answered, in the other order, and the seat is released: each is told once, behind the requests.
+#[test]
+fn pings_are_answered_and_a_seat_is_released() {
+    let (first, second) = (PingId(ID + 9), PingId(ID + 10));
+    for cut in [1, 7, 4096] {
+        let mut link = sender();
+        assert_eq!((link.ping(), link.ping()), (Ok(first), Ok(second)));
+        assert_eq!(take(&mut link, 4096).len(), 2 * 28);
+        let mut bytes = message(second.0, 0, &[Long(5)]);
+        bytes.extend(message(FIRST_SEAT, 0, &[]));
+        bytes.extend(message(first.0, 0, &[Long(u64::MAX)]));
+        bytes.extend(message(ID, 4, &[]));
+        for piece in bytes.chunks(cut) {
+            link.feed(piece, &[], 3).unwrap();
+        }
+        assert_eq!(take(&mut link, 4096), message(FIRST_SEAT, 0, &[Word(NEXT)]));
+        let mut next = || link.next_request();
+        assert_eq!(next(), Some(Request::Ready { seat: SEAT, device: DEVICE }));
+        let pong = Request::Pong { ping: second, callback_data: 5 };
+        assert_eq!(pong.to_string(), format!("pong ping={second} callback_data=5"));
+        assert_eq!(
+            (pong.seat(), pong.device(), pong.time(), pong.input()),
+            (None, None, None, None)
+        );
+        assert_eq!(next(), Some(pong));
+        let released = next().unwrap();
+        assert_eq!(released, Request::SeatReleased { seat: SEAT });
+        assert_eq!(released.to_string(), format!("seat_released seat={SEAT}"));
+        assert_eq!(next(), Some(Request::Pong { ping: first, callback_data: u64::MAX }));
+        assert_eq!(next(), None);
+        for (id, opcode, arguments) in [(first.0, 0, vec![Long(0)]), (FIRST_SEAT, 0, vec![])] {
+            link.feed(&message(id, opcode, &arguments), &[], 0).unwrap();
+            assert_eq!(take(&mut link, 4096), message(CONNECTION, 2, &[Word(NEXT), Long(id)]));
+            assert_eq!(link.next_request(), None);
+        }
+        assert_eq!(link.end(), None);
+    }
+}
+
 // ---- refusals
 
 /// The call is refused so, and nothing changes.
@@ -534,7 +583,8 @@ fn what_is_gone_is_answered() {
         take(&mut link, 4096);
         link
     };
-    for Call { name, call, .. } in all_calls().into_iter().filter(|call| call.name != "add_seat") {
+    let on_ids = |call: &Call| !["ping", "add_seat"].contains(&call.name);
+    for Call { name, call, .. } in all_calls().into_iter().filter(on_ids) {
         is_refused(removed(), name, call, TellError::Gone);
         is_refused(shaken(RECEIVER), name, call, TellError::Gone);
     }
@@ -726,7 +776,6 @@ fn a_client_that_is_over_is_told_too() {
 struct Policy<'a> {
     worked: &'a Worked,
     link: Link,
-    seat: Option<SeatId>,
     got: Vec<u8>,
     requests: Vec<String>,
 }
@@ -742,12 +791,17 @@ impl Policy<'_> {
     }
 
     fn act(&mut self) {
-        if self.seat.is_none() && self.link.client().is_some() {
-            let offered = Capabilities::from_bits(self.worked.capabilities);
-            self.seat = Some(self.link.add_seat(None, offered).unwrap());
-        }
         while let Some(request) = self.link.next_request() {
-            self.requests.push(request.to_string());
+            match request {
+                Request::Connected => {
+                    let offered = Capabilities::from_bits(self.worked.capabilities);
+                    self.link.add_seat(None, offered).unwrap();
+                    continue;
+                }
+                // a session tells nothing of it
+                Request::SeatReleased { .. } => continue,
+                _ => self.requests.push(request.to_string()),
+            }
             let acted = match request {
                 Request::Bind { seat, capabilities } => self.add_device(seat, capabilities),
                 Request::RequestDevice { seat, capabilities } => {
@@ -767,8 +821,7 @@ impl Policy<'_> {
 fn the_policy_of_a_session_makes_its_worked_sessions() {
     for worked in all_worked() {
         let link = Link::start(worked.serial).unwrap();
-        let mut it =
-            Policy { worked: &worked, link, seat: None, got: Vec::new(), requests: Vec::new() };
+        let mut it = Policy { worked: &worked, link, got: Vec::new(), requests: Vec::new() };
         for byte in &worked.client {
             assert_eq!(it.link.end(), None, "{}", worked.name);
             it.link.feed(&[*byte], &[], worked.time).unwrap();

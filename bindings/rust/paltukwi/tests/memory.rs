@@ -7,8 +7,8 @@ use common::wire::{
     device, handshake, message, seat, welcome, Arg, CONNECTION, FIRST_SEAT, RECEIVER,
 };
 use paltukwi::{
-    Capabilities, DeviceId, DeviceSetup, Input, KeymapFile, Link, Modifiers, Reason, Region,
-    SeatId, StartError, TellError,
+    Capabilities, DeviceId, DeviceSetup, Input, KeymapFile, Link, Modifiers, PingId, Reason,
+    Region, SeatId, StartError, TellError,
 };
 use std::ffi::c_void;
 use std::ptr::{null_mut, NonNull};
@@ -98,7 +98,7 @@ fn adds_device(link: &mut Link) -> Told {
 }
 
 /// The calls of a link that tell a receiver something, one behind another.
-const CALLS: [fn(&mut Link) -> Told; 13] = [
+const CALLS: [fn(&mut Link) -> Told; 14] = [
     |link| link.add_seat(Some("default"), Capabilities::ALL).map(|seat| assert_eq!(seat, SEAT)),
     adds_device,
     |link| link.resume(DEVICE),
@@ -111,6 +111,7 @@ const CALLS: [fn(&mut Link) -> Told; 13] = [
     |link| link.pause(DEVICE),
     |link| link.remove_device(DEVICE),
     |link| link.remove_seat(SEAT),
+    |link| link.ping().map(|ping| assert_eq!(ping, PingId(ID + 4))),
     |link| link.disconnect(Reason::Mode, Some("bye")),
 ];
 
@@ -133,6 +134,7 @@ fn wanted() -> Vec<u8> {
     for (id, serial) in [ID + 1, ID + 2, ID + 3, ID, FIRST_SEAT].into_iter().zip(14..) {
         bytes.extend(message(id, 0, &[Word(serial)]));
     }
+    bytes.extend(message(CONNECTION, 3, &[Long(ID + 4), Word(1)]));
     bytes.extend(message(CONNECTION, 0, &[Word(18), Word(2), Text("bye")]));
     bytes
 }

@@ -32,6 +32,7 @@ fn with_device(context_type: u32) -> (UnixStream, Peer) {
     let (mut client, mut peer) = pair();
     client.write_all(&handshake(context_type, "probe")).unwrap();
     peer.turn(0).unwrap();
+    assert_eq!(peer.next_request(), Some(Request::Connected));
     let capabilities = Capabilities::ALL;
     assert_eq!(peer.add_seat(None, capabilities), Ok(SEAT));
     let setup = DeviceSetup { capabilities, ..DeviceSetup::default() };

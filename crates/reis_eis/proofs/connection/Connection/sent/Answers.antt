@@ -7,7 +7,7 @@ use Rattle.reis_eis.proofs.connection.Connection.sent.Goals as goal
 
 pub returns-clause-dropped : goal.returns-clause-dropped
 returns-clause-dropped c =
-    let e : EisView = record { phase = c.self.inside.phase; ending = c.self.inside.ending } in
+    let e : EisView = record { phase = c.self.inside.phase; ending = c.self.inside.ending; notices = c.self.inside.notices.items } in
     let here : c.self.inside.phase ≡ c.args.self.now.phase = ap (λ (v : EisView). v.phase) c.self.view_is in
     let waits : length c.unsent.result.now ≡ length (unsent_in c.self.inside.phase).bytes = cc (c.unsent.ensures, here) in
     let fits : c.args.bytes ≤ length (unsent_in c.self.inside.phase).bytes = omega (arith, waits, c.if-bytes-unsent.false) in

@@ -16,7 +16,7 @@ returns-in-Err c =
     rw (← c.self.view_is, c.from.ensures) (record {
       feeds = takes_none piece_view (λ _ _. Unit {0}) source c.read.new.source source.bytes.now source.handles.now source.given.pieces source.last refl
           c.args.bytes.now c.args.handles.now c.of-source.ensures.bytes c.of-source.ensures.handles c.requires.some c.self.inside.phase c.self.inside.ending going
-          refl c.in-Err.error c.args.time c.read.new.self c.self.invariant c.in-Err.ensures.reads;
+          refl c.in-Err.error c.args.time c.read.new.self c.self.inside.notices.items c.self.invariant c.in-Err.ensures.reads;
     })
 
 pub returns : goal.returns
@@ -26,5 +26,5 @@ returns c =
     rw (← c.self.view_is) (record {
       feeds = takes_all piece_view (λ _ _. Unit {0}) source c.read.new.source source.bytes.now source.handles.now source.given.pieces source.last refl
           c.args.bytes.now c.args.handles.now c.of-source.ensures.bytes c.of-source.ensures.handles c.requires.some c.self.inside.phase c.self.inside.ending going
-          _ c.args.time c.read.new.self c.handle_messages.new.self c.handle_messages.result c.in_default.ensures.reads c.handle_messages.ensures.handles;
+          _ c.args.time c.read.new.self c.handle_messages.new.self c.self.inside.notices.items c.handle_messages.new.notices.items c.handle_messages.result c.in_default.ensures.reads c.handle_messages.ensures.handles;
     })
