@@ -49,8 +49,18 @@ pub(crate) fn connect<K: Sink>(
         start.terms.initial_serial,
     );
     let handle = converter.handle_mut();
-    handle.add_seat(None, start.terms.capabilities)?;
-    handle.context_mut().flush(sink)?;
+    // Let go by a call: at the end of a scope the drop of each field is proved anew.
+    match handle.add_seat(None, start.terms.capabilities) {
+        Ok(seat) => drop(seat),
+        Err(error) => {
+            drop(converter);
+            return Err(Error::from(error));
+        }
+    }
+    if let Err(error) = handle.context_mut().flush(sink) {
+        drop(converter);
+        return Err(Error::from(error));
+    }
     Ok(converter)
 }
 
@@ -169,16 +179,20 @@ fn follow<K: Sink>(
     let policy = policy_behind(out);
     let handle = converter.handle_mut();
     if let Err(error) = policy.follow(handle) {
+        drop(policy);
         take_back(out, handed, &error);
         return Err(refuse_send(why, error));
     }
     if let Err(error) = handle.flush(sink) {
+        drop(policy);
         return Err(refuse_flush(why, error));
     }
-    Ok(match policy {
+    let step = match &policy {
         Policy::End => Step::Disconnect,
         _ => Step::Handled,
-    })
+    };
+    drop(policy);
+    Ok(step)
 }
 
 /// Takes back what was handed out behind the first `handed` requests, where memory ran out for what answers them.

@@ -124,9 +124,29 @@ impl Phase {
         ensures sink { LentSink K.view K.later (IsErrOf result error.WriteFault) sink.old sink.new }
     {
         let mut context = Context::new(alloc)?;
-        let handshaker = EisHandshaker::new(alloc, &mut context, initial_serial)?;
-        context.flush(sink)?;
+        // Let go by a call: at the end of a scope the drop of each field is proved anew.
+        let handshaker = match EisHandshaker::new(alloc, &mut context, initial_serial) {
+            Ok(handshaker) => handshaker,
+            Err(error) => {
+                drop(context);
+                return Err(Error::from(error));
+            }
+        };
+        if let Err(error) = context.flush(sink) {
+            drop(handshaker);
+            drop(context);
+            return Err(Error::from(error));
+        }
         Ok(Phase::Handshake(context, handshaker))
+    }
+
+    /// Ends it.
+    // It is called once a session.
+    #[inline(never)]
+    pub(crate) fn end(&mut self)
+        ensures { self.new ≡ phases.Over }
+    {
+        drop(mem::replace(self, Phase::Over));
     }
 
     /// Whether it is over.
@@ -304,11 +324,19 @@ impl Phase {
         ensures sink { LentSink K.view K.later (IsErrOf result error.WriteFault) sink.old sink.new }
         ensures no_read_fault { IsErrOf result error.ReadFault → ⊥ }
     {
-        let Phase::Handshake(context, _) = mem::replace(self, Phase::Over) else {
-            return Ok(());
-        };
-        *self = Phase::Connected(connect(start, context, resp, sink)?);
-        Ok(())
+        match mem::replace(self, Phase::Over) {
+            Phase::Handshake(context, handshaker) => {
+                drop(handshaker);
+                let converter = connect(start, context, resp, sink)?;
+                drop(mem::replace(self, Phase::Connected(converter)));
+                Ok(())
+            }
+            other => {
+                drop(other);
+                drop(resp);
+                Ok(())
+            }
+        }
     }
 
     /// Handles every whole message.

@@ -59,8 +59,15 @@ pub fn serve<S: Source, K: Sink, C: Clock>(
     ensures sink { LentSink K.view K.later (IsErrOf result error.WriteFault) sink.old sink.new }
     ensures clock { LentClock C.later clock.old clock.new }
 {
-    let mut session = Session::start(alloc, setup, sink)?;
-    take_turns(&mut session, source, sink, clock, setup, out)
+    match Session::start(alloc, setup, sink) {
+        Ok(mut session) => {
+            let ended = take_turns(&mut session, source, sink, clock, setup, out);
+            // Let go by a call: at the end of a scope the drop of each field is proved anew.
+            drop(session);
+            ended
+        }
+        Err(error) => Err(error),
+    }
 }
 
 /// Takes the turns of a session that has just started, until one of them ends it.

@@ -230,7 +230,7 @@ impl Session {
         if goes_on(&answer) {
             return answer;
         }
-        self.state.phase = Phase::Over;
+        self.state.phase.end();
         answer
     }
 }

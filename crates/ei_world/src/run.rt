@@ -153,7 +153,8 @@ impl World {
         requires whole { self.old.spent ≡ false }
         ensures { Steps (step_of.Read side) _place result self.old self.new }
     {
-        let _answer = self.read(side)?;
+        // Let go by a call: at the end of a scope the drop of each field is proved anew.
+        drop(self.read(side)?);
         Ok(())
     }
 }

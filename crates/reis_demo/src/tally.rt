@@ -110,8 +110,15 @@ pub(crate) fn serve_counted<S: Source, K: Sink, C: Clock>(
     ensures sink { LentSink K.view K.later (IsErrOf result error.WriteFault) sink.old sink.new }
     ensures clock { LentClock C.later clock.old clock.new }
 {
-    let mut session = Session::start(alloc, setup, sink)?;
-    count_turns(alloc, &mut session, source, sink, clock, setup, tally)
+    match Session::start(alloc, setup, sink) {
+        Ok(mut session) => {
+            let ended = count_turns(alloc, &mut session, source, sink, clock, setup, tally);
+            // Let go by a call: at the end of a scope the drop of each field is proved anew.
+            drop(session);
+            ended
+        }
+        Err(error) => Err(error),
+    }
 }
 
 /// Takes the turns of a session that has just started, until one of them ends it, and counts the requests of each.

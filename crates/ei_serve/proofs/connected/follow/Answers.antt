@@ -16,9 +16,9 @@ returns-in-Err-flush-clause-follows g c = λ setup past times rest handles befor
     c.in_default.ensures.exhausted _ c.in_default.ensures.ok c.in_default.ensures.ring c.in-Err-flush.error c.refuse_flush.new.why Over _ _ _ (Err c.refuse_flush.new.why) refl c.refuse_flush.ensures c.in-Err-flush.ensures.flushes.lent.want c.in-Err-flush.ensures.flushes.went
 
 pub returns-clause-follows : goal.returns-clause-follows
-returns-clause-follows g c = λ setup past times rest handles before read read_now count h. elim c.match-policy-9.branch [
+returns-clause-follows g c = λ setup past times rest handles before read read_now count h. elim c.match-policy.branch [
   | in-End w ↦ answers_end setup past times rest handles h.request h.old h.asked h.taken _ _ h.takes _ _ h.grown _ (c.policy_behind-policy.ensures ∙ ap policy_behind c.deref.ensures.value ∙ h.last) _ h.emptied _ c.handle_mut-handle.ensures.value
-      c.in_default.ensures.exhausted _ c.in_default.ensures.ok c.in_default.ensures.ring c.flush.new.self c.in_default-flush.ensures.flushes.stops c.in_default-flush.ensures.kept _ _ c.in_default-flush.ensures.flushes.went c.in_default-flush.ensures.flushes.lent.lent.write_wants _ _ w.result-is w.in-End.is
+      c.in_default.ensures.exhausted _ c.in_default.ensures.ok c.in_default.ensures.ring c.flush.new.self c.in_default-flush.ensures.flushes.stops c.in_default-flush.ensures.kept _ _ c.in_default-flush.ensures.flushes.went c.in_default-flush.ensures.flushes.lent.lent.write_wants _ _ w.step-is w.in-End.is
   | in_default-policy w ↦ answers_on setup past times rest handles h.request h.old h.asked h.taken _ _ h.takes _ _ h.grown _ (c.policy_behind-policy.ensures ∙ ap policy_behind c.deref.ensures.value ∙ h.last) _ h.emptied _ c.handle_mut-handle.ensures.value
-      c.in_default.ensures.exhausted _ c.in_default.ensures.ok c.in_default.ensures.ring c.flush.new.self c.in_default-flush.ensures.flushes.stops c.in_default-flush.ensures.kept _ _ c.in_default-flush.ensures.flushes.went c.in_default-flush.ensures.flushes.lent.lent.write_wants _ refl _ w.result-is w.in_default-policy.not-End
+      c.in_default.ensures.exhausted _ c.in_default.ensures.ok c.in_default.ensures.ring c.flush.new.self c.in_default-flush.ensures.flushes.stops c.in_default-flush.ensures.kept _ _ c.in_default-flush.ensures.flushes.went c.in_default-flush.ensures.flushes.lent.lent.write_wants _ refl _ w.step-is w.in_default-policy.not-End
 ]

@@ -35,7 +35,7 @@ returns-clause-stood g c = subst (λ (x : SessionState). StandsForSome x) c.self
 pub returns-clause-turns : goal.returns-clause-turns
 returns-clause-turns g c = λ setup pieces times s.
     let stands = subst (λ (x : SessionState). Stands setup pieces times x) (sym c.self.view_is) s in
-    over_now setup pieces times _ c.answer-answer.new.self _ _ _ (sym c.goes_on.ensures ∙ c.if-goes_on.false) (c.answer-answer.ensures.turns setup pieces times _ _ _ stands (c.take_piece-came.ensures.takes setup pieces times stands))
+    rw c.end.ensures (over_now setup pieces times _ c.answer-answer.new.self _ _ _ (sym c.goes_on.ensures ∙ c.if-goes_on.false) (c.answer-answer.ensures.turns setup pieces times _ _ _ stands (c.take_piece-came.ensures.takes setup pieces times stands)))
 
 pub returns-clause-source : goal.returns-clause-source
 returns-clause-source g c =
