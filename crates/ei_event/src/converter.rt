@@ -69,6 +69,8 @@ impl<H: Call> EiEventConverter<H> {
         ensures handlers { self.new.waiting ≡ without_called (callback_in event) result self.old.waiting }
     {
         if self.kept.take_likely(&event) {
+            // Let go by a call: at the end of a scope the drop of each field is proved anew.
+            drop(event);
             return Ok(());
         }
         self.handle_unlikely(ctx, clock, event)

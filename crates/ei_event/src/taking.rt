@@ -54,7 +54,9 @@ impl Kept {
         ensures clock { LentClock C.later clock.old clock.new }
     {
         match event {
-            Event::Handshake(_target, _event) => {
+            Event::Handshake(_target, event) => {
+                // Let go by a call: at the end of a scope the drop of each field is proved anew.
+                drop(event);
                 Err(Error::Event(EventError::UnexpectedHandshakeEvent))
             }
             Event::Connection(_target, event) => self.take_connection(event),

@@ -274,14 +274,18 @@ impl<C: HasBackend> Half<C> {
                         .push(Got::InvalidObject { id: *id, after })
                         .is_err()
                     {
+                        drop(answer);
                         return Err(HalfError::Spent);
                     }
                 }
                 PendingRequestResult::Request(message) => {
                     let Ok(message) = record_of(alloc, events, message) else {
+                        // Let go by a call: at the end of a scope the drop of each field is proved anew.
+                        drop(answer);
                         return Err(HalfError::Spent);
                     };
                     if self.taken.push(Got::Message { message, after }).is_err() {
+                        drop(answer);
                         return Err(HalfError::Spent);
                     }
                 }

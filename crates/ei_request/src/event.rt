@@ -334,7 +334,11 @@ pub(crate) fn input_of(request: Request) -> Option<InputEvent>
             }),
             gesture::Request::Pinch { scale } => Some(InputEvent::GesturePinch { scale }),
         },
-        _other => None,
+        other => {
+            // Let go by a call: at the end of a scope the drop of each field is proved anew.
+            drop(other);
+            None
+        }
     }
 }
 
