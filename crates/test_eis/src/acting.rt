@@ -40,7 +40,7 @@ pub(crate) fn act(
 }
 
 /// The id that a call made, or why it made none.
-fn made(alloc: Global, answer: Result<u64, CallError>) -> Result<String, Stop> {
+pub(crate) fn made(alloc: Global, answer: Result<u64, CallError>) -> Result<String, Stop> {
     match answer {
         Ok(id) => Ok(format!(in alloc; "{id}")?),
         Err(error) => Ok(format!(in alloc; "{error:?}")?),
@@ -56,8 +56,11 @@ fn add_seat(alloc: Global, connection: &mut Connection, rest: &str) -> Result<St
 
 fn add_device(alloc: Global, connection: &mut Connection, rest: &str) -> Result<String, Stop> {
     let (seat, rest) = first(rest);
+    let seat = id(seat)?;
     let described = description(alloc, rest)?;
-    made(alloc, add_described(connection, id(seat)?, &described))
+    let answer = add_described(connection, seat, &described);
+    drop(described);
+    made(alloc, answer)
 }
 
 /// Announces the device.
@@ -109,8 +112,12 @@ fn modifiers(alloc: Global, connection: &mut Connection, rest: &str) -> Result<S
 
 fn send(alloc: Global, connection: &mut Connection, rest: &str) -> Result<String, Stop> {
     let (device, rest) = first(rest);
+    let device = id(device)?;
     let input = input(alloc, rest)?;
-    done(alloc, connection.send(id(device)?, &input))
+    let answer = connection.send(device, &input);
+    // Let go by a call: at the end of a scope the drop of each field is proved anew.
+    drop(input);
+    done(alloc, answer)
 }
 
 fn disconnect(alloc: Global, connection: &mut Connection, rest: &str) -> Result<String, Stop> {

@@ -2,15 +2,18 @@
 
 use crate::acting::act;
 use crate::feeding::{done, feed, feed_cut, sent, start};
+use crate::strict::{ask, begin};
 use crate::told::{notices, requests, told};
 use reis_eis::Connection;
+use reis_strict::Strict;
 use std::alloc::Global;
 use test_table::{Answers, Stop, first};
 
-/// The calls, with the connection of the lines before.
+/// The calls, with the connection of the lines before, and the policy beside it.
 #[derive(Drop)]
 pub(crate) struct Calls {
     pub(crate) connection: Option<Connection>,
+    pub(crate) strict: Option<Strict>,
 }
 
 impl Answers for Calls {
@@ -19,9 +22,25 @@ impl Answers for Calls {
         if name == "start" {
             return start(alloc, &mut self.connection, rest);
         }
+        if name == "strict" {
+            return self.strict(alloc, rest);
+        }
         match &mut self.connection {
             Some(connection) => answer(alloc, connection, name, rest),
             None => Err(Stop::Line),
+        }
+    }
+}
+
+impl Calls {
+    /// `strict CALL`: what a call answers that asks the policy, or tells it.
+    fn strict(&mut self, alloc: Global, call: &str) -> Result<String, Stop> {
+        if let Some(serial) = call.strip_prefix("start ") {
+            return begin(alloc, &mut self.connection, &mut self.strict, serial);
+        }
+        match (&mut self.connection, &mut self.strict) {
+            (Some(connection), Some(strict)) => ask(alloc, connection, strict, call),
+            _ => Err(Stop::Line),
         }
     }
 }
@@ -34,7 +53,7 @@ impl Answers for Calls {
 /// - `next` and `requests`: the next request, and all that wait; `notice` and `notices`: the same of notices;
 /// - `unsent`, `unsent-handles`, `ending` and `client`: what waits to be written, how the connection ended, and the client's
 ///   context type with its name;
-/// - the calls of `acting`.
+/// - the calls of `acting`; those of `strict` have that word in front.
 fn answer(
     alloc: Global,
     connection: &mut Connection,

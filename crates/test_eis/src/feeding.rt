@@ -3,6 +3,7 @@
 use ei_spec::Handle;
 use reis_eis::{CallError, Connection};
 use std::alloc::Global;
+use std::mem;
 use test_table::{Stop, bytes, count, first, id, joined, number};
 
 /// `start SERIAL`: a connection in place of that of the lines before.
@@ -11,7 +12,9 @@ pub(crate) fn start(
     connection: &mut Option<Connection>,
     serial: &str,
 ) -> Result<String, Stop> {
-    *connection = Some(Connection::start(alloc, number(serial)?)?);
+    let started = Connection::start(alloc, number(serial)?)?;
+    // Let go by a call: at the end of a scope the drop of each field is proved anew.
+    drop(mem::replace(connection, Some(started)));
     Ok(String::from_str(alloc, "started")?)
 }
 
@@ -59,7 +62,7 @@ fn feed_all(
 }
 
 /// The bytes of the parts.
-fn bytes_of(alloc: Global, parts: &str) -> Result<Vec<u8>, Stop> {
+pub(crate) fn bytes_of(alloc: Global, parts: &str) -> Result<Vec<u8>, Stop> {
     let digits = joined(alloc, parts)?;
     bytes(alloc, digits.as_str())
 }

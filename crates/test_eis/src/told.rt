@@ -3,6 +3,7 @@
 use ei_types::ContextType;
 use reis_eis::Connection;
 use std::alloc::Global;
+use std::fmt;
 use test_table::Stop;
 
 /// The next requests, so many at most, with slashes between them; they wait no more.
@@ -25,8 +26,16 @@ fn push_next(alloc: Global, connection: &mut Connection, text: &mut String) -> R
     let Some(request) = connection.next_request() else {
         return Ok(false);
     };
-    push(text, format!(in alloc; "{request:?}")?.as_str())?;
+    let shown = shown(alloc, &request);
+    // Let go by a call: at the end of a scope the drop of each field is proved anew.
+    drop(request);
+    push(text, shown?.as_str())?;
     Ok(true)
+}
+
+/// A value as its Debug text.
+pub(crate) fn shown<T: fmt::Debug>(alloc: Global, value: &T) -> Result<String, Stop> {
+    Ok(format!(in alloc; "{value:?}")?)
 }
 
 /// The next notices, as the requests.
@@ -46,7 +55,7 @@ pub(crate) fn notices(
 }
 
 /// Adds one to those before it.
-fn push(text: &mut String, one: &str) -> Result<(), Stop> {
+pub(crate) fn push(text: &mut String, one: &str) -> Result<(), Stop> {
     if !text.is_empty() {
         text.push_str(" / ")?;
     }
@@ -90,7 +99,7 @@ fn client_text(alloc: Global, connection: &Connection) -> Result<String, Stop> {
 }
 
 /// The text; `nothing` where it is empty.
-fn or_nothing(mut text: String) -> Result<String, Stop> {
+pub(crate) fn or_nothing(mut text: String) -> Result<String, Stop> {
     if text.is_empty() {
         text.push_str("nothing")?;
     }

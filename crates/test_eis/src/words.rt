@@ -74,11 +74,14 @@ pub(crate) fn description<'a>(alloc: Global, line: &'a str) -> Result<Described<
     let (name, rest) = first(line);
     let (kind, rest) = first(rest);
     let (mask, rest) = first(rest);
+    let device_type = device_type(kind)?;
+    let capabilities = capabilities(mask)?;
+    let items = items(alloc, rest)?;
     Ok(Described {
         name: text(alloc, name)?,
-        device_type: device_type(kind)?,
-        capabilities: capabilities(mask)?,
-        items: items(alloc, rest)?,
+        device_type,
+        capabilities,
+        items,
     })
 }
 

@@ -1,0 +1,9 @@
+pub mod Sets
+pub mod Same
+pub mod Steps
+pub mod Deeds
+pub mod Telling
+pub mod Waiting
+pub mod Ending
+pub mod Turned
+pub mod Named

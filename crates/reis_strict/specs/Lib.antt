@@ -1,0 +1,10 @@
+pub mod Acts
+pub mod Policy
+pub mod History
+pub mod Devices
+pub mod Standing
+pub mod View
+pub mod Held
+pub mod Faults
+pub mod Sifting
+pub mod Turning
