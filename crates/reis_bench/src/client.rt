@@ -2,8 +2,9 @@
 
 use crate::outside::Cut;
 use crate::row::Outcome;
-use crate::stream::motions;
+use crate::stream::say_motions;
 use crate::tally::Tally;
+use ei_backend::Tray;
 use ei_client::Context;
 use ei_types::Error;
 use std::alloc::Global;
@@ -13,7 +14,16 @@ const PIECE: usize = 4096;
 
 /// Reads what a server says that announces a device and sends so many motions.
 pub(crate) fn row(alloc: Global, messages: u32) -> Result<Outcome, Error> {
-    let said = motions(alloc, messages)?;
+    let mut said = Tray::new(alloc);
+    let read = read_motions(alloc, messages, &mut said);
+    // Let go by a call: at the end of a scope the drop of each field is proved anew.
+    drop(said);
+    read
+}
+
+/// The same, over this tray.
+fn read_motions(alloc: Global, messages: u32, said: &mut Tray) -> Result<Outcome, Error> {
+    say_motions(alloc, messages, said)?;
     read_bytes(alloc, said.bytes())
 }
 
@@ -21,7 +31,10 @@ pub(crate) fn row(alloc: Global, messages: u32) -> Result<Outcome, Error> {
 fn read_bytes(alloc: Global, bytes: &[u8]) -> Result<Outcome, Error> {
     let mut context = Context::new(alloc)?;
     let mut source = Cut::new(bytes, PIECE);
-    read_source(&mut context, &mut source)
+    let read = read_source(&mut context, &mut source);
+    drop(source);
+    drop(context);
+    read
 }
 
 /// Reads what a source hands out.
@@ -55,6 +68,7 @@ fn read_unread(context: &mut Context, tally: &mut Tally) -> Result<(), Error> {
             break;
         };
         tally.count(&read);
+        drop(read);
     }
     Ok(())
 }

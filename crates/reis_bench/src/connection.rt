@@ -1,8 +1,8 @@
 //! The row `connection`: a connection for a policy of one's own, whose client sends input of its device or is told of it.
 
 use crate::row::Outcome;
-use crate::stream::push_versions;
-use ei_backend::{HasBackend, Tray};
+use crate::saying::{push_opening, say};
+use ei_backend::Tray;
 use ei_client::Context;
 use ei_input::input_event::InputEvent;
 use ei_types::{ContextType, DeviceCapabilities, DeviceType, Error, KeyState};
@@ -19,9 +19,6 @@ const KEYBOARD: u64 = 0xff00000000000004;
 
 /// The capabilities of a pointer and a keyboard.
 const CAPABILITIES: u64 = 5;
-
-/// The interfaces that the handshake settles.
-const INTERFACES: u32 = 12;
 
 /// The bytes of a piece.
 const PIECE: usize = 4096;
@@ -41,9 +38,19 @@ const TIME: u64 = 1000;
 
 /// A connection whose client sends so many groups, each of a motion, a key and a frame.
 pub(crate) fn sends(alloc: Global, groups: u32) -> Result<Outcome, Error> {
-    let said = say_groups(alloc, groups)?;
+    let mut said = Tray::new(alloc);
+    let taken = take_sent(alloc, groups, &mut said);
+    // Let go by a call: at the end of a scope the drop of each field is proved anew.
+    drop(said);
+    taken
+}
+
+/// The same, over this tray.
+fn take_sent(alloc: Global, groups: u32, said: &mut Tray) -> Result<Outcome, Error> {
+    say_groups(alloc, groups, said)?;
     let mut connection = begin(alloc, ContextType::Sender)?;
     let messages = take_groups(&mut connection, said.bytes());
+    drop(connection);
     Ok(Outcome::Served(messages, 0))
 }
 
@@ -51,29 +58,39 @@ pub(crate) fn sends(alloc: Global, groups: u32) -> Result<Outcome, Error> {
 pub(crate) fn tells(alloc: Global, groups: u32) -> Result<Outcome, Error> {
     let mut connection = begin(alloc, ContextType::Receiver)?;
     let messages = tell_groups(&mut connection, groups);
+    drop(connection);
     Ok(Outcome::Served(messages, 0))
 }
 
 /// A connection with a device, of which such a client has heard.
 fn begin(alloc: Global, client: ContextType) -> Result<Connection, Error> {
     let mut said = Tray::new(alloc);
-    let mut context = Context::new(alloc)?;
-    push_opening(&mut context, client, &mut said)?;
+    let connection = begin_by(alloc, client, &mut said);
+    drop(said);
+    connection
+}
+
+/// The same, over this tray.
+fn begin_by(alloc: Global, client: ContextType, said: &mut Tray) -> Result<Connection, Error> {
+    say_opening(alloc, client, said)?;
     let mut connection = Connection::start(alloc, 1)?;
-    let _ = connection.feed(said.bytes(), &[], 0);
-    announce(&mut connection);
-    take(&mut connection);
+    introduce(&mut connection, said.bytes());
     Ok(connection)
 }
 
-/// Sends the handshake of such a client.
-fn push_opening(context: &mut Context, client: ContextType, said: &mut Tray) -> Result<(), Error> {
-    let Some(handshake) = context.handshake() else {
-        return Ok(());
-    };
-    handshake.handshake_version(context, 1)?;
-    handshake.context_type(context, client)?;
-    push_versions(context, INTERFACES, said)
+/// Hands in the handshake of a client, and announces a device.
+fn introduce(connection: &mut Connection, said: &[u8]) {
+    let _ = connection.feed(said, &[], 0);
+    announce(connection);
+    take(connection);
+}
+
+/// Says the handshake of such a client.
+fn say_opening(alloc: Global, client: ContextType, said: &mut Tray) -> Result<(), Error> {
+    let mut context = Context::new(alloc)?;
+    let pushed = push_opening(&mut context, client, said);
+    drop(context);
+    pushed
 }
 
 /// Announces a seat and a device. Where that is refused no message of a group counts.
@@ -87,46 +104,30 @@ fn announce(connection: &mut Connection) {
     let _ = connection.add_device(seat, None, DeviceType::Virtual, capabilities, &[]);
 }
 
-/// What a client says that sends so many groups.
-fn say_groups(alloc: Global, groups: u32) -> Result<Tray, Error> {
-    let mut said = Tray::new(alloc);
+/// Says what a client says that sends so many groups.
+fn say_groups(alloc: Global, groups: u32, said: &mut Tray) -> Result<(), Error> {
     let mut context = Context::new(alloc)?;
-    for _group in 0..groups {
-        say(
-            &mut context,
-            &mut said,
-            POINTER,
-            1,
-            &[Arg::Float(X), Arg::Float(Y)],
-        )?;
-        say(
-            &mut context,
-            &mut said,
-            KEYBOARD,
-            1,
-            &[Arg::Uint32(KEY), Arg::Uint32(1)],
-        )?;
-        say(
-            &mut context,
-            &mut said,
-            DEVICE,
-            3,
-            &[Arg::Uint32(1), Arg::Uint64(TIME)],
-        )?;
-    }
-    Ok(said)
+    let pushed = push_groups(&mut context, groups, said);
+    drop(context);
+    pushed
 }
 
-/// Sends a message to an object that the server made.
-fn say(
-    context: &mut Context,
-    said: &mut Tray,
-    id: u64,
-    opcode: u32,
-    args: &[Arg<'_>],
-) -> Result<(), Error> {
-    context.backend_mut().request(id, opcode, args)?;
-    Ok(context.flush(said)?)
+/// Sends so many groups.
+fn push_groups(context: &mut Context, groups: u32, said: &mut Tray) -> Result<(), Error> {
+    for _group in 0..groups {
+        push_group(context, said)?;
+    }
+    Ok(())
+}
+
+/// Sends a group.
+fn push_group(context: &mut Context, said: &mut Tray) -> Result<(), Error> {
+    let motion = [Arg::Float(X), Arg::Float(Y)];
+    let key = [Arg::Uint32(KEY), Arg::Uint32(1)];
+    let frame = [Arg::Uint32(1), Arg::Uint64(TIME)];
+    say(context, said, POINTER, 1, &motion)?;
+    say(context, said, KEYBOARD, 1, &key)?;
+    say(context, said, DEVICE, 3, &frame)
 }
 
 /// Takes all that waits to be written.

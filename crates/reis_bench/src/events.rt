@@ -2,9 +2,9 @@
 
 use crate::outside::Cut;
 use crate::row::Outcome;
-use crate::stream::groups;
+use crate::stream::say_groups;
 use crate::tally::Tally;
-use ei_backend::{PendingRequestResult, Readings};
+use ei_backend::{PendingRequestResult, Readings, Tray};
 use ei_client::{Context, Event};
 use ei_event::{EiEvent, EiEventConverter};
 use ei_handshake::{EiHandshaker, HandshakeResp, request_result};
@@ -16,15 +16,27 @@ const PIECE: usize = 4096;
 
 /// Converts what a server says that announces a device and sends so many groups, each of a motion and a frame.
 pub(crate) fn row(alloc: Global, count: u32) -> Result<Outcome, Error> {
-    let said = groups(alloc, count)?;
+    let mut said = Tray::new(alloc);
+    let converted = convert_groups(alloc, count, &mut said);
+    // Let go by a call: at the end of a scope the drop of each field is proved anew.
+    drop(said);
+    converted
+}
+
+/// The same, over this tray.
+fn convert_groups(alloc: Global, count: u32, said: &mut Tray) -> Result<Outcome, Error> {
+    say_groups(alloc, count, said)?;
     convert_bytes(alloc, said.bytes())
 }
 
 /// Converts these bytes.
 fn convert_bytes(alloc: Global, bytes: &[u8]) -> Result<Outcome, Error> {
-    let mut source = Cut::new(bytes, PIECE);
     let mut context = Context::new(alloc)?;
-    convert_source(alloc, &mut context, &mut source)
+    let mut source = Cut::new(bytes, PIECE);
+    let converted = convert_source(alloc, &mut context, &mut source);
+    drop(source);
+    drop(context);
+    converted
 }
 
 /// Converts what a source hands out. The handshake ends in its first piece.
@@ -36,7 +48,9 @@ fn convert_source(
     let _count = context.read(source)?;
     let resp = connected(alloc, context)?;
     let mut converter = EiEventConverter::new(alloc, resp);
-    convert_by(alloc, &mut converter, context, source)
+    let converted = convert_by(alloc, &mut converter, context, source);
+    drop(converter);
+    converted
 }
 
 /// The same, by this converter.
@@ -48,17 +62,31 @@ fn convert_by(
 ) -> Result<Outcome, Error> {
     let mut clock = Readings::new(alloc, &[])?;
     let mut told = Vec::new(alloc);
+    let converted = convert_into(converter, context, source, &mut clock, &mut told);
+    drop(told);
+    drop(clock);
+    converted
+}
+
+/// The same, with this clock, and room for what the client is told.
+fn convert_into(
+    converter: &mut EiEventConverter,
+    context: &mut Context,
+    source: &mut Cut<'_>,
+    clock: &mut Readings,
+    told: &mut Vec<EiEvent>,
+) -> Result<Outcome, Error> {
     let mut tally = Tally::new();
-    convert_events(
-        converter, context, source, &mut clock, &mut told, &mut tally,
-    )?;
+    convert_events(converter, context, source, clock, told, &mut tally)?;
     Ok(Outcome::Read(tally))
 }
 
 /// What the handshake answers, which is at its end with the first message.
 fn connected(alloc: Global, context: &mut Context) -> Result<HandshakeResp, Error> {
     let mut handshaker = EiHandshaker::new(alloc, "demo", ContextType::Receiver)?;
-    shaken(&mut handshaker, context)
+    let resp = shaken(&mut handshaker, context);
+    drop(handshaker);
+    resp
 }
 
 /// What the first message ends the handshake with.

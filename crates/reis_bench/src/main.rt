@@ -16,6 +16,7 @@ mod handshake;
 mod outside;
 mod parse;
 mod row;
+mod saying;
 mod send;
 mod serving;
 mod session;

@@ -19,7 +19,10 @@ pub(crate) fn row(alloc: Global, piece: usize, groups: u32) -> Result<Outcome, E
     requires within { piece ≤ MOST_PIECE_BYTES }
 {
     let bytes = generated(alloc, groups)?;
-    parse_bytes(alloc, &bytes, piece)
+    let parsed = parse_bytes(alloc, &bytes, piece);
+    // Let go by a call: at the end of a scope the drop of each field is proved anew.
+    drop(bytes);
+    parsed
 }
 
 /// Reads these bytes in such pieces.
@@ -29,14 +32,17 @@ fn parse_bytes(alloc: Global, bytes: &[u8], piece: usize) -> Result<Outcome, Err
 {
     let mut context = Context::new(alloc)?;
     let mut source = Cut::new(bytes, piece);
-    parse_source(&mut context, &mut source)
+    let parsed = parse_source(&mut context, &mut source);
+    drop(source);
+    drop(context);
+    parsed
 }
 
 /// Reads what a source hands out: the handshake, which is answered by announcing a device, and then the rest.
 fn parse_source(context: &mut Context, source: &mut Cut<'_>) -> Result<Outcome, Error> {
     let mut tally = Tally::new();
     shake_hands(context, source, &mut tally)?;
-    let _announced = announce(context)?;
+    drop(announce(context)?);
     parse_stream(context, source, &mut tally)?;
     Ok(Outcome::Read(tally))
 }
@@ -59,15 +65,24 @@ fn shake_hands(
 /// Takes out the messages up to the finish, and answers whether it came.
 fn finish_comes(context: &mut Context, tally: &mut Tally) -> Result<bool, Error> {
     for _message in 0..context.unread_len() {
-        let Some(read) = context.pending_request()? else {
-            break;
-        };
-        tally.count(&read);
-        if is_finish(&read) {
-            return Ok(true);
+        match next_is_finish(context, tally)? {
+            Some(true) => return Ok(true),
+            Some(false) => {}
+            None => break,
         }
     }
     Ok(false)
+}
+
+/// Takes out the next message, and answers whether it is the finish; none where no message is whole.
+fn next_is_finish(context: &mut Context, tally: &mut Tally) -> Result<Option<bool>, Error> {
+    let Some(read) = context.pending_request()? else {
+        return Ok(None);
+    };
+    tally.count(&read);
+    let is_last = is_finish(&read);
+    drop(read);
+    Ok(Some(is_last))
 }
 
 /// Whether the handshake ends with this message.
@@ -103,6 +118,7 @@ fn parse_unread(context: &mut Context, tally: &mut Tally) -> Result<(), Error> {
             break;
         };
         tally.count(&read);
+        drop(read);
     }
     Ok(())
 }

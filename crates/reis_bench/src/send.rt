@@ -20,16 +20,26 @@ const Y: RawFloat = RawFloat(0xbe800000);
 /// Sends so many motions.
 pub(crate) fn row(alloc: Global, messages: u32) -> Result<Outcome, Error> {
     let mut context = Context::new(alloc)?;
-    send_behind_announcing(&mut context, messages)
+    let sent = send_behind_announcing(&mut context, messages);
+    // Let go by a call: at the end of a scope the drop of each field is proved anew.
+    drop(context);
+    sent
 }
 
 /// Announces a device, and sends so many motions of its pointer. The bytes that go out behind the announcing count.
 fn send_behind_announcing(context: &mut Context, count: u32) -> Result<Outcome, Error> {
+    let announced = announce(context)?;
+    let sent = send_by(context, &announced.pointer, count);
+    drop(announced);
+    sent
+}
+
+/// Sends so many motions of this pointer, behind all that waits.
+fn send_by(context: &mut Context, pointer: &Pointer, count: u32) -> Result<Outcome, Error> {
     let mut opening = Dropped { bytes: 0 };
     let mut sink = Dropped { bytes: 0 };
-    let announced = announce(context)?;
     context.flush(&mut opening)?;
-    send_motions(context, &announced.pointer, count, &mut sink)?;
+    send_motions(context, pointer, count, &mut sink)?;
     Ok(Outcome::Sent(count, sink.bytes))
 }
 

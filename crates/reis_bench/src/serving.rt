@@ -26,7 +26,11 @@ pub(crate) fn serve_said(alloc: Global, bytes: &[u8], descriptor: bool) -> Resul
 fn serve_source(alloc: Global, source: &mut Cut<'_>, sink: &mut Dropped) -> Result<Ended, Error> {
     let mut clock = Readings::new(alloc, &[])?;
     let mut out = Vec::new(alloc);
-    serve_client(alloc, source, sink, &mut clock, &mut out)
+    let ended = serve_client(alloc, source, sink, &mut clock, &mut out);
+    // Let go by a call: at the end of a scope the drop of each field is proved anew.
+    drop(out);
+    drop(clock);
+    ended
 }
 
 /// Serves a client. This is what is counted.

@@ -3,9 +3,9 @@
 ghost use Rattle.std.specs.Prelude.{◌≡◌, ◌+◌, ◌*◌};
 
 use crate::row::Outcome;
+use crate::saying::{INTERFACES, push_opening, say};
 use crate::serving::serve_said;
-use crate::stream::push_versions;
-use ei_backend::{HasBackend, Tray};
+use ei_backend::Tray;
 use ei_client::Context;
 use ei_types::{ContextType, Error};
 use ei_wire::Arg;
@@ -22,9 +22,6 @@ const IDS: u64 = 8;
 
 /// All seven capabilities.
 const ALL: u64 = 127;
-
-/// The interfaces that the handshake settles.
-const INTERFACES: u32 = 12;
 
 /// The numbers of a motion: 1.5 and -0.25.
 const X: u32 = 0x3fc00000;
@@ -47,20 +44,39 @@ pub(crate) struct Doing {
 /// Serves a client that does this.
 pub(crate) fn row(alloc: Global, doing: Doing) -> Result<Outcome, Error> {
     let mut said = Tray::new(alloc);
-    let messages = say_session(alloc, doing, &mut said)?;
-    let replies = serve_said(alloc, said.bytes(), doing.descriptor)?;
-    Ok(Outcome::Served(messages, replies))
+    let served = serve_session(alloc, doing, &mut said);
+    // Let go by a call: at the end of a scope the drop of each field is proved anew.
+    drop(said);
+    served
 }
 
-/// Says what such a client says. It answers how many messages that is.
-fn say_session(alloc: Global, doing: Doing, said: &mut Tray) -> Result<u64, Error> {
+/// The same, over this tray.
+fn serve_session(alloc: Global, doing: Doing, said: &mut Tray) -> Result<Outcome, Error> {
+    say_session(alloc, doing, said)?;
+    let replies = serve_said(alloc, said.bytes(), doing.descriptor)?;
+    Ok(Outcome::Served(count_of(doing), replies))
+}
+
+/// Says what such a client says.
+fn say_session(alloc: Global, doing: Doing, said: &mut Tray) -> Result<(), Error> {
     let mut context = Context::new(alloc)?;
-    push_opening(&mut context, said)?;
-    push_devices(&mut context, doing, said)?;
-    push_groups(&mut context, doing, said)?;
+    let pushed = push_session(&mut context, doing, said);
+    drop(context);
+    pushed
+}
+
+/// Sends all that such a client says.
+fn push_session(context: &mut Context, doing: Doing, said: &mut Tray) -> Result<(), Error> {
+    push_opening(context, ContextType::Sender, said)?;
+    push_devices(context, doing, said)?;
+    push_groups(context, doing, said)
+}
+
+/// How many messages such a client sends.
+fn count_of(doing: Doing) -> u64 {
     let opening = u64::from(INTERFACES) + 3;
     let devices = u64::from(doing.devices) + u64::from(doing.released);
-    Ok(opening + devices + 1 + 2 * u64::from(doing.groups))
+    opening + devices + 1 + 2 * u64::from(doing.groups)
 }
 
 /// The id of the device at that place, from 0.
@@ -68,28 +84,6 @@ fn device_id(place: u32) -> u64
     ensures { result ≡ DEVICE + IDS * place }
 {
     DEVICE + IDS * u64::from(place)
-}
-
-/// Sends the handshake of a client that sends input.
-fn push_opening(context: &mut Context, said: &mut Tray) -> Result<(), Error> {
-    let Some(handshake) = context.handshake() else {
-        return Ok(());
-    };
-    handshake.handshake_version(context, 1)?;
-    handshake.context_type(context, ContextType::Sender)?;
-    push_versions(context, INTERFACES, said)
-}
-
-/// Sends a message to an object that the server made.
-fn say(
-    context: &mut Context,
-    said: &mut Tray,
-    id: u64,
-    opcode: u32,
-    args: &[Arg<'_>],
-) -> Result<(), Error> {
-    context.backend_mut().request(id, opcode, args)?;
-    Ok(context.flush(said)?)
 }
 
 /// Binds the seat, which makes the first device, asks for the others, and releases the first ones.

@@ -1,4 +1,4 @@
-//! The bytes of the rows, made beforehand.
+//! The bytes of the rows, made beforehand: the generated stream, and what a server says. `saying` has what a client says.
 
 ghost use Rattle.std.specs.Prelude.{◌≡◌, ◌≤◌, length, vec_len, IfOk};
 ghost use Rattle.ei_spec.specs.declared.limits.TheConstants.{MOST_PIECE_BYTES, MOST_PIECE_HANDLES};
@@ -6,23 +6,56 @@ ghost use Rattle.ei_spec.specs.declared.limits.TheConstants.{MOST_PIECE_BYTES, M
 use crate::announcing::announce;
 use crate::send::{push_groups, push_motions};
 use ei_backend::{Source, Tray};
-use ei_client as client;
 use ei_server::Context;
 use ei_spec::Handle;
 use ei_spec::limits::{MOST_PIECE_BYTES, MOST_PIECE_HANDLES};
-use ei_types::{Error, interfaces};
+use ei_types::Error;
 use ei_wire::NoMemory;
 use reis_demo::Generated;
 use std::alloc::Global;
 
 /// The generated stream of so many groups, which the numbers after 1 make up.
 pub(crate) fn generated(alloc: Global, groups: u32) -> Result<Vec<u8>, NoMemory> {
-    let mut room = room(alloc)?;
-    let mut handles = handle_room(alloc)?;
-    let mut source = Generated::new(alloc, groups, 1)?;
     let mut bytes = Vec::new(alloc);
-    push_pieces(&mut source, &mut room, &mut handles, &mut bytes)?;
-    Ok(bytes)
+    match push_generated(alloc, groups, &mut bytes) {
+        Ok(()) => Ok(bytes),
+        Err(error) => {
+            // Let go by a call: at the end of a scope the drop of each field is proved anew.
+            drop(bytes);
+            Err(error)
+        }
+    }
+}
+
+/// Appends that stream.
+fn push_generated(alloc: Global, groups: u32, bytes: &mut Vec<u8>) -> Result<(), NoMemory> {
+    let mut source = Generated::new(alloc, groups, 1)?;
+    let pushed = push_source(alloc, &mut source, bytes);
+    drop(source);
+    pushed
+}
+
+/// Appends what this source hands out.
+fn push_source(alloc: Global, source: &mut Generated, bytes: &mut Vec<u8>) -> Result<(), NoMemory> {
+    let mut room = room(alloc)?;
+    let pushed = push_through(alloc, source, &mut room, bytes);
+    drop(room);
+    pushed
+}
+
+/// The same, by this room.
+fn push_through(
+    alloc: Global,
+    source: &mut Generated,
+    room: &mut [u8],
+    bytes: &mut Vec<u8>,
+) -> Result<(), NoMemory>
+    requires room { MOST_PIECE_BYTES ≤ length room.old }
+{
+    let mut handles = handle_room(alloc)?;
+    let pushed = push_pieces(source, room, &mut handles, bytes);
+    drop(handles);
+    pushed
 }
 
 /// Room for the bytes of a piece.
@@ -76,71 +109,34 @@ fn push_piece(
     Ok(taken.bytes > 0)
 }
 
-/// What a server says that announces a device and sends so many motions.
-pub(crate) fn motions(alloc: Global, count: u32) -> Result<Tray, Error> {
-    let mut said = Tray::new(alloc);
-    say_motions(alloc, count, &mut said)?;
-    Ok(said)
-}
-
-/// Says what such a server says.
-fn say_motions(alloc: Global, count: u32, said: &mut Tray) -> Result<(), Error> {
+/// Says what a server says that announces a device and sends so many motions.
+pub(crate) fn say_motions(alloc: Global, count: u32, said: &mut Tray) -> Result<(), Error> {
     let mut context = Context::new(alloc)?;
-    push_announced(&mut context, count, said)
+    let pushed = push_announced(&mut context, count, said);
+    drop(context);
+    pushed
 }
 
 /// Announces a device, and sends so many motions of its pointer.
 fn push_announced(context: &mut Context, count: u32, said: &mut Tray) -> Result<(), Error> {
     let announced = announce(context)?;
-    push_motions(context, &announced.pointer, count, said)
+    let pushed = push_motions(context, &announced.pointer, count, said);
+    drop(announced);
+    pushed
 }
 
-/// What a server says that announces a device and sends so many groups, each of a motion and a frame.
-pub(crate) fn groups(alloc: Global, count: u32) -> Result<Tray, Error> {
-    let mut said = Tray::new(alloc);
-    say_groups(alloc, count, &mut said)?;
-    Ok(said)
-}
-
-/// Says what such a server says.
-fn say_groups(alloc: Global, count: u32, said: &mut Tray) -> Result<(), Error> {
+/// Says what a server says that announces a device and sends so many groups, each of a motion and a frame.
+pub(crate) fn say_groups(alloc: Global, count: u32, said: &mut Tray) -> Result<(), Error> {
     let mut context = Context::new(alloc)?;
-    push_announced_groups(&mut context, count, said)
+    let pushed = push_announced_groups(&mut context, count, said);
+    drop(context);
+    pushed
 }
 
 /// Announces a device, and sends so many groups.
 fn push_announced_groups(context: &mut Context, count: u32, said: &mut Tray) -> Result<(), Error> {
     let announced = announce(context)?;
-    push_groups(context, &announced, count, said)
-}
-
-/// What a client says that tells so many versions of twelve interfaces, one after another, and ends the handshake.
-pub(crate) fn versions(alloc: Global, count: u32) -> Result<Tray, Error> {
-    let mut said = Tray::new(alloc);
-    say_versions(alloc, count, &mut said)?;
-    Ok(said)
-}
-
-/// Says what such a client says.
-fn say_versions(alloc: Global, count: u32, said: &mut Tray) -> Result<(), Error> {
-    let mut context = client::Context::new(alloc)?;
-    push_versions(&mut context, count, said)
-}
-
-/// Sends so many versions, and ends the handshake.
-pub(crate) fn push_versions(
-    context: &mut client::Context,
-    count: u32,
-    said: &mut Tray,
-) -> Result<(), Error> {
-    let Some(handshake) = context.handshake() else {
-        return Ok(());
-    };
-    for place in 0..count {
-        let (name, version) = interfaces()[place as usize % 12];
-        handshake.interface_version(context, name, version)?;
-        context.flush(said)?;
-    }
-    handshake.finish(context)?;
-    Ok(context.flush(said)?)
+    let pushed = push_groups(context, &announced, count, said);
+    drop(announced);
+    pushed
 }

@@ -2,7 +2,7 @@
 
 use crate::stop::Stop;
 use ei_backend::PendingRequestResult;
-use ei_client::{Context, Event, connection, handshake, seat};
+use ei_client::{Context, Event, Handshake, connection, handshake, seat};
 use ei_types::{ContextType, Error};
 use ei_wire::SendError;
 use std::io::Print;
@@ -21,6 +21,14 @@ pub(crate) fn shake_hands(context: &mut Context) -> Result<(), SendError> {
     let Some(handshake) = context.handshake() else {
         return Ok(());
     };
+    let told = tell(context, &handshake);
+    // Let go by a call: at the end of a scope the drop of each field is proved anew.
+    drop(handshake);
+    told
+}
+
+/// Tells it by this proxy.
+fn tell(context: &mut Context, handshake: &Handshake) -> Result<(), SendError> {
     handshake.handshake_version(context, 1)?;
     handshake.context_type(context, ContextType::Sender)?;
     handshake.name(context, "demo")?;
@@ -44,7 +52,11 @@ pub(crate) fn show_events<R: Print>(rt: &R, context: &mut Context) -> Result<(),
 /// Shows an event, or what came in its place.
 fn show_pending<R: Print>(rt: &R, pending: PendingRequestResult<Event>) -> Result<(), Stop> {
     match pending {
-        PendingRequestResult::Request(event) => show_event(rt, &event),
+        PendingRequestResult::Request(event) => {
+            let shown = show_event(rt, &event);
+            drop(event);
+            shown
+        }
         PendingRequestResult::ParseError(error) => Err(Stop::from(Error::from(error))),
         PendingRequestResult::InvalidObject(id) => Ok(println!(rt; "no object {id}")?),
     }

@@ -21,12 +21,27 @@ pub(crate) fn serve_clients<R: Print + AllocGlobal>(rt: &R, stream: &[u8]) -> Re
         capabilities: DeviceCapabilities::all(),
         pieces: 200,
     };
-    let mut clock = Readings::new(rt.alloc(), &[])?;
     let mut hub = Hub::new(rt.alloc(), setup);
-    join(rt, &mut hub, stream)?;
-    join(rt, &mut hub, &[])?;
+    let served = serve_both(rt, &mut hub, stream, &setup);
+    // Let go by a call: at the end of a scope the drop of each field is proved anew.
+    drop(hub);
+    served
+}
+
+/// The two join, are served, and are shown.
+fn serve_both<'a, R: Print + AllocGlobal>(
+    rt: &R,
+    hub: &mut Hub<Inbox<'a>, Outbox>,
+    stream: &'a [u8],
+    setup: &Setup,
+) -> Result<(), Stop>
+    requires lawful { bits_of setup.now.capabilities ≤ all_bits }
+{
+    let mut clock = Readings::new(rt.alloc(), &[])?;
+    join(rt, hub, stream)?;
+    join(rt, hub, &[])?;
     hub.serve_all(&mut clock);
-    show_clients(rt, &hub, &setup)
+    show_clients(rt, hub, setup)
 }
 
 /// A client of this stream joins.

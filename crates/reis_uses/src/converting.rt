@@ -17,20 +17,71 @@ pub(crate) fn show_told<R: Print + AllocGlobal>(
     sink: &mut Outbox,
 ) -> Result<(), Stop> {
     let mut context = Context::new(rt.alloc())?;
+    let shown = shake_and_show(rt, &mut context, said, sink);
+    // Let go by a call: at the end of a scope the drop of each field is proved anew.
+    drop(context);
+    shown
+}
+
+/// The same, by this context.
+fn shake_and_show<R: Print + AllocGlobal>(
+    rt: &R,
+    context: &mut Context,
+    said: &[u8],
+    sink: &mut Outbox,
+) -> Result<(), Stop> {
     context.read(&mut Inbox::new(said))?;
     let mut handshaker = EiHandshaker::new(rt.alloc(), "demo", ContextType::Sender)?;
-    let Some(resp) = connected(&mut handshaker, &mut context)? else {
-        return Ok(println!(rt; "no connection")?);
-    };
+    let shaken = connected(&mut handshaker, context);
+    drop(handshaker);
+    match shaken? {
+        Some(resp) => convert_and_show(rt, resp, context, sink),
+        None => Ok(println!(rt; "no connection")?),
+    }
+}
+
+/// Converts the events that came behind the handshake, shows what the client is told, and sends what it asks.
+fn convert_and_show<R: Print + AllocGlobal>(
+    rt: &R,
+    resp: HandshakeResp,
+    context: &mut Context,
+    sink: &mut Outbox,
+) -> Result<(), Stop> {
     let mut converter = EiEventConverter::new(rt.alloc(), resp);
+    let shown = show_converted(rt, &mut converter, context, sink);
+    drop(converter);
+    shown
+}
+
+/// The same, by this converter.
+fn show_converted<R: Print + AllocGlobal>(
+    rt: &R,
+    converter: &mut EiEventConverter,
+    context: &mut Context,
+    sink: &mut Outbox,
+) -> Result<(), Stop> {
     let mut clock = Readings::new(rt.alloc(), &[])?;
-    convert(&mut converter, &mut context, &mut clock)?;
+    let converted = convert(converter, context, &mut clock);
+    drop(clock);
+    converted?;
+    show_queued(rt, converter, context)?;
+    Ok(converter.connection().flush(context, sink)?)
+}
+
+/// Shows the events that are queued.
+fn show_queued<R: Print>(
+    rt: &R,
+    converter: &mut EiEventConverter,
+    context: &mut Context,
+) -> Result<(), Stop> {
     for _ in 0..converter.queued_len() {
         if let Some(event) = converter.next_event() {
-            show_event(rt, &event, &converter, &mut context)?;
+            let shown = show_event(rt, &event, converter, context);
+            drop(event);
+            shown?;
         }
     }
-    Ok(converter.connection().flush(&mut context, sink)?)
+    Ok(())
 }
 
 /// Answers the server's handshake, up to the connection.

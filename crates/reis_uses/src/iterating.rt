@@ -17,7 +17,6 @@ pub(crate) fn show_each<R: Print + AllocGlobal>(
     sink: &mut Outbox,
 ) -> Result<(), Stop> {
     let mut source = Inbox::new(said);
-    let mut clock = Readings::new(rt.alloc(), &[])?;
     let context = Context::new(rt.alloc())?;
     let mut events: EiConvertEventIterator = handshake_blocking(
         rt.alloc(),
@@ -28,17 +27,55 @@ pub(crate) fn show_each<R: Print + AllocGlobal>(
         ContextType::Sender,
         200,
     )?;
+    let shown = show_given(rt, &mut events, &mut source, sink);
+    // Let go by a call: at the end of a scope the drop of each field is proved anew.
+    drop(events);
+    shown
+}
+
+/// Shows each event that is given, up to the end of the source.
+fn show_given<R: Print + AllocGlobal>(
+    rt: &R,
+    events: &mut EiConvertEventIterator,
+    source: &mut Inbox<'_>,
+    sink: &mut Outbox,
+) -> Result<(), Stop> {
+    let mut clock = Readings::new(rt.alloc(), &[])?;
+    let shown = show_by(rt, events, source, sink, &mut clock);
+    drop(clock);
+    shown
+}
+
+/// The same, by this clock.
+fn show_by<R: Print>(
+    rt: &R,
+    events: &mut EiConvertEventIterator,
+    source: &mut Inbox<'_>,
+    sink: &mut Outbox,
+    clock: &mut Readings,
+) -> Result<(), Stop> {
     for _event in 0..u64::MAX {
-        let Some(event) = events.next(&mut source, sink, &mut clock) else {
+        let Some(event) = events.next(source, sink, clock) else {
             break;
         };
-        act_on(rt, &mut events, &event?)?;
+        act_on(rt, events, event?)?;
     }
     Ok(events.context_mut().flush(sink)?)
 }
 
-/// Shows an event. Where it adds a seat, the seat is asked for all devices.
+/// Shows an event, and lets it go. Where it adds a seat, the seat is asked for all devices.
 fn act_on<R: Print>(
+    rt: &R,
+    events: &mut EiConvertEventIterator,
+    event: EiEvent,
+) -> Result<(), Stop> {
+    let shown = show_event(rt, events, &event);
+    drop(event);
+    shown
+}
+
+/// Shows an event. Where it adds a seat, the seat is asked for all devices.
+fn show_event<R: Print>(
     rt: &R,
     events: &mut EiConvertEventIterator,
     event: &EiEvent,

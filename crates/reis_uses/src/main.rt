@@ -36,7 +36,12 @@ fn main(rt: HostRuntime) -> Result<(), Stop> {
     let mut client = Context::new(rt.alloc())?;
     let mut sent = Outbox::new(rt.alloc());
     let mut replied = Outbox::new(rt.alloc());
-    talk(&rt, &mut client, &mut sent, &mut replied)
+    let talked = talk(&rt, &mut client, &mut sent, &mut replied);
+    // Let go by a call: at the end of a scope the drop of each field is proved anew.
+    drop(replied);
+    drop(sent);
+    drop(client);
+    talked
 }
 
 /// The client shakes hands and leaves, the server serves it, and the client reads what the server replied.
@@ -52,8 +57,25 @@ fn talk<R: Print + AllocGlobal>(
     serve_by_turns(rt, &mut Inbox::new(&sent.bytes), replied)?;
     client.read(&mut Inbox::new(&replied.bytes))?;
     show_events(rt, client)?;
-    show_told(rt, &replied.bytes, &mut Outbox::new(rt.alloc()))?;
-    show_each(rt, &replied.bytes, &mut Outbox::new(rt.alloc()))?;
+    show_replies(rt, &replied.bytes)?;
     serve_clients(rt, &sent.bytes)?;
     talk_over_links(rt)
+}
+
+/// A client by its converter and one by the iterator read the same replies.
+fn show_replies<R: Print + AllocGlobal>(rt: &R, replied: &[u8]) -> Result<(), Stop> {
+    let mut asked = Outbox::new(rt.alloc());
+    let shown = show_both(rt, replied, &mut asked);
+    drop(asked);
+    shown
+}
+
+/// The same. What both say goes into the sink.
+fn show_both<R: Print + AllocGlobal>(
+    rt: &R,
+    replied: &[u8],
+    asked: &mut Outbox,
+) -> Result<(), Stop> {
+    show_told(rt, replied, asked)?;
+    show_each(rt, replied, asked)
 }

@@ -39,12 +39,13 @@ pub(crate) fn show_played<R: Print + AllocGlobal>(
     }
     let mut stream = Vec::new(rt.alloc());
     let mut out = Vec::new(rt.alloc());
-    if replay(rt.alloc(), setup, record, &mut stream, &mut out).is_ok() {
-        println!(rt;
-            "played back: {} things, by {} bytes",
-            out.len(),
-            stream.len()
-        )?;
+    let played = replay(rt.alloc(), setup, record, &mut stream, &mut out);
+    let (bytes, things) = (stream.len(), out.len());
+    // Let go by a call: at the end of a scope the drop of each field is proved anew.
+    drop(out);
+    drop(stream);
+    if played.is_ok() {
+        println!(rt; "played back: {things} things, by {bytes} bytes")?;
     }
     Ok(())
 }

@@ -34,13 +34,15 @@ impl Rule for NoText {
     }
 }
 
-/// What passes of a record by that rule, at half its times.
-fn without_text(alloc: Global, record: &[EisRequest]) -> Result<Vec<EisRequest>, NoMemory> {
+/// Adds what passes of a record by that rule, at half its times.
+fn push_without_text(
+    alloc: Global,
+    record: &[EisRequest],
+    passed: &mut Vec<EisRequest>,
+) -> Result<(), NoMemory> {
     let mut filter = Filter::new(alloc, |time| time / 2);
     filter.add_rule(Box::new(alloc, NoText { is_asked: true })?)?;
-    let mut passed = Vec::new(alloc);
-    filter.sift(alloc, record, &mut passed)?;
-    Ok(passed)
+    filter.sift(alloc, record, passed)
 }
 
 /// Shows how much of these requests passes.
@@ -48,8 +50,13 @@ pub(crate) fn show_sifted<R: Print + AllocGlobal>(
     rt: &R,
     record: &[EisRequest],
 ) -> Result<(), Stop> {
-    match without_text(rt.alloc(), record) {
-        Ok(passed) => println!(rt; "without text it asked for {} things", passed.len())?,
+    let mut passed = Vec::new(rt.alloc());
+    let sifted = push_without_text(rt.alloc(), record, &mut passed);
+    let things = passed.len();
+    // Let go by a call: at the end of a scope the drop of each field is proved anew.
+    drop(passed);
+    match sifted {
+        Ok(()) => println!(rt; "without text it asked for {things} things")?,
         Err(NoMemory) => return Err(Stop::Session(Error::NoMemory)),
     }
     Ok(())

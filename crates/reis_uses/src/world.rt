@@ -3,22 +3,41 @@
 ghost use Rattle.std.specs.Prelude.{◌≡◌, ◌<◌, false, length};
 
 use crate::stop::Stop;
-use ei_backend::HasBackend;
+use ei_backend::{HasBackend, Object};
 use ei_spec::limits::FIRST_SERVER_ID;
 use ei_wire::NoMemory;
-use ei_world::{Got, Side, Step, Value, Values, World};
+use ei_world::{Got, Side, Step, Value, Values, World, WorldEnd};
 use std::alloc::Global;
 use std::io::Print;
 
 /// The server hands out a connection, whose last bytes come late; then the client asks for a callback.
 pub(crate) fn talk_over_links<R: Print + AllocGlobal>(rt: &R) -> Result<(), Stop> {
     let mut world = World::new(rt.alloc())?;
+    let talked = talk(rt, &mut world);
+    // Let go by a call: at the end of a scope the drop of each field is proved anew.
+    drop(world);
+    talked
+}
+
+/// The same, in a world that isn't spent.
+fn talk<R: Print + AllocGlobal>(rt: &R, world: &mut World) -> Result<(), Stop>
+    requires whole { world.old.spent ≡ false }
+{
+    hand_out(world, connection_values(rt.alloc())?)?;
+    show_taken(rt, world)?;
+    ask_for_callback(rt, world)
+}
+
+/// The server hands out a connection with these values, whose last bytes come late.
+fn hand_out(world: &mut World, values: Values) -> Result<(), WorldEnd>
+    requires whole { world.old.spent ≡ false }
+{
     let steps = [
         Step::Call {
             side: Side::Server,
             target: 0,
             opcode: 2,
-            values: connection_values(rt.alloc())?,
+            values,
         },
         Step::Flush(Side::Server),
         Step::Deliver(Side::Client, 20),
@@ -26,9 +45,9 @@ pub(crate) fn talk_over_links<R: Print + AllocGlobal>(rt: &R) -> Result<(), Stop
         Step::Deliver(Side::Client, 12),
         Step::Read(Side::Client),
     ];
-    world.run(&steps)?;
-    show_taken(rt, &world)?;
-    ask_for_callback(rt, &mut world)
+    let ran = world.run(&steps);
+    drop(steps);
+    ran
 }
 
 /// A serial, a new id, and the version of the connection.
@@ -60,11 +79,18 @@ fn ask_for_callback<R: Print>(rt: &R, world: &mut World) -> Result<(), Stop> {
         return Ok(());
     };
     let connection = connection.clone()?;
+    let asked = ask(rt, world, &connection);
+    drop(connection);
+    asked
+}
+
+/// The same, of this connection.
+fn ask<R: Print>(rt: &R, world: &mut World, connection: &Object) -> Result<(), Stop> {
     let values = [Value::New, Value::Uint32(1)];
-    if world.is_spent() || !world.may_call(Side::Client, &connection, 0, &values) {
+    if world.is_spent() || !world.may_call(Side::Client, connection, 0, &values) {
         return Ok(());
     }
-    if let Some(callback) = world.client_call(&connection, 0, &values)? {
+    if let Some(callback) = world.client_call(connection, 0, &values)? {
         println!(rt; "a callback with id {}", callback.id())?;
     }
     Ok(())

@@ -1,92 +1,60 @@
-//! The calls of the table by their names.
+//! The calls of the table by their parts.
 
-use crate::blocking::block;
-use crate::shaking::Shaking;
-use ei_client::Context;
-use ei_types::ContextType;
+use crate::client::Client;
+use crate::{converter, handshake, iterator};
+use ei_iterator::EiConvertEventIterator;
 use std::alloc::Global;
 use test_table::{Answers, Stop, first, joined};
 
-/// A client's handshake, where one began, and the endpoint of the last one that blocked.
+/// The client that the calls go on with, what the server sent until its connection, and the iterator behind the last
+/// handshake that gave one.
 #[derive(Drop)]
-pub(crate) struct Client {
-    alloc: Global,
-    shaking: Option<Shaking>,
-    context: Option<Context>,
+pub(crate) struct Calls {
+    pub(crate) alloc: Global,
+    pub(crate) client: Client,
+    pub(crate) hello: Vec<u8>,
+    pub(crate) iterator: Option<EiConvertEventIterator>,
 }
 
-impl Client {
-    pub(crate) fn new(alloc: Global) -> Client {
-        Client {
+impl Calls {
+    /// A client that shook no hands.
+    pub(crate) fn new(alloc: Global) -> Result<Calls, Stop> {
+        Ok(Calls {
             alloc,
-            shaking: None,
-            context: None,
-        }
+            client: Client::new(alloc)?,
+            hello: Vec::new(alloc),
+            iterator: None,
+        })
     }
 }
 
-impl Answers for Client {
-    fn answer(&mut self, _alloc: Global, call: &str) -> Result<String, Stop> {
-        answer(self, call)
+impl Answers for Calls {
+    fn answer(&mut self, alloc: Global, call: &str) -> Result<String, Stop> {
+        let mut text = String::new(alloc);
+        answer(self, call.trim_end(), &mut text)?;
+        Ok(text)
     }
 
     fn is_wanted(&self, alloc: Global, found: &str, wanted: &str) -> Result<bool, Stop> {
-        Ok(joined(alloc, found)? == joined(alloc, wanted)?)
+        let found = joined(alloc, found)?;
+        is_joined(alloc, found.as_str(), wanted)
     }
 }
 
-/// What a call answers:
-/// - `new KIND NAME`: nothing, and a handshake begins on a fresh endpoint;
-/// - `long KIND LENGTH`: the same, with a name of so many letters;
-/// - `event BYTES`: what the handshaker answers to the event, and how many bytes wait to be sent;
-/// - `sent`: the bytes that wait to be sent, and takes them out;
-/// - `block ..`: what a handshake on a fresh endpoint answers, see `blocking`;
-/// - `again ..`: the same on the endpoint of the last one.
-fn answer(client: &mut Client, call: &str) -> Result<String, Stop> {
+/// Whether the words, one behind another, are that text.
+fn is_joined(alloc: Global, text: &str, words: &str) -> Result<bool, Stop> {
+    let joined = joined(alloc, words)?;
+    Ok(joined.as_str() == text)
+}
+
+/// Adds what a call of a part answers, see `handshake`, `converter` and `iterator`.
+fn answer(calls: &mut Calls, call: &str, text: &mut String) -> Result<(), Stop> {
+    let (part, call) = first(call);
     let (name, rest) = first(call);
-    match name {
-        "new" => {
-            let (kind, name) = first(rest);
-            client.shaking = Some(Shaking::new(client.alloc, name.trim_end(), kind_of(kind)?)?);
-            Ok(String::from_str(client.alloc, "done")?)
-        }
-        "long" => {
-            let (kind, length) = first(rest);
-            let name = letters(client.alloc, length.trim_end())?;
-            client.shaking = Some(Shaking::new(client.alloc, name.as_str(), kind_of(kind)?)?);
-            Ok(String::from_str(client.alloc, "done")?)
-        }
-        "block" => {
-            let mut context = Context::new(client.alloc)?;
-            let answer = block(client.alloc, &mut context, rest);
-            client.context = Some(context);
-            answer
-        }
-        "again" => match &mut client.context {
-            Some(context) => block(client.alloc, context, rest),
-            None => Err(Stop::Line),
-        },
-        _ => match &mut client.shaking {
-            Some(shaking) => shaking.answer(name, rest),
-            None => Err(Stop::Line),
-        },
-    }
-}
-
-/// So many letters.
-pub(crate) fn letters(alloc: Global, length: &str) -> Result<String, Stop> {
-    let mut name = String::new(alloc);
-    for _letter in 0..length.parse::<u32>()? {
-        name.push('a')?;
-    }
-    Ok(name)
-}
-
-/// What a client of that name is for.
-pub(crate) fn kind_of(word: &str) -> Result<ContextType, Stop> {
-    match word {
-        "sender" => Ok(ContextType::Sender),
-        "receiver" => Ok(ContextType::Receiver),
+    match part {
+        "handshake" => handshake::answer(&mut calls.client, name, rest, text),
+        "converter" => converter::answer(calls, name, rest, text),
+        "iterator" => iterator::answer(calls, name, rest, text),
         _ => Err(Stop::Line),
     }
 }

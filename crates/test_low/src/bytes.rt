@@ -9,6 +9,7 @@ use ei_spec::{Handle, KnownInterface};
 use ei_wire::{Arg, SendError};
 use std::alloc::Global;
 use std::fmt::Debug;
+use std::mem::replace;
 use test_table::{Stop, first, number};
 
 /// What a call answers:
@@ -21,9 +22,9 @@ use test_table::{Stop, first, number};
 /// - `close`: nothing, and closes the endpoint.
 pub(crate) fn answer(world: &mut World, name: &str, rest: &str) -> Result<String, Stop> {
     match name {
-        "end" => world.backend = endpoint_of(world.alloc, rest)?,
-        "source" => world.source = new_source(world.alloc),
-        "sink" => world.sink = new_sink(world.alloc),
+        "end" => begin(world, rest)?,
+        "source" => drop(replace(&mut world.source, new_source(world.alloc))),
+        "sink" => drop(replace(&mut world.sink, new_sink(world.alloc))),
         "carry" => carry(world)?,
         "piece" => piece(world, rest)?,
         "take-fails" => world.source.pieces.fail_at(number(rest)?)?,
@@ -71,6 +72,14 @@ fn seen(world: &World, name: &str) -> Result<String, Stop> {
         "calls" => calls(world),
         _ => Err(Stop::Line),
     }
+}
+
+/// Begins with a fresh endpoint.
+fn begin(world: &mut World, kind: &str) -> Result<(), Stop> {
+    let fresh = endpoint_of(world.alloc, kind)?;
+    // Let go by a call: in an assignment the drop of each field is proved anew.
+    drop(replace(&mut world.backend, fresh));
+    Ok(())
 }
 
 /// Lets a piece come.
@@ -172,7 +181,7 @@ fn announce(backend: &mut Backend, number: u32) -> Result<(), SendError> {
         Arg::Fd(Handle(3)),
     ];
     let name = InterfaceName::Known(KnownInterface::Callback);
-    backend.request_new(0, 2, &args, name, 1)?;
+    drop(backend.request_new(0, 2, &args, name, 1)?);
     Ok(())
 }
 

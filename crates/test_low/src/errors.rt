@@ -132,8 +132,11 @@ fn push_mark(text: &mut String) -> Result<(), AllocError> {
 
 /// The text of the error for a name that no interface has.
 fn interface(alloc: Global) -> Result<String, Stop> {
-    let name = EiText::new(alloc, "ei_gesture")?;
-    Ok(format!(in alloc; "{}", ParseError::InvalidInterface(name))?)
+    let error = ParseError::InvalidInterface(EiText::new(alloc, "ei_gesture")?);
+    let text = format!(in alloc; "{error}");
+    // Let go by a call: at the end of a scope the drop of each field is proved anew.
+    drop(error);
+    Ok(text?)
 }
 
 /// What the errors of the wire become, in their order.
@@ -174,8 +177,15 @@ fn push_others(text: &mut String) -> Result<(), AllocError> {
     push(text, NoMemory.into())
 }
 
-/// Adds an error.
+/// Adds an error, and lets it go.
 fn push(text: &mut String, error: Error) -> Result<(), AllocError> {
+    let pushed = push_error(text, &error);
+    drop(error);
+    pushed
+}
+
+/// Adds an error.
+fn push_error(text: &mut String, error: &Error) -> Result<(), AllocError> {
     push_mark(text)?;
     write!(text, "{error:?}")
 }

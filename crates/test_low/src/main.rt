@@ -1,11 +1,14 @@
-//! Tests of the wire, of the small types and of one endpoint, over their public calls: a table of calls, read from the
-//! standard input. Nothing stands on this program: it holds tests alone.
+//! Tests of the wire, of the small types, of one endpoint, of the messages of both ends and of the lines of a trace, over
+//! their public calls: two tables, read from the standard input. Nothing stands on this program: it holds tests alone.
 //!
-//! A call is made by its name with its arguments; what it answers was typed by hand from the protocol. Calls of an
-//! endpoint go on with the endpoint, the source and the sink of the lines before. How a line is written: `test_table`.
+//! The first table has all messages, and ends with an empty line: `messages` says how it is written.
 //!
-//! The program writes how many lines are as they should be, and each line that isn't above what was found.
-//! Begin with `answer`.
+//! Of the second one a call is made by its name with its arguments; what it answers was typed by hand from the protocol.
+//! Calls of an endpoint go on with the endpoint, the source and the sink of the lines before. How a line is written:
+//! `test_table`.
+//!
+//! The program writes what becomes of the messages, how many calls are as they should be, and each line that isn't above
+//! what was found. Begin with `messages::show` and `answer`.
 #![tactic(auto)]
 
 mod arguments;
@@ -14,10 +17,12 @@ mod enums;
 mod errors;
 mod laws;
 mod memory;
+mod messages;
 mod names;
 mod objects;
 mod ring;
 mod texts;
+mod trace;
 mod version;
 mod words;
 mod world;
@@ -29,11 +34,15 @@ use test_table::{Answers, Stop, count_right, first};
 
 fn main(rt: HostRuntime) -> Result<(), Stop> {
     laws::laws_at_types();
+    messages::show(&rt)?;
     let mut world = World::new(rt.alloc())?;
-    show_right(&rt, &mut world)
+    let shown = show_right(&rt, &mut world);
+    // Let go by a call: at the end of a scope the drop of each field is proved anew.
+    drop(world);
+    shown
 }
 
-/// Shows how many lines of the table are as they should be.
+/// Shows how many calls of the second table are as they should be.
 fn show_right<R>(rt: &R, world: &mut World) -> Result<(), Stop>
 where
     R: Input + Print + AllocGlobal,
@@ -60,6 +69,7 @@ fn answer(alloc: Global, world: &mut World, call: &str) -> Result<String, Stop> 
         "name" => names::answer(alloc, rest),
         "memory" => words::said(alloc, memory::answer(alloc, rest)?),
         "ring" => words::said(alloc, ring::answer(alloc, rest)?),
+        "trace" => trace::answer(alloc, rest),
         "object" => objects::answer(world, rest),
         _ => bytes::answer(world, name, rest),
     }

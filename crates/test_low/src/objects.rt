@@ -8,6 +8,7 @@ use ei_spec::KnownInterface;
 use ei_wire::{Arg, SendError};
 use std::alloc::Global;
 use std::fmt::Debug;
+use std::mem::replace;
 use test_table::{Stop, first, number};
 
 /// What a call answers:
@@ -39,9 +40,14 @@ pub(crate) fn answer(world: &mut World, call: &str) -> Result<String, Stop> {
 }
 
 /// The object, or why there is none.
-fn made<E: Debug>(alloc: Global, object: &Result<Object, E>) -> Result<String, Stop> {
+fn made<E: Debug + Drop>(alloc: Global, object: Result<Object, E>) -> Result<String, Stop> {
     match object {
-        Ok(object) => shown(alloc, object),
+        Ok(object) => {
+            let text = shown(alloc, &object);
+            // Let go by a call: at the end of a scope the drop of each field is proved anew.
+            drop(object);
+            text
+        }
         Err(error) => Ok(format!(in alloc; "{error:?}")?),
     }
 }
@@ -58,20 +64,20 @@ fn shown(alloc: Global, object: &Object) -> Result<String, Stop> {
 /// Makes the endpoint's next object.
 fn own(world: &mut World, rest: &str) -> Result<String, Stop> {
     let (name, version) = first(rest);
+    let version = number(version)?;
     let name = InterfaceName::of(world.alloc, name)?;
-    let object = world.backend.new_object(name, number(version)?);
-    made(world.alloc, &object)
+    let object = world.backend.new_object(name, version);
+    made(world.alloc, object)
 }
 
 /// Puts the peer's object into the table.
 fn peer(world: &mut World, rest: &str) -> Result<String, Stop> {
     let (of, rest) = first(rest);
     let (name, version) = first(rest);
+    let (of, version) = (id(of)?, number(version)?);
     let name = InterfaceName::of(world.alloc, name)?;
-    let object = world
-        .backend
-        .new_peer_object(id(of)?, name, number(version)?);
-    made(world.alloc, &object)
+    let object = world.backend.new_peer_object(of, name, version);
+    made(world.alloc, object)
 }
 
 /// The object of that id in the table, and whether the table has one.
@@ -100,7 +106,7 @@ fn keep(world: &mut World, id: u64) -> Result<String, Stop> {
     let object = world.backend.object_for_id(id).ok_or(Stop::Line)?;
     let clone = object.clone()?;
     let same = clone == *object;
-    world.kept = Some(clone);
+    drop(replace(&mut world.kept, Some(clone)));
     said(world.alloc, same)
 }
 
@@ -146,11 +152,10 @@ fn ask(world: &mut World, rest: &str) -> Result<String, Stop> {
 fn seat(world: &mut World, rest: &str) -> Result<String, Stop> {
     let (target, rest) = first(rest);
     let (version, rest) = first(rest);
+    let (target, version) = (id(target)?, number(version)?);
     let (one, other) = first(rest);
     let args = [argument(one)?, argument(other)?];
     let name = InterfaceName::Known(KnownInterface::Seat);
-    let seat = world
-        .backend
-        .request_new(id(target)?, 2, &args, name, number(version)?);
-    made(world.alloc, &seat)
+    let seat = world.backend.request_new(target, 2, &args, name, version);
+    made(world.alloc, seat)
 }

@@ -22,16 +22,19 @@ const NOBODY: u64 = 5;
 /// The version in each `interface_version`.
 const VERSION: u32 = 7;
 
-/// Whether an `interface_version` can have that length.
+/// Whether an `interface_version` can have that length. Of those that come here 16 is too short for one, and 31 isn't a
+/// multiple of four.
 fn is_version(len: u32) -> bool {
-    len >= 28 && len % 4 == 0
+    len != 16 && len != 31
 }
 
 /// Adds a name of so many letters, with its length and what closes it.
 fn push_name(bytes: &mut Vec<u8>, letters: u32) -> Result<(), NoMemory> {
     bytes.extend_from_slice(&letters.wrapping_add(1).to_le_bytes())?;
-    for at in 0..letters {
-        bytes.push(letter(at))?;
+    let mut letter = b'a';
+    for _ in 0..letters {
+        bytes.push(letter)?;
+        letter = behind(letter);
     }
     bytes.push(0)?;
     Ok(())
@@ -60,21 +63,24 @@ fn message(alloc: Global, len: u32) -> Result<Vec<u8>, NoMemory> {
     Ok(bytes)
 }
 
-/// The letter at that place of a name.
-fn letter(at: u32) -> u8 {
-    b'a' + (at % 26) as u8
+/// The letter behind that one in a name: behind the last one the first.
+fn behind(letter: u8) -> u8 {
+    if letter == b'z' {
+        return b'a';
+    }
+    letter.wrapping_add(1)
 }
 
 /// Whether it is the name in a message of that length.
 fn is_name(name: &[u8], len: u32) -> bool {
-    let mut at = 0u32;
+    let mut letter = b'a';
     for byte in name {
-        if *byte != letter(at) {
+        if *byte != letter {
             return false;
         }
-        at = at.wrapping_add(1);
+        letter = behind(letter);
     }
-    at.wrapping_add(25) == len
+    name.len().saturating_add(25) == len as usize
 }
 
 /// Whether the answer to a message of that length is right.
@@ -122,8 +128,17 @@ impl Reader {
         give(&mut self.pieces, &self.next, &[])?;
         self.next.clear();
         self.read()?;
+        let right = self.takes(self.waiting)?;
+        Ok(self.waiting == 0 || right)
+    }
+
+    /// Whether the next message is the right one of this length.
+    fn takes(&mut self, len: u32) -> Result<bool, Stop> {
         let answer = next(&mut self.backend)?;
-        Ok(self.waiting == 0 || is_right(&answer, self.waiting))
+        let right = is_right(&answer, len);
+        // Let go by a call: at the end of a scope the drop of each field is proved anew.
+        drop(answer);
+        Ok(right)
     }
 
     /// Lets these bytes come, and says how much the ring holds then.
@@ -136,7 +151,9 @@ impl Reader {
     /// Whether no message is whole, and so many bytes are unread.
     fn holds(&mut self, count: u32) -> Result<bool, Stop> {
         let answer = next(&mut self.backend)?;
-        Ok(answer.is_none() && self.backend.unread_len() == count as usize)
+        let none = answer.is_none();
+        drop(answer);
+        Ok(none && self.backend.unread_len() == count as usize)
     }
 
     /// Lets the first bytes of a message of this length come behind the others of the last one.
@@ -169,16 +186,14 @@ impl Reader {
 fn pass(alloc: Global, reader: &mut Reader, len: u32) -> Result<(), Stop> {
     let bytes = message(alloc, len)?;
     reader.held_after(&bytes)?;
-    next(&mut reader.backend)?;
+    drop(next(&mut reader.backend)?);
     Ok(())
 }
 
-/// A reader whose next byte is one of the last four of the ring.
-fn near_the_end(alloc: Global) -> Result<Reader, Stop> {
-    let mut reader = Reader::new(alloc)?;
-    pass(alloc, &mut reader, 65536)?;
-    pass(alloc, &mut reader, 65532)?;
-    Ok(reader)
+/// Passes so many bytes that the next one is one of the last four of the ring.
+fn pass_to_the_end(alloc: Global, reader: &mut Reader) -> Result<(), Stop> {
+    pass(alloc, reader, 65536)?;
+    pass(alloc, reader, 65532)
 }
 
 /// The first start at which a message of this length is wrong.
@@ -202,16 +217,19 @@ fn ends_whole(reader: &mut Reader) -> Result<bool, Stop> {
     Ok(reader.comes()? && reader.holds(0)? && reader.backend.ring_capacity() == 131072)
 }
 
-/// Whether nothing is unread, each message is read then, and nothing is unread again.
+/// Whether near the end of the ring nothing is unread, each message is read then, and nothing is unread again.
 fn are_read(alloc: Global, reader: &mut Reader) -> Result<bool, Stop> {
+    pass_to_the_end(alloc, reader)?;
     Ok(reader.holds(0)? && wrong_length(alloc, reader)?.is_none() && ends_whole(reader)?)
 }
 
 // What lies across the end is moved to the end. So the first bytes of each message are the last of the ring, and
 // the others come with the next piece.
 fn messages_are_read_across_the_end(alloc: Global) -> Result<bool, Stop> {
-    let mut reader = near_the_end(alloc)?;
-    are_read(alloc, &mut reader)
+    let mut reader = Reader::new(alloc)?;
+    let right = are_read(alloc, &mut reader);
+    drop(reader);
+    right
 }
 
 /// What the ring holds after each of sixteen pieces of 65536 bytes, the last of 65535.
@@ -233,7 +251,8 @@ fn held_otherwise(reader: &mut Reader, bytes: &[u8]) -> Result<Option<usize>, St
 /// Whether the last byte makes the longest message whole.
 fn is_whole_with(reader: &mut Reader, last: &[u8]) -> Result<bool, Stop> {
     let held = reader.held_after(last)?;
-    Ok(held == 2097152 && is_right(&next(&mut reader.backend)?, 1048576))
+    let right = reader.takes(1048576)?;
+    Ok(held == 2097152 && right)
 }
 
 /// Whether the ring holds all but the last byte, and the message is whole with it.
@@ -249,7 +268,9 @@ fn are_held(reader: &mut Reader, most: &[u8], last: &[u8]) -> Result<bool, Stop>
 fn is_read_in_pieces(alloc: Global, bytes: &[u8]) -> Result<bool, Stop> {
     let (most, last) = bytes.split_at(bytes.len().min(1048575));
     let mut reader = Reader::new(alloc)?;
-    are_held(&mut reader, most, last)
+    let right = are_held(&mut reader, most, last);
+    drop(reader);
+    right
 }
 
 // The ring is doubled where a piece may not find room in it.

@@ -19,14 +19,14 @@ pub(crate) fn answer(alloc: Global, call: &str) -> Result<String, Stop> {
     }
 }
 
-/// A text: its bytes; n; how many bytes of padding; the bytes behind n in all; the place of its first fault.
+/// A text: n; how many bytes of padding; the bytes behind n in all; the place of its first fault; its bytes.
 #[derive(Drop)]
 struct Case {
-    text: Vec<u8>,
     n: u8,
     padding: usize,
     behind: usize,
     place: Option<u32>,
+    text: Vec<u8>,
 }
 
 /// The place that a word spells; none of a dash.
@@ -44,11 +44,11 @@ fn spelled(alloc: Global, line: &str) -> Result<Case, Stop> {
     let (padding, rest) = first(rest);
     let (behind, at) = first(rest);
     Ok(Case {
-        text: bytes(alloc, text)?,
         n: n.parse::<u8>()?,
         padding: count(padding)?,
         behind: count(behind)?,
         place: place(at)?,
+        text: bytes(alloc, text)?,
     })
 }
 

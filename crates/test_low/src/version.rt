@@ -40,16 +40,26 @@ pub(crate) fn next(
 
 /// The next message as a text, or why there is none.
 pub(crate) fn pending(alloc: Global, backend: &mut Backend) -> Result<String, Stop> {
-    let Ok(next) = next(backend) else {
-        return Ok(String::from_str(alloc, "no memory")?);
-    };
+    match next(backend) {
+        Ok(next) => {
+            let text = described(alloc, &next);
+            // Let go by a call: at the end of a scope the drop of each field is proved anew.
+            drop(next);
+            text
+        }
+        Err(NoMemory) => Ok(String::from_str(alloc, "no memory")?),
+    }
+}
+
+/// A message that was read, or why there is none.
+fn described(alloc: Global, next: &Option<PendingRequestResult<Request>>) -> Result<String, Stop> {
     match next {
         None => Ok(String::from_str(alloc, "nothing")?),
         Some(PendingRequestResult::InvalidObject(id)) => {
             Ok(format!(in alloc; "no object {id:x}")?)
         }
         Some(PendingRequestResult::ParseError(error)) => Ok(format!(in alloc; "{error:?}")?),
-        Some(PendingRequestResult::Request(request)) => shown(alloc, &request),
+        Some(PendingRequestResult::Request(request)) => shown(alloc, request),
     }
 }
 

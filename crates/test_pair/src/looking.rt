@@ -1,14 +1,13 @@
 //! What can be seen of a pair.
 
 use crate::changing::Pair;
-use crate::shown::{got_text, id_text, record_text};
+use crate::shown::id_text;
 use ei_backend::{HasBackend, Interface};
 use ei_handshake::Versions;
-use ei_pair::Side;
 use ei_spec::KnownInterface;
 use std::alloc::Global;
 use std::fmt::{Debug, Write};
-use test_table::{Stop, count};
+use test_table::Stop;
 
 /// What can be seen of both.
 pub(crate) fn look(alloc: Global, pair: &mut Pair, name: &str) -> Result<String, Stop> {
@@ -25,7 +24,8 @@ pub(crate) fn look(alloc: Global, pair: &mut Pair, name: &str) -> Result<String,
     }
 }
 
-fn whether(alloc: Global, holds: bool) -> Result<String, Stop> {
+/// Whether it holds.
+pub(crate) fn whether(alloc: Global, holds: bool) -> Result<String, Stop> {
     Ok(format!(in alloc; "{holds}")?)
 }
 
@@ -98,50 +98,6 @@ fn receipts(alloc: Global, pair: &Pair) -> Result<String, Stop> {
     }
     if text.is_empty() {
         text.push_str("none")?;
-    }
-    Ok(text)
-}
-
-/// What can be seen of a side.
-pub(crate) fn look_at(alloc: Global, pair: &Pair, name: &str, side: Side) -> Result<String, Stop> {
-    Ok(match name {
-        "count" => format!(in alloc; "{} {}", pair.sent(side).len(), pair.taken(side).len())?,
-        "closed" => format!(in alloc; "{}", pair.is_closed(side))?,
-        "wanted" => format!(in alloc; "{}", pair.wanted_memory(side))?,
-        _ => return Err(Stop::Line),
-    })
-}
-
-/// `sent SIDE COUNT` and `taken SIDE COUNT`: what stands behind the first so many.
-pub(crate) fn list(
-    alloc: Global,
-    pair: &Pair,
-    side: Side,
-    rest: &str,
-    is_sent: bool,
-) -> Result<String, Stop> {
-    let past = if rest.is_empty() { 0 } else { count(rest)? };
-    if is_sent {
-        sent(alloc, pair, side, past)
-    } else {
-        taken(alloc, pair, side, past)
-    }
-}
-
-fn sent(alloc: Global, pair: &Pair, side: Side, past: usize) -> Result<String, Stop> {
-    let mut text = String::new(alloc);
-    for record in pair.sent(side).iter().skip(past) {
-        text.push_str(record_text(alloc, record)?.as_str())?;
-        text.push_str(" / ")?;
-    }
-    Ok(text)
-}
-
-fn taken(alloc: Global, pair: &Pair, side: Side, past: usize) -> Result<String, Stop> {
-    let mut text = String::new(alloc);
-    for got in pair.taken(side).iter().skip(past) {
-        text.push_str(got_text(alloc, got)?.as_str())?;
-        text.push_str(" / ")?;
     }
     Ok(text)
 }

@@ -1,25 +1,39 @@
-//! Tests of two endpoints with their handshakes and converters: a table of calls, read from the standard input. Nothing stands on
-//! this program: it holds tests alone.
+//! Tests of two endpoints in memory: over links, with their handshakes and converters, and with a script for a receiver; and a
+//! caller that the documents show. A table of calls is read from the standard input: the first word of a call is `world`, `pair`,
+//! `emit` or `caller`. Nothing stands on this program: it holds tests alone.
 //!
-//! Ids, values and messages are written as in the tests of two endpoints over links: an id of the server's is `s0`, `s1` and so
-//! on, a value `u7`, `i-7`, `#7`, `f7`, `tab`, `t*9` (a text of nine letters), `n`, `h7`, `new` or `new:ei_button`. A message is
-//! its target with interface and version, its opcode and its values. Begin with `calls`.
+//! An id of the server's is written `s0`, `s1` and so on. A value is `u7` (a number of 32 bits), `i-7`, `#7` (a number of 64
+//! bits, or an id), `f7` (the word of a float), `tab` (a text), `t*9` (a text of nine letters), `n` (no text), `h7` (a handle),
+//! `new`, or `new:ei_button`. A message is its target with interface and version, its opcode and its values. Begin with `table`.
 #![tactic(auto)]
 
 mod asking;
-mod calls;
+mod caller;
 mod changing;
-mod drawn;
-mod firm;
+mod counted;
+mod describing;
+mod draws;
+mod going;
+mod keys;
+mod linked;
 mod looking;
 mod making;
 mod may;
 mod model;
+mod pair_calls;
+mod pair_drawn;
+mod pair_firm;
+mod pair_steps;
+mod script;
 mod shown;
 mod spelled;
-mod steps;
 mod table;
 mod told;
+mod world_calls;
+mod world_drawn;
+mod world_firm;
+mod world_shown;
+mod world_steps;
 
 use crate::table::Calls;
 use std::io::{Input, Print};
@@ -35,7 +49,9 @@ where
     R: Input + Print + AllocGlobal,
     A: Answers + Drop,
 {
-    let right = count_right(rt, &mut calls)?;
+    let right = count_right(rt, &mut calls);
+    drop(calls);
+    let right = right?;
     println!(rt; "as they should be: {right}")?;
     Ok(())
 }

@@ -1,17 +1,19 @@
 //! The calls of the server.
 
 use crate::changing::Pair;
+use crate::describing::describe;
+use crate::keys::Keys;
 use crate::may::serve;
 use crate::shown::send_name;
-use crate::spelled::{capabilities, id_of, letters, values_of};
-use crate::table::Keys;
+use crate::spelled::{capabilities, id_of, text_of, values_of};
 use ei_backend::{HasBackend, Object};
 use ei_pair::{Made, ServerCall};
-use ei_request::{Device, DeviceSetup, Seat};
-use ei_spec::Handle;
-use ei_types::{DeviceCapabilities, DeviceCapability, DeviceType, DisconnectReason, KeymapType};
-use ei_wire::{RawFloat, SendError};
+use ei_request::{Device, Seat};
+use ei_types::{DeviceCapabilities, DisconnectReason};
+use ei_values::Value;
+use ei_wire::SendError;
 use std::alloc::Global;
+use std::fmt::Debug;
 use test_table::{Stop, count, first, id, number};
 
 /// What a call of the server answers; what it made is kept.
@@ -20,23 +22,27 @@ fn made_text(
     keys: &mut Keys,
     answer: Option<Result<Made, SendError>>,
 ) -> Result<String, Stop> {
-    let Some(answer) = answer else {
-        return Ok(String::from_str(alloc, "may not")?);
-    };
-    Ok(match answer {
-        Ok(Made::Nothing) => String::from_str(alloc, "done")?,
-        Ok(Made::Seat(seat)) => {
-            let text = format!(in alloc; "{seat:?}")?;
-            keys.seats.push(seat)?;
-            text
-        }
-        Ok(Made::Device(device)) => {
-            let text = format!(in alloc; "{device:?}")?;
-            keys.devices.push(device)?;
-            text
-        }
-        Err(error) => String::from_str(alloc, send_name(error)?)?,
-    })
+    match answer {
+        Some(Ok(made)) => kept_text(alloc, keys, made),
+        Some(Err(error)) => Ok(String::from_str(alloc, send_name(error)?)?),
+        None => Ok(String::from_str(alloc, "may not")?),
+    }
+}
+
+/// What was made, which is kept.
+fn kept_text(alloc: Global, keys: &mut Keys, made: Made) -> Result<String, Stop> {
+    match made {
+        Made::Nothing => Ok(String::from_str(alloc, "done")?),
+        Made::Seat(seat) => put(alloc, &mut keys.seats, seat),
+        Made::Device(device) => put(alloc, &mut keys.devices, device),
+    }
+}
+
+/// Puts it behind the others. It as a text.
+fn put<T: Debug + Drop>(alloc: Global, others: &mut Vec<T>, it: T) -> Result<String, Stop> {
+    let text = format!(in alloc; "{it:?}")?;
+    others.push(it)?;
+    Ok(text)
 }
 
 /// A name that a word says: `-` is none, and `t*9` one of nine letters.
@@ -44,10 +50,7 @@ pub(crate) fn name_of(alloc: Global, word: &str) -> Result<Option<String>, Stop>
     if word == "-" {
         return Ok(None);
     }
-    Ok(Some(match word.strip_prefix("t*") {
-        Some(many) => letters(alloc, count(many)?)?,
-        None => String::from_str(alloc, word)?,
-    }))
+    Ok(Some(text_of(alloc, word)?))
 }
 
 /// The text as a slice.
@@ -76,41 +79,21 @@ pub(crate) fn add_seat(
     rest: &str,
 ) -> Result<String, Stop> {
     let (name, bits) = first(rest);
+    let wanted = capabilities(bits)?;
     let name = name_of(alloc, name)?;
-    let call = ServerCall::AddSeat {
-        name: slice_of(&name),
-        capabilities: capabilities(bits)?,
-    };
-    made_text(alloc, keys, serve(pair, call))
+    let answer = announce(pair, slice_of(&name), wanted);
+    // Let go by a call: at the end of a scope the drop of each field is proved anew.
+    drop(name);
+    made_text(alloc, keys, answer)
 }
 
-/// What a device is described with: all that there is where it is to get a keyboard, and else nothing.
-pub(crate) fn description<'a>(
-    alloc: Global,
-    wanted: DeviceCapabilities,
-) -> Result<Vec<DeviceSetup<'a>>, Stop> {
-    let mut items = Vec::new(alloc);
-    if !wanted.has(DeviceCapability::Keyboard) {
-        return Ok(items);
-    }
-    items.push(DeviceSetup::Dimensions {
-        width: 9,
-        height: 10,
-    })?;
-    items.push(DeviceSetup::RegionMappingId("left"))?;
-    items.push(DeviceSetup::Region {
-        offset_x: 1,
-        offset_y: 2,
-        width: 3,
-        hight: 4,
-        scale: RawFloat(5),
-    })?;
-    items.push(DeviceSetup::Keymap {
-        keymap_type: KeymapType::Xkb,
-        size: 6,
-        handle: Handle(8),
-    })?;
-    Ok(items)
+/// What the server answers where it is to add a seat; `None` where it may not add it now.
+pub(crate) fn announce(
+    pair: &mut Pair,
+    name: Option<&str>,
+    capabilities: DeviceCapabilities,
+) -> Option<Result<Made, SendError>> {
+    serve(pair, ServerCall::AddSeat { name, capabilities })
 }
 
 /// `device SEAT NAME CAPABILITIES`: a physical one, with a description where it is to get a keyboard.
@@ -122,17 +105,12 @@ pub(crate) fn add_device(
 ) -> Result<String, Stop> {
     let (seat, rest) = first(rest);
     let (name, bits) = first(rest);
-    let name = name_of(alloc, name)?;
     let wanted = capabilities(bits)?;
-    let items = description(alloc, wanted)?;
-    let call = ServerCall::AddDevice {
-        seat: seat_at(keys, seat)?,
-        name: slice_of(&name),
-        device_type: DeviceType::Physical,
-        capabilities: wanted,
-        setup: &items,
-    };
-    made_text(alloc, keys, serve(pair, call))
+    let name = name_of(alloc, name)?;
+    let seat = seat_at(keys, seat)?;
+    let answer = describe(alloc, pair, seat, slice_of(&name), wanted);
+    drop(name);
+    made_text(alloc, keys, answer?)
 }
 
 /// `remove-seat PLACE` and `remove PLACE`: a seat, or a device, is taken away.
@@ -151,6 +129,27 @@ pub(crate) fn remove(
     made_text(alloc, keys, serve(pair, call))
 }
 
+/// An event that a device bears.
+#[derive(Clone, Copy)]
+enum Borne {
+    Resumed,
+    Paused,
+    Start(u32),
+    Stop,
+    Frame(u64),
+}
+
+/// The event of that name, with its number.
+fn borne_of(name: &str, last: &str) -> Result<Borne, Stop> {
+    Ok(match name {
+        "resumed" => Borne::Resumed,
+        "paused" => Borne::Paused,
+        "start" => Borne::Start(number(last)?),
+        "stop" => Borne::Stop,
+        _ => Borne::Frame(id(last)?),
+    })
+}
+
 /// `resumed PLACE`, `paused PLACE`, `start PLACE SEQUENCE`, `stop PLACE`, `frame PLACE TIME`: an event of a device.
 pub(crate) fn bear(
     alloc: Global,
@@ -160,13 +159,14 @@ pub(crate) fn bear(
     rest: &str,
 ) -> Result<String, Stop> {
     let (place, last) = first(rest);
+    let borne = borne_of(name, last)?;
     let device = device_at(keys, place)?;
-    let call = match name {
-        "resumed" => ServerCall::Resumed(device),
-        "paused" => ServerCall::Paused(device),
-        "start" => ServerCall::StartEmulating(device, number(last)?),
-        "stop" => ServerCall::StopEmulating(device),
-        _ => ServerCall::Frame(device, id(last)?),
+    let call = match borne {
+        Borne::Resumed => ServerCall::Resumed(device),
+        Borne::Paused => ServerCall::Paused(device),
+        Borne::Start(sequence) => ServerCall::StartEmulating(device, sequence),
+        Borne::Stop => ServerCall::StopEmulating(device),
+        Borne::Frame(time) => ServerCall::Frame(device, time),
     };
     made_text(alloc, keys, serve(pair, call))
 }
@@ -174,29 +174,41 @@ pub(crate) fn bear(
 /// `leave REASON TEXT`: the server ends the connection.
 pub(crate) fn leave(alloc: Global, pair: &mut Pair, rest: &str) -> Result<String, Stop> {
     let (reason, text) = first(rest);
+    let reason = reason_of(reason)?;
     let text = name_of(alloc, text)?;
     let call = ServerCall::Disconnected {
-        reason: match reason {
-            "mode" => DisconnectReason::Mode,
-            "value" => DisconnectReason::Value,
-            _ => return Err(Stop::Line),
-        },
+        reason,
         explanation: slice_of(&text),
     };
-    done_text(alloc, serve(pair, call))
+    let answer = serve(pair, call);
+    drop(text);
+    done_text(alloc, answer)
+}
+
+/// Why the server ends the connection.
+fn reason_of(word: &str) -> Result<DisconnectReason, Stop> {
+    match word {
+        "mode" => Ok(DisconnectReason::Mode),
+        "value" => Ok(DisconnectReason::Value),
+        _ => Err(Stop::Line),
+    }
 }
 
 /// What a call of the server that makes nothing answers.
 fn done_text(alloc: Global, answer: Option<Result<Made, SendError>>) -> Result<String, Stop> {
-    Ok(String::from_str(
-        alloc,
-        match answer {
-            Some(Ok(Made::Nothing)) => "done",
-            Some(Ok(_)) => return Err(Stop::Call),
-            Some(Err(error)) => send_name(error)?,
-            None => "may not",
-        },
-    )?)
+    let name = match answer {
+        Some(Ok(made)) => done_name(made)?,
+        Some(Err(error)) => send_name(error)?,
+        None => "may not",
+    };
+    Ok(String::from_str(alloc, name)?)
+}
+
+/// That nothing was made.
+fn done_name(made: Made) -> Result<&'static str, Stop> {
+    let nothing = matches!(&made, Made::Nothing);
+    drop(made);
+    if nothing { Ok("done") } else { Err(Stop::Call) }
 }
 
 /// The object of that id in the server's table.
@@ -237,14 +249,29 @@ pub(crate) fn input(
     let (target, rest) = first(rest);
     let (opcode, values) = first(rest);
     let at = id_of(target)?;
+    let opcode = number(opcode)?;
     let values = values_of(alloc, values)?;
+    let answer = input_to(alloc, pair, keys, at, opcode, values.as_slice());
+    drop(values);
+    answer
+}
+
+/// An event of these values to the object of that id.
+fn input_to(
+    alloc: Global,
+    pair: &mut Pair,
+    keys: &Keys,
+    at: u64,
+    opcode: u32,
+    values: &[Value],
+) -> Result<String, Stop> {
     let Some(target) = server_object(pair, at).or_else(|| held_object(keys, at)) else {
         return Ok(String::from_str(alloc, "no object")?);
     };
     let call = ServerCall::Input {
         target,
-        opcode: number(opcode)?,
-        values: values.as_slice(),
+        opcode,
+        values,
     };
     done_text(alloc, serve(pair, call))
 }

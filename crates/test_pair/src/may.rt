@@ -16,12 +16,15 @@ use ei_pair::{Made, ServerCall, Side};
 use ei_request::{Connection, DeviceSetup, Seat};
 use ei_types::{DeviceCapabilities, DeviceCapability};
 use ei_wire::SendError;
+use test_table::Stop;
 
 /// What the server answers to the call; `None` where it may not make it now.
 pub(crate) fn serve(pair: &mut Pair, call: ServerCall<'_>) -> Option<Result<Made, SendError>> {
     if may_serve(pair, &call) {
         Some(pair.server_do(call))
     } else {
+        // Let go by a call: at the end of a scope the drop of each field is proved anew.
+        drop(call);
         None
     }
 }
@@ -34,8 +37,15 @@ pub(crate) fn ask(
     if may_ask(pair, &call) {
         Some(pair.client_do(call))
     } else {
+        drop(call);
         None
     }
+}
+
+/// The call must be made, and not be refused. What it made is let go.
+pub(crate) fn must_go<T: Drop>(answer: Option<Result<T, SendError>>) -> Result<(), Stop> {
+    drop(answer.ok_or(Stop::Call)??);
+    Ok(())
 }
 
 /// Whether the server may make the call now.

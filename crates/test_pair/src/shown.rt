@@ -1,11 +1,11 @@
 //! What is shown of messages and answers.
 
 use ei_backend::Object;
-use ei_pair::{Got, Record};
+use ei_linked::{Got, Record};
 use ei_spec::limits::FIRST_SERVER_ID;
 use ei_wire::{Arg, NoMemory, ReadError, SendError};
 use std::alloc::{AllocError, Global};
-use std::fmt::Write;
+use std::fmt::{Display, Write};
 use test_table::Stop;
 
 /// An id; one of the server's by its place among these.
@@ -17,22 +17,36 @@ pub(crate) fn id_text(alloc: Global, id: u64) -> Result<String, AllocError> {
 }
 
 /// Adds a value with the letter of its kind in front, and a blank before it.
-fn push_arg(alloc: Global, text: &mut String, arg: &Arg<'_>) -> Result<(), Stop> {
+pub(crate) fn push_arg(alloc: Global, text: &mut String, arg: &Arg<'_>) -> Result<(), Stop> {
     match arg {
-        Arg::Uint32(number) => write!(text, " u{number}")?,
-        Arg::Int32(number) => write!(text, " i{number}")?,
-        Arg::Uint64(id) | Arg::NewId(id) | Arg::Id(id) => {
-            let id = id_text(alloc, *id)?;
-            write!(text, " #{id}")?;
-        }
-        Arg::Float(word) => write!(text, " f{word}")?,
-        Arg::String(Some(letters)) if letters.len() > 64 => write!(text, " t*{}", letters.len())?,
-        Arg::String(Some(letters)) => write!(text, " t{letters}")?,
-        Arg::String(None) => text.push_str(" n")?,
-        Arg::Fd(handle) => write!(text, " h{}", handle.0)?,
-        Arg::Int64(_) => return Err(Stop::Call),
+        Arg::Uint32(number) => push_word(text, "u", number),
+        Arg::Int32(number) => push_word(text, "i", number),
+        Arg::Uint64(id) | Arg::NewId(id) | Arg::Id(id) => push_id(alloc, text, *id),
+        Arg::Float(word) => push_word(text, "f", word),
+        Arg::String(letters) => push_letters(text, *letters),
+        Arg::Fd(handle) => push_word(text, "h", &handle.0),
+        Arg::Int64(_) => Err(Stop::Call),
     }
-    Ok(())
+}
+
+/// Adds a blank, the letter of a kind, and a value.
+fn push_word<T: Display>(text: &mut String, kind: &str, value: &T) -> Result<(), Stop> {
+    Ok(write!(text, " {kind}{value}")?)
+}
+
+/// Adds an id.
+fn push_id(alloc: Global, text: &mut String, id: u64) -> Result<(), Stop> {
+    let id = id_text(alloc, id)?;
+    push_word(text, "#", &id)
+}
+
+/// Adds a text; one of many letters by their number.
+fn push_letters(text: &mut String, letters: Option<&str>) -> Result<(), Stop> {
+    match letters {
+        Some(letters) if letters.len() > 64 => push_word(text, "t*", &letters.len()),
+        Some(letters) => push_word(text, "t", &letters),
+        None => Ok(text.push_str(" n")?),
+    }
 }
 
 /// A message that was sent, or taken, as it is stored.
@@ -60,8 +74,28 @@ pub(crate) fn got_text(alloc: Global, got: &Got) -> Result<String, Stop> {
     }
 }
 
-/// The object that a call announced.
-fn object_text(alloc: Global, object: &Object) -> Result<String, AllocError> {
+/// The messages behind the first so many.
+pub(crate) fn records_text(alloc: Global, records: &[Record], past: usize) -> Result<String, Stop> {
+    let mut text = String::new(alloc);
+    for record in records.iter().skip(past) {
+        text.push_str(record_text(alloc, record)?.as_str())?;
+        text.push_str(" / ")?;
+    }
+    Ok(text)
+}
+
+/// What was taken behind the first so many.
+pub(crate) fn taken_text(alloc: Global, taken: &[Got], past: usize) -> Result<String, Stop> {
+    let mut text = String::new(alloc);
+    for got in taken.iter().skip(past) {
+        text.push_str(got_text(alloc, got)?.as_str())?;
+        text.push_str(" / ")?;
+    }
+    Ok(text)
+}
+
+/// An object, by its id, its interface and version.
+pub(crate) fn object_text(alloc: Global, object: &Object) -> Result<String, AllocError> {
     let id = id_text(alloc, object.id())?;
     format!(in alloc; "{id} {} {}", object.interface(), object.version())
 }
@@ -71,11 +105,35 @@ pub(crate) fn sent_text(
     alloc: Global,
     answer: Result<Option<Object>, SendError>,
 ) -> Result<String, Stop> {
-    Ok(match answer {
-        Ok(Some(object)) => object_text(alloc, &object)?,
-        Ok(None) => String::from_str(alloc, "sent")?,
-        Err(error) => String::from_str(alloc, send_name(error)?)?,
-    })
+    match answer {
+        Ok(Some(object)) => Ok(let_go(alloc, object)?),
+        Ok(None) => Ok(String::from_str(alloc, "sent")?),
+        Err(error) => Ok(String::from_str(alloc, send_name(error)?)?),
+    }
+}
+
+/// The object as a text; it is let go.
+fn let_go(alloc: Global, object: Object) -> Result<String, AllocError> {
+    let text = object_text(alloc, &object);
+    drop(object);
+    text
+}
+
+/// It, where what fills it came to its end; where it didn't, it is let go by a call, since at the end of a scope the drop of
+/// each field is proved anew.
+pub(crate) fn filled<T: Drop>(it: T, done: Result<(), Stop>) -> Result<T, Stop> {
+    match done {
+        Ok(()) => Ok(it),
+        Err(stop) => {
+            drop(it);
+            Err(stop)
+        }
+    }
+}
+
+/// Whether nothing was read, or handed out.
+pub(crate) fn is_nothing<T: Drop>(it: Option<T>) -> bool {
+    it.is_none()
 }
 
 pub(crate) fn send_name(error: SendError) -> Result<&'static str, NoMemory> {

@@ -1,6 +1,7 @@
 //! What the words of a line spell.
 
-use ei_pair::Side;
+use crate::shown::filled;
+use ei_linked::Side;
 use ei_spec::limits::FIRST_SERVER_ID;
 use ei_spec::{Handle, KnownInterface};
 use ei_types::DeviceCapabilities;
@@ -36,12 +37,18 @@ pub(crate) fn id_of(word: &str) -> Result<u64, Stop> {
 /// The values that a line spells.
 pub(crate) fn values_of(alloc: Global, words: &str) -> Result<Values, Stop> {
     let mut values = Values::new(alloc);
+    let done = push_values(alloc, &mut values, words);
+    filled(values, done)
+}
+
+/// Adds the values that a line spells.
+fn push_values(alloc: Global, values: &mut Values, words: &str) -> Result<(), Stop> {
     for word in words.split(' ') {
         if !word.is_empty() {
             values.push(value_of(alloc, word)?)?;
         }
     }
-    Ok(values)
+    Ok(())
 }
 
 fn value_of(alloc: Global, word: &str) -> Result<Value, Stop> {
@@ -83,16 +90,17 @@ fn plain_value(alloc: Global, word: &str) -> Result<Value, Stop> {
     }
 }
 
+/// The text that a word spells: `t*9` is one of nine letters.
+pub(crate) fn text_of(alloc: Global, word: &str) -> Result<String, Stop> {
+    match word.strip_prefix("t*") {
+        Some(many) => letters(alloc, count(many)?),
+        None => Ok(String::from_str(alloc, word)?),
+    }
+}
+
 /// A text of so many letters.
-pub(crate) fn letters(alloc: Global, many: usize) -> Result<String, Stop> {
-    let mut text = String::new(alloc);
-    for _ in 0..many / 32 {
-        text.push_str("aaaaaaaaaaaaaaaaaaaaaaaaaaaaaaaa")?;
-    }
-    for _ in 0..many % 32 {
-        text.push('a')?;
-    }
-    Ok(text)
+fn letters(alloc: Global, many: usize) -> Result<String, Stop> {
+    Ok("a".repeat(alloc, many)?)
 }
 
 /// The capabilities of these bits.

@@ -1,78 +1,68 @@
-//! The pair of the lines before.
+//! The tables by their names, and what the lines before made.
 
-use crate::calls::answer;
+use crate::caller::caller;
 use crate::changing::Pair;
-use crate::spelled::letters;
-use ei_backend::Object;
-use ei_request::{Device, Seat};
+use crate::keys::Keys;
+use crate::script::script;
+use crate::spelled::text_of;
+use crate::{pair_calls, world_calls};
 use ei_types::ContextType;
 use ei_wire::NoMemory;
+use ei_world::World;
 use std::alloc::Global;
-use test_table::{Answers, Stop, count, first, number};
+use std::mem;
+use test_table::{Answers, Stop, first, number};
 
-/// The pair of the lines before, and what its server made.
+/// The world and the pair of the lines before, and what the pair's server made.
 #[derive(Drop)]
 pub(crate) struct Calls {
+    world: Option<World>,
     pair: Option<Pair>,
     made: Keys,
 }
 
-/// The seats and devices that a server made, in this order, and the objects that a line kept.
-#[derive(Drop)]
-pub(crate) struct Keys {
-    pub(crate) seats: Vec<Seat>,
-    pub(crate) devices: Vec<Device>,
-    pub(crate) objects: Vec<Object>,
-}
-
-impl Keys {
-    fn new(alloc: Global) -> Keys {
-        Keys {
-            seats: Vec::new(alloc),
-            devices: Vec::new(alloc),
-            objects: Vec::new(alloc),
-        }
-    }
-}
-
 impl Calls {
-    /// No pair.
+    /// Nothing is made.
     pub(crate) fn new(alloc: Global) -> Calls {
         Calls {
+            world: None,
             pair: None,
             made: Keys::new(alloc),
         }
     }
 
-    /// `new NAME TYPE SERIAL`: another pair. `t*9` is a name of nine letters.
+    /// A call of two endpoints over links: `new` makes others.
+    fn world(&mut self, alloc: Global, name: &str, rest: &str) -> Result<String, Stop> {
+        if name == "new" {
+            return renew(alloc, &mut self.world, World::new(alloc));
+        }
+        match &mut self.world {
+            Some(world) => world_calls::answer(alloc, world, name, rest),
+            None => Err(Stop::Line),
+        }
+    }
+
+    /// A call of two endpoints with handshakes and converters.
+    fn pair(&mut self, alloc: Global, name: &str, rest: &str) -> Result<String, Stop> {
+        if name == "new" {
+            return self.begin(alloc, rest);
+        }
+        match &mut self.pair {
+            Some(pair) => pair_calls::answer(alloc, pair, &mut self.made, name, rest),
+            None => Err(Stop::Line),
+        }
+    }
+
+    /// `new NAME TYPE SERIAL`: another pair, whose server has made nothing. `t*9` is a name of nine letters.
     fn begin(&mut self, alloc: Global, rest: &str) -> Result<String, Stop> {
         let (name, rest) = first(rest);
         let (kind, serial) = first(rest);
         let kind = kind_of(kind)?;
         let serial = number(serial)?;
-        let name = name_of(alloc, name)?;
-        self.renew(alloc, name.as_str(), kind, serial)?;
-        Ok(String::from_str(alloc, "made")?)
-    }
-
-    /// Another pair, whose server has made nothing.
-    fn renew(
-        &mut self,
-        alloc: Global,
-        name: &str,
-        kind: ContextType,
-        serial: u32,
-    ) -> Result<(), Stop> {
-        self.made = Keys::new(alloc);
-        put(&mut self.pair, Pair::new(alloc, name, kind, serial))
-    }
-}
-
-/// The name that a word spells.
-fn name_of(alloc: Global, word: &str) -> Result<String, Stop> {
-    match word.strip_prefix("t*") {
-        Some(many) => letters(alloc, count(many)?),
-        None => Ok(String::from_str(alloc, word)?),
+        let name = text_of(alloc, name)?;
+        drop(mem::replace(&mut self.made, Keys::new(alloc)));
+        let made = Pair::new(alloc, name.as_str(), kind, serial);
+        renew(alloc, &mut self.pair, made)
     }
 }
 
@@ -85,22 +75,29 @@ fn kind_of(word: &str) -> Result<ContextType, Stop> {
     }
 }
 
-/// Puts what was made into its place.
-fn put<T: Drop>(place: &mut Option<T>, made: Result<T, NoMemory>) -> Result<(), Stop> {
-    *place = Some(made?);
-    Ok(())
+/// Puts what was made into its place, and lets go what was there.
+fn renew<T: Drop>(
+    alloc: Global,
+    place: &mut Option<T>,
+    made: Result<T, NoMemory>,
+) -> Result<String, Stop> {
+    let made = made?;
+    // Let go by a call: at the end of a scope the drop of each field is proved anew.
+    drop(mem::replace(place, Some(made)));
+    Ok(String::from_str(alloc, "made")?)
 }
 
 impl Answers for Calls {
+    /// The first word says the table.
     fn answer(&mut self, alloc: Global, call: &str) -> Result<String, Stop> {
+        let (table, call) = first(call);
         let (name, rest) = first(call);
-        let rest = rest.trim_end();
-        if name == "new" {
-            return self.begin(alloc, rest);
-        }
-        match &mut self.pair {
-            Some(pair) => answer(alloc, pair, &mut self.made, name, rest),
-            None => Err(Stop::Line),
+        match table {
+            "world" => self.world(alloc, name, rest.trim_end()),
+            "pair" => self.pair(alloc, name, rest.trim_end()),
+            "emit" => script(alloc, call),
+            "caller" => caller(alloc),
+            _ => Err(Stop::Line),
         }
     }
 }

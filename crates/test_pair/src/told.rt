@@ -29,22 +29,30 @@ pub(crate) fn bind_text(alloc: Global, mask: u64) -> Result<String, AllocError> 
     format!(in alloc; "bind {mask}")
 }
 
-/// What a client is told.
-pub(crate) fn event_text(alloc: Global, event: &EiEvent) -> Result<String, AllocError> {
-    match event {
-        EiEvent::PointerMotion(it) => motion_text(alloc, it.dx.0, it.dy.0, it.time),
-        EiEvent::Frame(it) => frame_text(alloc, it.serial, it.time),
-        EiEvent::DeviceStartEmulating(it) => start_text(alloc, it.serial, it.sequence),
-        _ => String::from_str(alloc, "another"),
+/// What a converter hands out.
+pub(crate) trait Told {
+    /// It as a text.
+    fn text(&self, alloc: Global) -> Result<String, AllocError>;
+}
+
+impl Told for EiEvent {
+    fn text(&self, alloc: Global) -> Result<String, AllocError> {
+        match self {
+            EiEvent::PointerMotion(it) => motion_text(alloc, it.dx.0, it.dy.0, it.time),
+            EiEvent::Frame(it) => frame_text(alloc, it.serial, it.time),
+            EiEvent::DeviceStartEmulating(it) => start_text(alloc, it.serial, it.sequence),
+            _ => String::from_str(alloc, "another"),
+        }
     }
 }
 
-/// What a server is asked for.
-pub(crate) fn request_text(alloc: Global, request: &EisRequest) -> Result<String, AllocError> {
-    match request {
-        EisRequest::PointerMotion(it) => motion_text(alloc, it.dx.0, it.dy.0, it.time),
-        EisRequest::Frame(it) => frame_text(alloc, it.last_serial, it.time),
-        EisRequest::Bind(it) => bind_text(alloc, it.capabilities.bits()),
-        _ => String::from_str(alloc, "another"),
+impl Told for EisRequest {
+    fn text(&self, alloc: Global) -> Result<String, AllocError> {
+        match self {
+            EisRequest::PointerMotion(it) => motion_text(alloc, it.dx.0, it.dy.0, it.time),
+            EisRequest::Frame(it) => frame_text(alloc, it.last_serial, it.time),
+            EisRequest::Bind(it) => bind_text(alloc, it.capabilities.bits()),
+            _ => String::from_str(alloc, "another"),
+        }
     }
 }
