@@ -68,7 +68,6 @@ fn read_unread(context: &mut Context, tally: &mut Tally) -> Result<(), Error> {
             break;
         };
         tally.count(&read);
-        drop(read);
     }
     Ok(())
 }

@@ -118,7 +118,6 @@ fn parse_unread(context: &mut Context, tally: &mut Tally) -> Result<(), Error> {
             break;
         };
         tally.count(&read);
-        drop(read);
     }
     Ok(())
 }
