@@ -8,12 +8,16 @@
 //! `count_right`.
 #![tactic(auto)]
 
+mod answer;
 mod names;
+mod reader;
 mod stop;
 mod table;
 mod words;
 
+pub use answer::Answer;
 pub use names::Names;
+pub use reader::Reader;
 pub use stop::Stop;
 pub use table::{Answers, count_right};
 pub use words::{bytes, count, first, id, joined, number};
