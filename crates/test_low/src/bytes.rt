@@ -1,16 +1,15 @@
 //! The bytes and handles of an endpoint: from the source, and into the sink.
 
 use crate::arguments::argument;
-use crate::version::{endpoint_of, give, pending};
-use crate::words::{bytes, count, said};
+use crate::version::{give, tell_pending};
+use crate::words::{bytes, count, tell_bytes, tell_next, tell_whether};
 use crate::world::{World, new_sink, new_source};
-use ei_backend::{Backend, InterfaceName};
+use ei_backend::{Backend, FIRST_SERVER_ID, InterfaceName};
 use ei_spec::{Handle, KnownInterface};
-use ei_wire::{Arg, SendError};
+use ei_wire::{Arg, NoMemory, SendError};
 use std::alloc::Global;
-use std::fmt::Debug;
 use std::mem::replace;
-use test_table::{Stop, first, number};
+use test_table::{Answer, Reader};
 
 /// What a call answers:
 /// - `end KIND`: nothing, and begins with a fresh endpoint;
@@ -20,20 +19,20 @@ use test_table::{Stop, first, number};
 /// - `take-fails CALL` and `put-fails CALL`: nothing, and lets that call of the source or of the sink fail;
 /// - `narrow COUNT`: nothing, and lets the sink take at most so many bytes a call;
 /// - `close`: nothing, and closes the endpoint.
-pub(crate) fn answer(world: &mut World, name: &str, rest: &str) -> Result<String, Stop> {
+pub(crate) fn tell(answer: &mut Answer, world: &mut World, name: &str, words: &mut Reader<'_>) {
     match name {
-        "end" => begin(world, rest)?,
+        "end" => begin(answer, world, words),
         "source" => drop(replace(&mut world.source, new_source(world.alloc))),
         "sink" => drop(replace(&mut world.sink, new_sink(world.alloc))),
-        "carry" => carry(world)?,
-        "piece" => piece(world, rest)?,
-        "take-fails" => world.source.pieces.fail_at(number(rest)?)?,
-        "put-fails" => world.sink.tray.fail_at(number(rest)?)?,
-        "narrow" => world.sink.most = count(rest)?,
+        "carry" => carry(answer, world),
+        "piece" => give_piece(answer, world, words),
+        "take-fails" => drop(answer.take(world.source.pieces.fail_at(words.number()))),
+        "put-fails" => drop(answer.take(world.sink.tray.fail_at(words.number()))),
+        "narrow" => world.sink.most = count(words),
         "close" => world.backend.close(),
-        _ => return told(world, name, rest),
+        _ => return tell_done(answer, world, name, words),
     }
-    Ok(String::from_str(world.alloc, "done")?)
+    answer.put("done");
 }
 
 /// What a call answers:
@@ -44,16 +43,16 @@ pub(crate) fn answer(world: &mut World, name: &str, rest: &str) -> Result<String
 /// - `reserve BYTES HANDLES OBJECTS`: whether there is room for them;
 /// - `flush`: whether what waits goes;
 /// - `handles`: whether 64 pieces with 64 handles each come.
-fn told(world: &mut World, name: &str, rest: &str) -> Result<String, Stop> {
+fn tell_done(answer: &mut Answer, world: &mut World, name: &str, words: &mut Reader<'_>) {
     match name {
-        "read" => read(world),
-        "next" => pending(world.alloc, &mut world.backend),
-        "send" => send(world, rest),
-        "burst" => burst_of(world, rest),
-        "reserve" => reserve(world, rest),
-        "flush" => flush(world),
-        "handles" => handles(world),
-        _ => seen(world, name),
+        "read" => answer.show(&world.backend.read(&mut world.source)),
+        "next" => tell_pending(answer, &mut world.backend),
+        "send" => tell_send(answer, world, words),
+        "burst" => answer.show(&burst(&mut world.backend, words.number())),
+        "reserve" => tell_reserve(answer, &mut world.backend, words),
+        "flush" => answer.show(&world.backend.flush(&mut world.sink)),
+        "handles" => tell_handles(answer, world),
+        _ => tell_state(answer, world, name, words),
     }
 }
 
@@ -62,107 +61,114 @@ fn told(world: &mut World, name: &str, rest: &str) -> Result<String, Stop> {
 /// - `unsent` and `waiting`: the bytes and handles that wait, and how many;
 /// - `sent`: the bytes and handles that the sink took;
 /// - `calls`: how often the source was asked, the sink called, and the sink called with no byte.
-fn seen(world: &World, name: &str) -> Result<String, Stop> {
+fn tell_state(answer: &mut Answer, world: &World, name: &str, words: &mut Reader<'_>) {
     let (alloc, backend, tray) = (world.alloc, &world.backend, &world.sink.tray);
     match name {
-        "unread" => unread(alloc, backend),
-        "unsent" => both(alloc, backend.unsent(), backend.unsent_handles()),
-        "waiting" => waiting(alloc, backend),
-        "sent" => both(alloc, tray.bytes(), tray.handles()),
-        "calls" => calls(world),
-        _ => Err(Stop::Line),
+        "unread" => tell_unread(answer, backend),
+        "unsent" => tell_both(alloc, answer, backend.unsent(), backend.unsent_handles()),
+        "waiting" => tell_waiting(answer, backend),
+        "sent" => tell_both(alloc, answer, tray.bytes(), tray.handles()),
+        "calls" => tell_calls(answer, world),
+        _ => words.miss(),
     }
 }
 
-/// Begins with a fresh endpoint.
-fn begin(world: &mut World, kind: &str) -> Result<(), Stop> {
-    let fresh = endpoint_of(world.alloc, kind)?;
-    // Let go by a call: in an assignment the drop of each field is proved anew.
-    drop(replace(&mut world.backend, fresh));
-    Ok(())
+/// Begins with a fresh endpoint of a kind: a server or a client, or one whose own ids begin at its last one, or behind it.
+fn begin(answer: &mut Answer, world: &mut World, words: &mut Reader<'_>) {
+    let alloc = world.alloc;
+    match words.word() {
+        "server" => begin_with(answer, world, Backend::new(alloc, false)),
+        "client" => begin_with(answer, world, Backend::new(alloc, true)),
+        "last-of-server" => {
+            begin_with(
+                answer,
+                world,
+                Backend::with_next_id(alloc, false, u64::MAX - 1),
+            );
+        }
+        "last-of-client" => {
+            begin_with(
+                answer,
+                world,
+                Backend::with_next_id(alloc, true, FIRST_SERVER_ID - 1),
+            );
+        }
+        "none-of-client" => {
+            begin_with(
+                answer,
+                world,
+                Backend::with_next_id(alloc, true, FIRST_SERVER_ID),
+            );
+        }
+        _ => words.miss(),
+    }
 }
 
-/// Lets a piece come.
-fn read(world: &mut World) -> Result<String, Stop> {
-    let read = world.backend.read(&mut world.source);
-    shown(world.alloc, &read)
+/// Begins with this endpoint.
+fn begin_with(answer: &mut Answer, world: &mut World, fresh: Result<Backend, NoMemory>) {
+    if let Some(fresh) = answer.take(fresh) {
+        // Let go by a call: in an assignment the drop of each field is proved anew.
+        drop(replace(&mut world.backend, fresh));
+    }
 }
 
-/// Lets what waits go.
-fn flush(world: &mut World) -> Result<String, Stop> {
-    let flushed = world.backend.flush(&mut world.sink);
-    shown(world.alloc, &flushed)
+/// Tells bytes and handles.
+fn tell_both(alloc: Global, answer: &mut Answer, bytes: &[u8], handles: &[Handle]) {
+    answer.put("[");
+    tell_bytes(alloc, answer, bytes);
+    answer.put("] ");
+    answer.show(&handles);
 }
 
-/// Whether 64 handles come with each of 64 bytes.
-fn handles(world: &mut World) -> Result<String, Stop> {
-    let fills = fills_with_handles(world)?;
-    said(world.alloc, fills)
+/// Tells how many bytes and handles are unread, and whether the endpoint is closed.
+fn tell_unread(answer: &mut Answer, backend: &Backend) {
+    answer.display(&backend.unread_len());
+    tell_next(answer, &backend.unread_handles());
+    tell_next(answer, &backend.is_closed());
 }
 
-/// Announces so many callbacks.
-fn burst_of(world: &mut World, count: &str) -> Result<String, Stop> {
-    let announced = burst(&mut world.backend, number(count)?);
-    shown(world.alloc, &announced)
+/// Tells how many bytes and handles wait.
+fn tell_waiting(answer: &mut Answer, backend: &Backend) {
+    answer.display(&backend.unsent().len());
+    tell_next(answer, &backend.unsent_handles().len());
 }
 
-/// A value by its name.
-fn shown<T: Debug>(alloc: Global, value: &T) -> Result<String, Stop> {
-    Ok(format!(in alloc; "{value:?}")?)
-}
-
-/// Bytes and handles.
-fn both(alloc: Global, bytes: &[u8], handles: &[Handle]) -> Result<String, Stop> {
-    let digits = hex::encode(alloc, bytes)?;
-    Ok(format!(in alloc; "[{digits}] {handles:?}")?)
-}
-
-/// How many bytes and handles are unread, and whether the endpoint is closed.
-fn unread(alloc: Global, backend: &Backend) -> Result<String, Stop> {
-    let (bytes, handles) = (backend.unread_len(), backend.unread_handles());
-    Ok(format!(in alloc; "{bytes} {handles} {}", backend.is_closed())?)
-}
-
-/// How many bytes and handles wait.
-fn waiting(alloc: Global, backend: &Backend) -> Result<String, Stop> {
-    let (bytes, handles) = (backend.unsent().len(), backend.unsent_handles().len());
-    Ok(format!(in alloc; "{bytes} {handles}")?)
-}
-
-/// How often the source was asked and the sink called, and how often with no byte.
-fn calls(world: &World) -> Result<String, Stop> {
-    let (asked, sink) = (world.source.calls, &world.sink);
-    Ok(format!(in world.alloc; "{asked} {} {}", sink.calls, sink.empty)?)
+/// Tells how often the source was asked and the sink called, and how often with no byte.
+fn tell_calls(answer: &mut Answer, world: &World) {
+    answer.display(&world.source.calls);
+    tell_next(answer, &world.sink.calls);
+    tell_next(answer, &world.sink.empty);
 }
 
 /// Puts a piece into the source.
-fn piece(world: &mut World, rest: &str) -> Result<(), Stop> {
-    let (digits, handles) = first(rest);
-    let bytes = bytes(world.alloc, digits)?;
+fn give_piece(answer: &mut Answer, world: &mut World, words: &mut Reader<'_>) {
+    let bytes = bytes(world.alloc, words);
     let all = [Handle(7), Handle(8), Handle(9)];
-    let (handles, _) = all.split_at(count(handles)?.min(3));
-    give(&mut world.source.pieces, &bytes, handles)
+    let (handles, _) = all.split_at(words.count().min(3));
+    give(answer, &mut world.source.pieces, &bytes, handles);
+    drop(bytes);
 }
 
 /// Puts what the sink took into the source.
-fn carry(world: &mut World) -> Result<(), Stop> {
+fn carry(answer: &mut Answer, world: &mut World) {
+    let tray = &world.sink.tray;
     give(
+        answer,
         &mut world.source.pieces,
-        world.sink.tray.bytes(),
-        world.sink.tray.handles(),
-    )
+        tray.bytes(),
+        tray.handles(),
+    );
 }
 
-/// Sends a message to object 0, with two arguments or none.
-fn send(world: &mut World, rest: &str) -> Result<String, Stop> {
-    let (opcode, args) = first(rest);
-    let opcode = number(opcode)?;
-    if args.is_empty() {
-        return shown(world.alloc, &world.backend.request(0, opcode, &[]));
+/// Sends a message to object 0, with two arguments or none, and tells whether it is written.
+fn tell_send(answer: &mut Answer, world: &mut World, words: &mut Reader<'_>) {
+    let opcode = words.number();
+    if words.rest().is_empty() {
+        answer.show(&world.backend.request(0, opcode, &[]));
+    } else {
+        let args = [argument(words), argument(words)];
+        answer.show(&world.backend.request(0, opcode, &args));
     }
-    let (one, other) = first(args);
-    let args = [argument(one)?, argument(other)?];
-    shown(world.alloc, &world.backend.request(0, opcode, &args))
 }
 
 /// Announces so many callbacks.
@@ -181,25 +187,27 @@ fn announce(backend: &mut Backend, number: u32) -> Result<(), SendError> {
         Arg::Fd(Handle(3)),
     ];
     let name = InterfaceName::Known(KnownInterface::Callback);
-    drop(backend.request_new(0, 2, &args, name, 1)?);
-    Ok(())
-}
-
-/// Makes room.
-fn reserve(world: &mut World, rest: &str) -> Result<String, Stop> {
-    let (bytes, rest) = first(rest);
-    let (handles, objects) = first(rest);
-    let (bytes, handles, objects) = (count(bytes)?, count(handles)?, count(objects)?);
-    shown(world.alloc, &world.backend.reserve(bytes, handles, objects))
-}
-
-/// Whether 64 handles come with each of 64 bytes.
-fn fills_with_handles(world: &mut World) -> Result<bool, Stop> {
-    for _ in 0..64 {
-        give(&mut world.source.pieces, b"a", &[Handle(7); 64])?;
-        if world.backend.read(&mut world.source) != Ok(1) {
-            return Ok(false);
+    match backend.request_new(0, 2, &args, name, 1) {
+        Ok(object) => {
+            drop(object);
+            Ok(())
         }
+        Err(error) => Err(error),
     }
-    Ok(true)
+}
+
+/// Makes room, and tells whether it is there.
+fn tell_reserve(answer: &mut Answer, backend: &mut Backend, words: &mut Reader<'_>) {
+    let (bytes, handles, objects) = (count(words), count(words), count(words));
+    answer.show(&backend.reserve(bytes, handles, objects));
+}
+
+/// Tells whether 64 handles come with each of 64 bytes.
+fn tell_handles(answer: &mut Answer, world: &mut World) {
+    let mut right = true;
+    for _ in 0..64 {
+        give(answer, &mut world.source.pieces, b"a", &[Handle(7); 64]);
+        right = world.backend.read(&mut world.source) == Ok(1) && right;
+    }
+    tell_whether(answer, right);
 }

@@ -1,10 +1,8 @@
 //! Reasons without a name, capabilities and sets of them. The enums are read where arguments are.
 
-use crate::words::count;
+use crate::words::tell_next;
 use ei_types::{DeviceCapabilities, DeviceCapability, DisconnectReason, OtherReason};
-use std::alloc::{AllocError, Global};
-use std::fmt::Write;
-use test_table::{Stop, first, number};
+use test_table::{Answer, Reader};
 
 /// What a call answers:
 /// - `other-reason NUMBER`: the reason without a name, if it is one, and its number;
@@ -15,48 +13,47 @@ use test_table::{Stop, first, number};
 /// - `set BITS`: the bits of the set of these, if it is one;
 /// - `all`: the bits of the set of all, put together one by one; whether it is the set of all; and whether it has the
 ///   text, and the pointer alone the text and all.
-pub(crate) fn answer(alloc: Global, call: &str) -> Result<String, Stop> {
-    let (name, rest) = first(call);
-    match name {
-        "other-reason" => other_reason(alloc, number(rest)?),
-        "reason" => Ok(format!(in alloc; "{}", u32::from(DisconnectReason::Transport))?),
-        "capability" => capability(alloc, count(rest)?),
-        "named" => Ok(format!(in alloc; "{:?}", DeviceCapability::from_interface_name(rest))?),
-        "set" => set(alloc, rest.parse::<u64>()?),
-        "all" => all(alloc, one_by_one()),
-        _ => Err(Stop::Line),
+pub(crate) fn tell(answer: &mut Answer, words: &mut Reader<'_>) {
+    match words.word() {
+        "other-reason" => tell_other_reason(answer, words.number()),
+        "reason" => answer.display(&u32::from(DisconnectReason::Transport)),
+        "capability" => tell_capability(answer, words),
+        "named" => answer.show(&DeviceCapability::from_interface_name(words.word())),
+        "set" => tell_set(answer, words.id()),
+        "all" => tell_all(answer, one_by_one()),
+        _ => words.miss(),
     }
 }
 
-/// The reason of that number, where it has no name, and its number.
-fn other_reason(alloc: Global, number: u32) -> Result<String, Stop> {
+/// Tells the reason of that number, where it has no name, and its number.
+fn tell_other_reason(answer: &mut Answer, number: u32) {
     match OtherReason::new(number) {
         Some(other) => {
-            let number = u32::from(DisconnectReason::Other(other));
-            Ok(format!(in alloc; "other {number}")?)
+            answer.put("other ");
+            answer.display(&u32::from(DisconnectReason::Other(other)));
         }
-        None => Ok(String::from_str(alloc, "none")?),
+        None => answer.put("none"),
     }
 }
 
-/// The capability at that place.
-fn capability(alloc: Global, place: usize) -> Result<String, Stop> {
-    let Some(one) = DeviceCapability::ALL.get(place) else {
-        return Err(Stop::Line);
-    };
-    let mut text = format!(in alloc; "{one:?} {} {} ", one.index(), one.bit())?;
-    push_interface(&mut text, one.interface_name())?;
-    write!(text, " {}", is_added(*one, one.bit()))?;
-    Ok(text)
+/// Tells the capability at that place.
+fn tell_capability(answer: &mut Answer, words: &mut Reader<'_>) {
+    match DeviceCapability::ALL.get(words.count()) {
+        Some(one) => tell_capability_of(answer, *one),
+        None => words.miss(),
+    }
 }
 
-/// Adds the name of an interface, and the capability of that name.
-fn push_interface(text: &mut String, name: &str) -> Result<(), AllocError> {
-    write!(
-        text,
-        "{name} {:?}",
-        DeviceCapability::from_interface_name(name)
-    )
+/// Tells a capability.
+fn tell_capability_of(answer: &mut Answer, one: DeviceCapability) {
+    let name = one.interface_name();
+    answer.show(&one);
+    tell_next(answer, &one.index());
+    tell_next(answer, &one.bit());
+    tell_next(answer, &name);
+    answer.put(" ");
+    answer.show(&DeviceCapability::from_interface_name(name));
+    tell_next(answer, &is_added(one, one.bit()));
 }
 
 /// Whether the set has the bit's capability only once its bit is added, and no other bit then.
@@ -71,11 +68,11 @@ fn is_added(one: DeviceCapability, bit: u64) -> bool {
     }
 }
 
-/// The set of these bits.
-fn set(alloc: Global, bits: u64) -> Result<String, Stop> {
+/// Tells the set of these bits.
+fn tell_set(answer: &mut Answer, bits: u64) {
     match DeviceCapabilities::from_bits(bits) {
-        Some(set) => Ok(format!(in alloc; "{}", set.bits())?),
-        None => Ok(String::from_str(alloc, "none")?),
+        Some(set) => answer.display(&set.bits()),
+        None => answer.put("none"),
     }
 }
 
@@ -90,12 +87,12 @@ fn one_by_one() -> DeviceCapabilities {
     union
 }
 
-/// What the set of all has, and the pointer alone.
-fn all(alloc: Global, all: DeviceCapabilities) -> Result<String, Stop> {
+/// Tells what the set of all has, and the pointer alone.
+fn tell_all(answer: &mut Answer, all: DeviceCapabilities) {
     let (pointer, text) = (DeviceCapabilities::POINTER, DeviceCapabilities::TEXT);
-    let bits = all.bits();
-    let is_all = all == DeviceCapabilities::all();
-    let has = all.contains(text);
-    let (one, more) = (pointer.contains(text), pointer.contains(all));
-    Ok(format!(in alloc; "{bits} {is_all} {has} {one} {more}")?)
+    answer.display(&all.bits());
+    tell_next(answer, &(all == DeviceCapabilities::all()));
+    tell_next(answer, &all.contains(text));
+    tell_next(answer, &pointer.contains(text));
+    tell_next(answer, &pointer.contains(all));
 }

@@ -2,9 +2,9 @@
 
 use ei_types::{Error, EventError, HandshakeError, RequestError};
 use ei_wire::{EiText, FlushError, NoMemory, ParseError, ReadError, SendError};
-use std::alloc::{AllocError, Global};
-use std::fmt::{Display, Write};
-use test_table::Stop;
+use std::alloc::Global;
+use std::fmt::Display;
+use test_table::{Answer, Reader};
 
 /// What isn't sent, and why.
 const SENDS: [SendError; 3] = [
@@ -87,105 +87,71 @@ const STOPS: [Error; 10] = [
     Error::NoMemory,
 ];
 
-/// The texts of the errors of that kind, with a dash between them; or what errors `become` in a session.
-pub(crate) fn answer(alloc: Global, kind: &str) -> Result<String, Stop> {
-    match kind {
-        "interface" => interface(alloc),
-        "become" => became(alloc),
-        _ => Ok(texts_of(alloc, kind)?),
+/// What a call answers: the texts of the errors of that kind, with a dash between them; or what errors `become` in a
+/// session.
+pub(crate) fn tell(alloc: Global, answer: &mut Answer, words: &mut Reader<'_>) {
+    match words.word() {
+        "send" => tell_texts(answer, &SENDS),
+        "read" => tell_texts(answer, &READS),
+        "flush" => tell_texts(answer, &FLUSHES),
+        "parse" => tell_texts(answer, &PARSES),
+        "event" => tell_texts(answer, &EVENTS),
+        "request" => tell_texts(answer, &REQUESTS),
+        "handshake" => tell_texts(answer, &HANDSHAKES),
+        "part" => tell_texts(answer, &PARTS),
+        "stop" => tell_texts(answer, &STOPS),
+        "interface" => tell_interface(alloc, answer),
+        "become" => tell_become(answer),
+        _ => words.miss(),
     }
 }
 
-/// The texts of the errors of that kind; of none for another.
-fn texts_of(alloc: Global, kind: &str) -> Result<String, AllocError> {
-    match kind {
-        "send" => texts(alloc, &SENDS),
-        "read" => texts(alloc, &READS),
-        "flush" => texts(alloc, &FLUSHES),
-        "parse" => texts(alloc, &PARSES),
-        "event" => texts(alloc, &EVENTS),
-        "request" => texts(alloc, &REQUESTS),
-        "handshake" => texts(alloc, &HANDSHAKES),
-        "part" => texts(alloc, &PARTS),
-        "stop" => texts(alloc, &STOPS),
-        _ => Ok(String::new(alloc)),
-    }
-}
-
-/// The texts of the errors.
-fn texts<E: Display>(alloc: Global, errors: &[E]) -> Result<String, AllocError> {
-    let mut text = String::new(alloc);
+/// Tells the texts of the errors.
+fn tell_texts<E: Display>(answer: &mut Answer, errors: &[E]) {
+    let mut mark = "";
     for error in errors {
-        push_mark(&mut text)?;
-        write!(text, "{error}")?;
+        answer.put(mark);
+        answer.display(error);
+        mark = " - ";
     }
-    Ok(text)
 }
 
-/// Adds the dash between two errors.
-fn push_mark(text: &mut String) -> Result<(), AllocError> {
-    if text.is_empty() {
-        return Ok(());
+/// Tells the text of the error for a name that no interface has.
+fn tell_interface(alloc: Global, answer: &mut Answer) {
+    if let Some(name) = answer.take(EiText::new(alloc, "ei_gesture")) {
+        let error = ParseError::InvalidInterface(name);
+        answer.display(&error);
+        // Let go by a call: at the end of a scope the drop of each field is proved anew.
+        drop(error);
     }
-    text.push_str(" - ")
 }
 
-/// The text of the error for a name that no interface has.
-fn interface(alloc: Global) -> Result<String, Stop> {
-    let error = ParseError::InvalidInterface(EiText::new(alloc, "ei_gesture")?);
-    let text = format!(in alloc; "{error}");
-    // Let go by a call: at the end of a scope the drop of each field is proved anew.
-    drop(error);
-    Ok(text?)
+/// Tells what the errors of the wire become, in their order.
+fn tell_become(answer: &mut Answer) {
+    let errors: [Error; 12] = [
+        SendError::MessageTooLong.into(),
+        SendError::IdsExhausted.into(),
+        SendError::NoMemory.into(),
+        ReadError::UnexpectedEof.into(),
+        ReadError::ReadFault.into(),
+        ReadError::HandleLimit.into(),
+        ReadError::NoMemory.into(),
+        FlushError::WriteFault.into(),
+        FlushError::NoMemory.into(),
+        ParseError::NoMemory.into(),
+        ParseError::NoFd.into(),
+        NoMemory.into(),
+    ];
+    tell_names(answer, &errors);
+    drop(errors);
 }
 
-/// What the errors of the wire become, in their order.
-fn became(alloc: Global) -> Result<String, Stop> {
-    let mut text = String::new(alloc);
-    push_sends(&mut text)?;
-    push_reads(&mut text)?;
-    push_flushes(&mut text)?;
-    push_others(&mut text)?;
-    Ok(text)
-}
-
-/// Adds what the errors of sending become.
-fn push_sends(text: &mut String) -> Result<(), AllocError> {
-    push(text, SendError::MessageTooLong.into())?;
-    push(text, SendError::IdsExhausted.into())?;
-    push(text, SendError::NoMemory.into())
-}
-
-/// Adds what the errors of reading become.
-fn push_reads(text: &mut String) -> Result<(), AllocError> {
-    push(text, ReadError::UnexpectedEof.into())?;
-    push(text, ReadError::ReadFault.into())?;
-    push(text, ReadError::HandleLimit.into())?;
-    push(text, ReadError::NoMemory.into())
-}
-
-/// Adds what the errors of flushing become.
-fn push_flushes(text: &mut String) -> Result<(), AllocError> {
-    push(text, FlushError::WriteFault.into())?;
-    push(text, FlushError::NoMemory.into())
-}
-
-/// Adds what the others become.
-fn push_others(text: &mut String) -> Result<(), AllocError> {
-    push(text, ParseError::NoMemory.into())?;
-    push(text, ParseError::NoFd.into())?;
-    push(text, NoMemory.into())
-}
-
-/// Adds an error, and lets it go.
-fn push(text: &mut String, error: Error) -> Result<(), AllocError> {
-    let pushed = push_error(text, &error);
-    drop(error);
-    pushed
-}
-
-/// Adds an error.
-fn push_error(text: &mut String, error: &Error) -> Result<(), AllocError> {
-    push_mark(text)?;
-    write!(text, "{error:?}")
+/// Tells the names of the errors.
+fn tell_names(answer: &mut Answer, errors: &[Error]) {
+    let mut mark = "";
+    for error in errors {
+        answer.put(mark);
+        answer.show(error);
+        mark = " - ";
+    }
 }

@@ -8,7 +8,7 @@
 //! `test_table`.
 //!
 //! The program writes what becomes of the messages, how many calls are as they should be, and each line that isn't above
-//! what was found. Begin with `messages::show` and `answer`.
+//! what was found. Begin with `messages::show` and `tell`.
 #![tactic(auto)]
 
 mod arguments;
@@ -30,7 +30,7 @@ mod world;
 use crate::world::World;
 use std::alloc::Global;
 use std::io::{Input, Print};
-use test_table::{Answers, Stop, count_right, first};
+use test_table::{Answer, Answers, Reader, Stop, count_right};
 
 fn main(rt: HostRuntime) -> Result<(), Stop> {
     laws::laws_at_types();
@@ -48,29 +48,32 @@ where
     R: Input + Print + AllocGlobal,
 {
     let right = count_right(rt, world)?;
-    println!(rt; "as they should be: {right}")?;
-    Ok(())
+    println!(rt; "as they should be: {right}").map_err(Stop::from)
 }
 
 impl Answers for World {
     fn answer(&mut self, alloc: Global, call: &str) -> Result<String, Stop> {
-        answer(alloc, self, call)
+        let mut answer = Answer::new(alloc);
+        let mut words = Reader::new(call);
+        tell(&mut answer, self, &mut words);
+        answer.take(words.done());
+        answer.text()
     }
 }
 
-/// What a call answers.
-fn answer(alloc: Global, world: &mut World, call: &str) -> Result<String, Stop> {
-    let (name, rest) = first(call);
-    match name {
-        "argument" => arguments::answer(alloc, rest),
-        "text" => texts::answer(alloc, rest),
-        "enum" => enums::answer(alloc, rest),
-        "errors" => errors::answer(alloc, rest),
-        "name" => names::answer(alloc, rest),
-        "memory" => words::said(alloc, memory::answer(alloc, rest)?),
-        "ring" => words::said(alloc, ring::answer(alloc, rest)?),
-        "trace" => trace::answer(alloc, rest),
-        "object" => objects::answer(world, rest),
-        _ => bytes::answer(world, name, rest),
+/// Tells what a call answers. A call whose words are wrong does something too, but what it tells is lost.
+fn tell(answer: &mut Answer, world: &mut World, words: &mut Reader<'_>) {
+    let alloc = world.alloc;
+    match words.word() {
+        "argument" => arguments::tell(alloc, answer, words),
+        "text" => texts::tell(alloc, answer, words),
+        "enum" => enums::tell(answer, words),
+        "errors" => errors::tell(alloc, answer, words),
+        "name" => names::tell(alloc, answer, words),
+        "memory" => memory::tell(alloc, answer, words),
+        "ring" => ring::tell(alloc, answer, words),
+        "trace" => trace::tell(alloc, answer, words),
+        "object" => objects::tell(answer, world, words),
+        name => bytes::tell(answer, world, name, words),
     }
 }

@@ -1,85 +1,70 @@
 //! Each call of the types in memory, with ample memory.
 
-ghost use Rattle.std.specs.Prelude.{◌≡◌, IfOk, vec_len};
-
+use crate::words::tell_whether;
 use ei_backend::{Clock, Fault, Pieces, Readings, Sink, Source, Taken, Tray};
 use ei_spec::Handle;
-use ei_wire::NoMemory;
 use reis_lines::{Input, MemoryText};
 use std::alloc::Global;
-use test_table::Stop;
+use test_table::{Answer, Reader};
 
-/// Whether the source, the sink, the text or the clock answers as it should, and fails where it is said to.
-pub(crate) fn answer(alloc: Global, call: &str) -> Result<bool, Stop> {
-    match call {
-        "pieces" => Ok(hands_on_pieces(alloc)?),
-        "failing-pieces" => Ok(takes_fail_where_named(alloc)?),
-        "tray" => Ok(keeps_what_is_put(&mut Tray::new(alloc))),
-        "failing-tray" => Ok(puts_fail_where_named(&mut failing_tray(alloc)?)),
-        "text" => Ok(hands_on_a_text(&mut MemoryText::new(alloc, b"abc")?)),
-        "failing-text" => Ok(fetches_fail_where_named(&mut failing_text(alloc)?)),
-        "clock" => Ok(hands_on_readings(alloc)?),
-        _ => Err(Stop::Line),
+/// Tells whether the source, the sink, the text or the clock answers as it should, and fails where it is said to.
+pub(crate) fn tell(alloc: Global, answer: &mut Answer, words: &mut Reader<'_>) {
+    match words.word() {
+        "pieces" => tell_pieces(alloc, answer),
+        "failing-pieces" => tell_failing_pieces(alloc, answer),
+        "tray" => tell_tray(alloc, answer),
+        "failing-tray" => tell_failing_tray(alloc, answer),
+        "text" => tell_text(alloc, answer),
+        "failing-text" => tell_failing_text(alloc, answer),
+        "clock" => tell_clock(alloc, answer),
+        _ => words.miss(),
     }
 }
 
-/// So many bytes of room.
-fn bytes_room(alloc: Global, count: usize) -> Result<Vec<u8>, NoMemory>
-    ensures { IfOk result (λ room. vec_len room ≡ count) }
-{
-    Ok(vec![in alloc; 0u8; count]?)
-}
-
-/// Room for so many handles.
-fn handles_room(alloc: Global, count: usize) -> Result<Vec<Handle>, NoMemory>
-    ensures { IfOk result (λ room. vec_len room ≡ count) }
-{
-    Ok(vec![in alloc; Handle(0); count]?)
-}
+/// The calls, and which of them fail.
+const CALLS: [bool; 5] = [false, true, false, true, false];
 
 /// Whether the next piece has so many bytes and handles.
 fn is_next(taken: Result<Taken, Fault>, bytes: usize, handles: usize) -> bool {
     taken == Ok(Taken { bytes, handles })
 }
 
-/// Whether these are the first bytes and handles.
-fn are_first(room: &[u8], handle_room: &[Handle], bytes: &[u8], handles: &[Handle]) -> bool {
-    room.starts_with(bytes) && handle_room.starts_with(handles)
+/// Tells whether pieces are handed on, and then none.
+fn tell_pieces(alloc: Global, answer: &mut Answer) {
+    let mut pieces = Pieces::new(alloc);
+    answer.take(pieces.push(b"ab", &[Handle(7)]));
+    tell_whether(answer, are_handed_on(&mut pieces));
+    // Let go by a call: at the end of a scope the drop of each field is proved anew.
+    drop(pieces);
 }
 
-/// Pieces of which the second and the fourth call fail.
-fn failing_pieces(alloc: Global) -> Result<Pieces, NoMemory> {
-    let mut pieces = Pieces::new(alloc);
-    pieces.fail_at(4)?;
-    pieces.fail_at(2)?;
-    Ok(pieces)
-}
-
-/// The calls, and which of them fail.
-const CALLS: [bool; 5] = [false, true, false, true, false];
-
-/// Whether pieces of room for them are handed on, and then none.
-fn hands_on_pieces(alloc: Global) -> Result<bool, NoMemory> {
-    let mut room = bytes_room(alloc, 65536)?;
-    let mut handle_room = handles_room(alloc, 64)?;
-    let mut pieces = Pieces::new(alloc);
-    pieces.push(b"ab", &[Handle(7)])?;
+/// Whether the first piece is handed on, and then none.
+fn are_handed_on(pieces: &mut Pieces) -> bool {
+    let mut room = [0; 65536];
+    let mut handle_room = [Handle(0); 64];
     let is_first = is_next(pieces.take(&mut room, &mut handle_room), 2, 1);
-    let are_moved = are_first(&room, &handle_room, b"ab", &[Handle(7)]);
-    Ok(is_first && are_moved && is_next(pieces.take(&mut room, &mut handle_room), 0, 0))
+    let are_moved = room.starts_with(b"ab") && handle_room.starts_with(&[Handle(7)]);
+    is_first && are_moved && is_next(pieces.take(&mut room, &mut handle_room), 0, 0)
 }
 
-/// Whether a source fails where it is said to.
-fn takes_fail_where_named(alloc: Global) -> Result<bool, NoMemory> {
-    let mut room = bytes_room(alloc, 65536)?;
-    let mut handle_room = handles_room(alloc, 64)?;
-    let mut pieces = failing_pieces(alloc)?;
+/// Tells whether a source fails where it is said to.
+fn tell_failing_pieces(alloc: Global, answer: &mut Answer) {
+    let mut pieces = Pieces::new(alloc);
+    answer.take(pieces.fail_at(4));
+    answer.take(pieces.fail_at(2));
+    tell_whether(answer, takes_fail_where_named(&mut pieces));
+    drop(pieces);
+}
+
+/// Whether the source's second and fourth call fail.
+fn takes_fail_where_named(pieces: &mut Pieces) -> bool {
+    let mut room = [0; 65536];
+    let mut handle_room = [Handle(0); 64];
+    let mut right = true;
     for fails in &CALLS {
-        if pieces.take(&mut room, &mut handle_room).is_err() != *fails {
-            return Ok(false);
-        }
+        right = pieces.take(&mut room, &mut handle_room).is_err() == *fails && right;
     }
-    Ok(true)
+    right
 }
 
 /// Whether the tray has these bytes and handles.
@@ -87,74 +72,88 @@ fn has(tray: &Tray, bytes: &[u8], handles: &[Handle]) -> bool {
     tray.bytes() == bytes && tray.handles() == handles
 }
 
-/// Whether a tray takes all of the bytes.
-fn is_put(tray: &mut Tray, bytes: &[u8], handles: &[Handle]) -> bool {
-    tray.put(bytes, handles) == Ok(bytes.len())
-}
-
-/// Whether a tray keeps what is put into it.
-fn keeps_what_is_put(tray: &mut Tray) -> bool {
-    is_put(tray, b"ab", &[Handle(7)]) && is_put(tray, b"c", &[]) && has(tray, b"abc", &[Handle(7)])
-}
-
-/// A tray of which the second and the fourth call fail.
-fn failing_tray(alloc: Global) -> Result<Tray, NoMemory> {
+/// Tells whether a tray keeps what is put into it.
+fn tell_tray(alloc: Global, answer: &mut Answer) {
     let mut tray = Tray::new(alloc);
-    tray.fail_at(4)?;
-    tray.fail_at(2)?;
-    Ok(tray)
+    let first = tray.put(b"ab", &[Handle(7)]);
+    let second = tray.put(b"c", &[]);
+    let right = first == Ok(2) && second == Ok(1) && has(&tray, b"abc", &[Handle(7)]);
+    tell_whether(answer, right);
+    drop(tray);
 }
 
-/// Whether a tray fails where it is said to, and takes nothing then.
+/// Tells whether a tray fails where it is said to, and takes nothing then.
+fn tell_failing_tray(alloc: Global, answer: &mut Answer) {
+    let mut tray = Tray::new(alloc);
+    answer.take(tray.fail_at(4));
+    answer.take(tray.fail_at(2));
+    tell_whether(answer, puts_fail_where_named(&mut tray));
+    drop(tray);
+}
+
+/// Whether the tray's second and fourth call fail, and take nothing.
 fn puts_fail_where_named(tray: &mut Tray) -> bool {
+    let mut right = true;
     for fails in &CALLS {
-        if tray.put(b"a", &[]).is_err() != *fails {
-            return false;
-        }
+        right = tray.put(b"a", &[]).is_err() == *fails && right;
     }
-    has(tray, b"aaa", &[])
+    right && has(tray, b"aaa", &[])
 }
 
 /// How many bytes each call fetches of three, with room for two, and what the room holds then.
 const FETCHES: [(usize, [u8; 2]); 3] = [(2, *b"ab"), (1, *b"cb"), (0, *b"cb")];
 
-/// Whether a text is handed on in parts of two bytes at most.
-fn hands_on_a_text(text: &mut MemoryText) -> bool {
-    let mut bytes = [b'-'; 2];
-    for (count, held) in &FETCHES {
-        if text.fetch(&mut bytes) != Ok(*count) || bytes != *held {
-            return false;
-        }
+/// Tells whether a text is handed on.
+fn tell_text(alloc: Global, answer: &mut Answer) {
+    if let Some(mut text) = answer.take(MemoryText::new(alloc, b"abc")) {
+        tell_whether(answer, is_handed_on(&mut text));
+        drop(text);
     }
-    true
 }
 
-/// A text of which the second and the fourth call fail.
-fn failing_text(alloc: Global) -> Result<MemoryText, NoMemory> {
-    let mut text = MemoryText::new(alloc, b"abcde")?;
-    text.fail_at(4)?;
-    text.fail_at(2)?;
-    Ok(text)
+/// Whether the text is handed on in parts of two bytes at most.
+fn is_handed_on(text: &mut MemoryText) -> bool {
+    let mut bytes = [b'-'; 2];
+    let mut right = true;
+    for (count, held) in &FETCHES {
+        right = text.fetch(&mut bytes) == Ok(*count) && bytes == *held && right;
+    }
+    right
 }
 
-/// Whether a text fails where it is said to, and hands on nothing then.
+/// Tells whether a text fails where it is said to, and hands on nothing then.
+fn tell_failing_text(alloc: Global, answer: &mut Answer) {
+    if let Some(mut text) = answer.take(MemoryText::new(alloc, b"abcde")) {
+        answer.take(text.fail_at(4));
+        answer.take(text.fail_at(2));
+        tell_whether(answer, fetches_fail_where_named(&mut text));
+        drop(text);
+    }
+}
+
+/// Whether the text's second and fourth call fail, and hand on nothing.
 fn fetches_fail_where_named(text: &mut MemoryText) -> bool {
     let mut byte = [b'-'];
+    let mut right = true;
     for fails in &CALLS {
-        if text.fetch(&mut byte).is_err() != *fails {
-            return false;
-        }
+        right = text.fetch(&mut byte).is_err() == *fails && right;
     }
-    byte == [b'c']
+    right && byte == [b'c']
 }
 
-/// Whether a clock shows its readings, and then 0.
-fn hands_on_readings(alloc: Global) -> Result<bool, NoMemory> {
-    let mut readings = Readings::new(alloc, &[5, 9])?;
-    for reading in &[5, 9, 0, 0] {
-        if readings.now() != *reading {
-            return Ok(false);
-        }
+/// Tells whether a clock shows its readings, and then 0.
+fn tell_clock(alloc: Global, answer: &mut Answer) {
+    if let Some(mut readings) = answer.take(Readings::new(alloc, &[5, 9])) {
+        tell_whether(answer, are_shown(&mut readings));
+        drop(readings);
     }
-    Ok(true)
+}
+
+/// Whether the clock shows its readings, and then 0.
+fn are_shown(clock: &mut Readings) -> bool {
+    let mut right = true;
+    for reading in &[5, 9, 0, 0] {
+        right = clock.now() == *reading && right;
+    }
+    right
 }

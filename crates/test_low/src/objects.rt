@@ -1,15 +1,14 @@
 //! The objects of an endpoint: ids, names and versions, and the messages to them.
 
 use crate::arguments::argument;
-use crate::words::{id, said};
+use crate::words::{Hex, id, tell_next, tell_whether};
 use crate::world::World;
 use ei_backend::{Backend, HasBackend, InterfaceName, Object};
 use ei_spec::KnownInterface;
 use ei_wire::{Arg, SendError};
-use std::alloc::Global;
 use std::fmt::Debug;
 use std::mem::replace;
-use test_table::{Stop, first, number};
+use test_table::{Answer, Reader};
 
 /// What a call answers:
 /// - `own NAME VERSION`: the endpoint's next object;
@@ -22,111 +21,111 @@ use test_table::{Stop, first, number};
 /// - `alive`: whether the endpoint has the object that is kept;
 /// - `ask OPCODE ARGUMENT`: whether the message to the object that is kept is written;
 /// - `seat TARGET VERSION ARGUMENT ARGUMENT`: the seat that a message of opcode 2 to the target announces.
-pub(crate) fn answer(world: &mut World, call: &str) -> Result<String, Stop> {
-    let (name, rest) = first(call);
-    match name {
-        "own" => own(world, rest),
-        "peer" => peer(world, rest),
-        "of" => of(world.alloc, &world.backend, id(rest)?),
-        "remove" => remove(world, id(rest)?),
-        "next" => next(world.alloc, &world.backend),
-        "keep" => keep(world, id(rest)?),
-        "equal" => equal(world, id(rest)?),
-        "alive" => alive(world),
-        "ask" => ask(world, rest),
-        "seat" => seat(world, rest),
-        _ => Err(Stop::Line),
+pub(crate) fn tell(answer: &mut Answer, world: &mut World, words: &mut Reader<'_>) {
+    match words.word() {
+        "own" => tell_own(answer, world, words),
+        "peer" => tell_peer(answer, world, words),
+        "of" => tell_of(answer, &world.backend, id(words)),
+        "remove" => remove(answer, world, id(words)),
+        "next" => tell_ids(answer, &world.backend),
+        "keep" => keep(answer, world, words),
+        "equal" => tell_equal(answer, world, words),
+        "alive" => tell_alive(answer, world, words),
+        "ask" => tell_ask(answer, world, words),
+        "seat" => tell_seat(answer, world, words),
+        _ => words.miss(),
     }
 }
 
-/// The object, or why there is none.
-fn made<E: Debug + Drop>(alloc: Global, object: Result<Object, E>) -> Result<String, Stop> {
-    match object {
+/// Tells the object that was made, or why there is none.
+fn tell_made<E: Debug + Drop>(answer: &mut Answer, made: Result<Object, E>) {
+    match made {
         Ok(object) => {
-            let text = shown(alloc, &object);
+            tell_object(answer, &object);
             // Let go by a call: at the end of a scope the drop of each field is proved anew.
             drop(object);
-            text
         }
-        Err(error) => Ok(format!(in alloc; "{error:?}")?),
+        Err(error) => {
+            answer.show(&error);
+            drop(error);
+        }
     }
 }
 
-/// An object by what it is shown as, its id, its interface, its version and its side.
-fn shown(alloc: Global, object: &Object) -> Result<String, Stop> {
-    let (id, version, client) = (object.id(), object.version(), object.client_side());
-    Ok(format!(in alloc;
-        "{object:?} {id:x} {} {version} {client}",
-        object.interface()
-    )?)
+/// Tells an object by what it is shown as, its id, its interface, its version and its side.
+fn tell_object(answer: &mut Answer, object: &Object) {
+    answer.show(object);
+    tell_next(answer, &Hex(object.id()));
+    tell_next(answer, &object.interface());
+    tell_next(answer, &object.version());
+    tell_next(answer, &object.client_side());
 }
 
-/// Makes the endpoint's next object.
-fn own(world: &mut World, rest: &str) -> Result<String, Stop> {
-    let (name, version) = first(rest);
-    let version = number(version)?;
-    let name = InterfaceName::of(world.alloc, name)?;
-    let object = world.backend.new_object(name, version);
-    made(world.alloc, object)
+/// Makes the endpoint's next object, and tells it.
+fn tell_own(answer: &mut Answer, world: &mut World, words: &mut Reader<'_>) {
+    if let Some(name) = answer.take(InterfaceName::of(world.alloc, words.word())) {
+        tell_made(answer, world.backend.new_object(name, words.number()));
+    }
 }
 
-/// Puts the peer's object into the table.
-fn peer(world: &mut World, rest: &str) -> Result<String, Stop> {
-    let (of, rest) = first(rest);
-    let (name, version) = first(rest);
-    let (of, version) = (id(of)?, number(version)?);
-    let name = InterfaceName::of(world.alloc, name)?;
-    let object = world.backend.new_peer_object(of, name, version);
-    made(world.alloc, object)
+/// Puts the peer's object into the table, and tells it.
+fn tell_peer(answer: &mut Answer, world: &mut World, words: &mut Reader<'_>) {
+    let id = id(words);
+    if let Some(name) = answer.take(InterfaceName::of(world.alloc, words.word())) {
+        tell_made(
+            answer,
+            world.backend.new_peer_object(id, name, words.number()),
+        );
+    }
 }
 
-/// The object of that id in the table, and whether the table has one.
-fn of(alloc: Global, backend: &Backend, id: u64) -> Result<String, Stop> {
+/// Tells the object of that id in the table, and whether the table has one.
+fn tell_of(answer: &mut Answer, backend: &Backend, id: u64) {
     match backend.object_for_id(id) {
-        Some(object) if backend.has_object_for_id(id) => shown(alloc, object),
-        None if !backend.has_object_for_id(id) => Ok(String::from_str(alloc, "none")?),
-        _ => Ok(String::from_str(alloc, "both")?),
+        Some(object) if backend.has_object_for_id(id) => tell_object(answer, object),
+        None if !backend.has_object_for_id(id) => answer.put("none"),
+        _ => answer.put("both"),
     }
 }
 
 /// Takes the object of that id out.
-fn remove(world: &mut World, id: u64) -> Result<String, Stop> {
+fn remove(answer: &mut Answer, world: &mut World, id: u64) {
     world.backend.remove_id(id);
-    Ok(String::from_str(world.alloc, "done")?)
+    answer.put("done");
 }
 
-/// The next own id, and how many are left, up to a hundred.
-fn next(alloc: Global, backend: &Backend) -> Result<String, Stop> {
-    let (next, left) = (backend.next_id(), backend.ids_left().min(100));
-    Ok(format!(in alloc; "{next:x} {left}")?)
+/// Tells the next own id, and how many are left, up to a hundred.
+fn tell_ids(answer: &mut Answer, backend: &Backend) {
+    answer.display(&Hex(backend.next_id()));
+    tell_next(answer, &backend.ids_left().min(100));
 }
 
-/// Keeps a clone of the object, and says whether it equals it.
-fn keep(world: &mut World, id: u64) -> Result<String, Stop> {
-    let object = world.backend.object_for_id(id).ok_or(Stop::Line)?;
-    let clone = object.clone()?;
-    let same = clone == *object;
-    drop(replace(&mut world.kept, Some(clone)));
-    said(world.alloc, same)
-}
-
-/// The object that is kept.
-fn kept(world: &World) -> Result<&Object, Stop> {
-    match &world.kept {
-        Some(kept) => Ok(kept),
-        None => Err(Stop::Line),
+/// Keeps a clone of the object, and tells whether it equals it.
+fn keep(answer: &mut Answer, world: &mut World, words: &mut Reader<'_>) {
+    match world.backend.object_for_id(id(words)) {
+        Some(object) => {
+            let clone = answer.take(object.clone());
+            tell_whether(answer, clone.as_ref() == Some(object));
+            drop(replace(&mut world.kept, clone));
+        }
+        None => words.miss(),
     }
 }
 
-/// Whether the object equals the one that is kept.
-fn equal(world: &World, id: u64) -> Result<String, Stop> {
-    let object = world.backend.object_for_id(id).ok_or(Stop::Line)?;
-    said(world.alloc, object == kept(world)?)
+/// Tells whether the object equals the one that is kept.
+fn tell_equal(answer: &mut Answer, world: &World, words: &mut Reader<'_>) {
+    match (world.backend.object_for_id(id(words)), &world.kept) {
+        (Some(object), Some(kept)) => tell_whether(answer, object == kept),
+        _ => words.miss(),
+    }
 }
 
-/// Whether the endpoint has the object that is kept.
-fn alive(world: &World) -> Result<String, Stop> {
-    said(world.alloc, kept(world)?.is_alive(&world.backend))
+/// Tells whether the endpoint has the object that is kept.
+fn tell_alive(answer: &mut Answer, world: &World, words: &mut Reader<'_>) {
+    match &world.kept {
+        Some(kept) => tell_whether(answer, kept.is_alive(&world.backend)),
+        None => words.miss(),
+    }
 }
 
 /// Writes a message to the object at any end.
@@ -139,23 +138,24 @@ fn request<C: HasBackend>(
     object.request(context, opcode, args)
 }
 
-/// Writes a message to the object that is kept.
-fn ask(world: &mut World, rest: &str) -> Result<String, Stop> {
-    let (opcode, arg) = first(rest);
-    let args = [argument(arg)?];
-    let kept = world.kept.as_ref().ok_or(Stop::Line)?;
-    let asked = request(&mut world.backend, kept, number(opcode)?, &args);
-    said(world.alloc, asked.is_ok())
+/// Writes a message to the object that is kept, and tells whether it is written.
+fn tell_ask(answer: &mut Answer, world: &mut World, words: &mut Reader<'_>) {
+    let opcode = words.number();
+    let args = [argument(words)];
+    match &world.kept {
+        Some(kept) => {
+            let asked = request(&mut world.backend, kept, opcode, &args);
+            tell_whether(answer, asked.is_ok());
+        }
+        None => words.miss(),
+    }
 }
 
-/// Announces a seat.
-fn seat(world: &mut World, rest: &str) -> Result<String, Stop> {
-    let (target, rest) = first(rest);
-    let (version, rest) = first(rest);
-    let (target, version) = (id(target)?, number(version)?);
-    let (one, other) = first(rest);
-    let args = [argument(one)?, argument(other)?];
+/// Announces a seat, and tells it.
+fn tell_seat(answer: &mut Answer, world: &mut World, words: &mut Reader<'_>) {
+    let (target, version) = (id(words), words.number());
+    let args = [argument(words), argument(words)];
     let name = InterfaceName::Known(KnownInterface::Seat);
     let seat = world.backend.request_new(target, 2, &args, name, version);
-    made(world.alloc, seat)
+    tell_made(answer, seat);
 }

@@ -3,75 +3,79 @@
 use crate::words::bytes;
 use ei_backend::{Interface, Object};
 use ei_client::Context;
-use ei_wire::{Arg, NoMemory};
+use ei_wire::Arg;
 use reis_trace::{trace, trace_line};
 use std::alloc::Global;
-use test_table::{Stop, first};
+use test_table::{Answer, Reader, Stop};
 
 /// What a call answers, with a mark for each newline:
 /// - `replies BYTES`: the lines of a server's replies, up to a callback that a fresh client doesn't know;
 /// - `shown`: a request of a client with a text, and a message to no object.
-pub(crate) fn answer(alloc: Global, call: &str) -> Result<String, Stop> {
-    let (name, rest) = first(call);
-    match name {
-        "replies" => traced(alloc, rest),
-        "shown" => quoted(alloc, lines_of(alloc)?.as_str()),
-        _ => Err(Stop::Line),
+pub(crate) fn tell(alloc: Global, answer: &mut Answer, words: &mut Reader<'_>) {
+    match words.word() {
+        "replies" => tell_replies(alloc, answer, words),
+        "shown" => tell_shown(alloc, answer),
+        _ => words.miss(),
     }
 }
 
-/// The text in quotes.
-fn quoted(alloc: Global, text: &str) -> Result<String, Stop> {
-    Ok(format!(in alloc; "{text:?}")?)
+/// Tells the lines of these replies.
+fn tell_replies(alloc: Global, answer: &mut Answer, words: &mut Reader<'_>) {
+    let replies = bytes(alloc, words);
+    if let Some(lines) = answer.take(trace(alloc, &replies)) {
+        match str::from_utf8(&lines) {
+            Ok(text) => answer.show(&text),
+            Err(_) => answer.stop(Stop::Call),
+        }
+        // Let go by a call: at the end of a scope the drop of each field is proved anew.
+        drop(lines);
+    }
+    drop(replies);
 }
 
-/// The lines of these replies.
-fn traced(alloc: Global, digits: &str) -> Result<String, Stop> {
-    let reply = bytes(alloc, digits)?;
-    let lines = trace(alloc, &reply)?;
-    match str::from_utf8(&lines) {
-        Ok(text) => quoted(alloc, text),
-        Err(_) => Err(Stop::Call),
+/// Tells a request of a client with a text, and a message to no object.
+fn tell_shown(alloc: Global, answer: &mut Answer) {
+    if let Some(client) = answer.take(Context::new(alloc)) {
+        let mut lines = Answer::new(alloc);
+        tell_lines(alloc, &mut lines, &client);
+        drop(client);
+        if let Some(text) = answer.take(lines.text()) {
+            answer.show(&text);
+            drop(text);
+        }
     }
 }
 
-/// A request of a client with a text, and a message to no object.
-fn lines_of(alloc: Global) -> Result<String, NoMemory> {
-    let client = Context::new(alloc)?;
-    let text = lines_by(alloc, &client);
-    // Let go by a call: at the end of a scope the drop of each field is proved anew.
-    drop(client);
-    text
-}
-
-/// The same, of this client.
-fn lines_by(alloc: Global, client: &Context) -> Result<String, NoMemory> {
-    let mut text = String::new(alloc);
+/// Tells the lines of this client.
+fn tell_lines(alloc: Global, lines: &mut Answer, client: &Context) {
     if let Some(handshake) = client.handshake() {
-        let pushed = push_version(alloc, &mut text, handshake.as_object());
+        let args = [Arg::String(Some("ei_seat")), Arg::Uint32(2)];
+        tell_line(
+            alloc,
+            lines,
+            false,
+            Some(handshake.as_object()),
+            0,
+            4,
+            &args,
+        );
         drop(handshake);
-        pushed?;
     }
-    push_line(alloc, &mut text, true, None, 255, 0, &[])?;
-    Ok(text)
+    tell_line(alloc, lines, true, None, 255, 0, &[]);
 }
 
-/// Adds the version of an interface, told to the handshake.
-fn push_version(alloc: Global, text: &mut String, handshake: &Object) -> Result<(), NoMemory> {
-    let args = [Arg::String(Some("ei_seat")), Arg::Uint32(2)];
-    push_line(alloc, text, false, Some(handshake), 0, 4, &args)
-}
-
-/// Adds the line of a message.
-fn push_line(
+/// Tells the line of a message.
+fn tell_line(
     alloc: Global,
-    text: &mut String,
+    lines: &mut Answer,
     incoming: bool,
     object: Option<&Object>,
     id: u64,
     opcode: u32,
     args: &[Arg<'_>],
-) -> Result<(), NoMemory> {
-    let line = trace_line(alloc, true, incoming, object, id, opcode, args)?;
-    Ok(text.push_str(line.as_str())?)
+) {
+    if let Some(line) = lines.take(trace_line(alloc, true, incoming, object, id, opcode, args)) {
+        lines.put(line.as_str());
+        drop(line);
+    }
 }

@@ -1,34 +1,22 @@
 //! The requests of a handshake that are read, fresh endpoints, and pieces of bytes.
 
-use ei_backend::{Backend, FIRST_SERVER_ID, PendingRequestResult, Pieces};
+use crate::words::{Hex, tell_next};
+use ei_backend::{Backend, PendingRequestResult, Pieces};
 use ei_server::{Request, handshake};
 use ei_spec::Handle;
 use ei_wire::NoMemory;
-use std::alloc::Global;
-use test_table::Stop;
+use test_table::{Answer, Stop};
 
 /// The most bytes of a piece.
 pub(crate) const PIECE: usize = 65536;
 
-/// A fresh endpoint of that kind: a server or a client, or one whose own ids begin at its last one, or behind it.
-pub(crate) fn endpoint_of(alloc: Global, kind: &str) -> Result<Backend, Stop> {
-    match kind {
-        "server" => Ok(Backend::new(alloc, false)?),
-        "client" => Ok(Backend::new(alloc, true)?),
-        "last-of-server" => Ok(Backend::with_next_id(alloc, false, u64::MAX - 1)?),
-        "last-of-client" => Ok(Backend::with_next_id(alloc, true, FIRST_SERVER_ID - 1)?),
-        "none-of-client" => Ok(Backend::with_next_id(alloc, true, FIRST_SERVER_ID)?),
-        _ => Err(Stop::Line),
-    }
-}
-
 /// Adds a piece to a source, unless it has no byte, or more bytes or handles than a piece may have.
-pub(crate) fn give(pieces: &mut Pieces, bytes: &[u8], handles: &[Handle]) -> Result<(), Stop> {
+pub(crate) fn give(answer: &mut Answer, pieces: &mut Pieces, bytes: &[u8], handles: &[Handle]) {
     if bytes.is_empty() || bytes.len() > PIECE || handles.len() > 64 {
-        return Err(Stop::Line);
+        answer.stop(Stop::Line);
+    } else {
+        answer.take(pieces.push(bytes, handles));
     }
-    pieces.push(bytes, handles)?;
-    Ok(())
 }
 
 /// What the next message is read as.
@@ -38,38 +26,39 @@ pub(crate) fn next(
     backend.pending()
 }
 
-/// The next message as a text, or why there is none.
-pub(crate) fn pending(alloc: Global, backend: &mut Backend) -> Result<String, Stop> {
+/// Tells what the next message is read as, or why there is none.
+pub(crate) fn tell_pending(answer: &mut Answer, backend: &mut Backend) {
     match next(backend) {
         Ok(next) => {
-            let text = described(alloc, &next);
+            tell_answer(answer, &next);
             // Let go by a call: at the end of a scope the drop of each field is proved anew.
             drop(next);
-            text
         }
-        Err(NoMemory) => Ok(String::from_str(alloc, "no memory")?),
+        Err(NoMemory) => answer.put("no memory"),
     }
 }
 
-/// A message that was read, or why there is none.
-fn described(alloc: Global, next: &Option<PendingRequestResult<Request>>) -> Result<String, Stop> {
+/// Tells a message that was read, or why there is none.
+fn tell_answer(answer: &mut Answer, next: &Option<PendingRequestResult<Request>>) {
     match next {
-        None => Ok(String::from_str(alloc, "nothing")?),
+        None => answer.put("nothing"),
         Some(PendingRequestResult::InvalidObject(id)) => {
-            Ok(format!(in alloc; "no object {id:x}")?)
+            answer.put("no object");
+            tell_next(answer, &Hex(*id));
         }
-        Some(PendingRequestResult::ParseError(error)) => Ok(format!(in alloc; "{error:?}")?),
-        Some(PendingRequestResult::Request(request)) => shown(alloc, request),
+        Some(PendingRequestResult::ParseError(error)) => answer.show(error),
+        Some(PendingRequestResult::Request(request)) => tell_request(answer, request),
     }
 }
 
-/// The interface and the version that a request tells, or the finish: no other is sent here.
-fn shown(alloc: Global, request: &Request) -> Result<String, Stop> {
+/// Tells the interface and the version that a request tells, or the finish: no other is sent here.
+fn tell_request(answer: &mut Answer, request: &Request) {
     match request {
         Request::Handshake(_, handshake::Request::InterfaceVersion { name, version }) => {
-            Ok(format!(in alloc; "{} {version}", name.as_str())?)
+            answer.put(name.as_str());
+            tell_next(answer, version);
         }
-        Request::Handshake(_, handshake::Request::Finish) => Ok(String::from_str(alloc, "finish")?),
-        _ => Err(Stop::Line),
+        Request::Handshake(_, handshake::Request::Finish) => answer.put("finish"),
+        _ => answer.stop(Stop::Line),
     }
 }

@@ -1,9 +1,9 @@
 //! The client's end: its proxies, and its requests, each with the arguments that the table has.
 
 use crate::messages::end::{
-    End, HALF, MINUS_ONE, ONE, Sends, Shown, TWO, send_by, send_to, without_proxy,
+    End, HALF, MINUS_ONE, ONE, Sends, TWO, send_by, send_to, without_proxy,
 };
-use crate::messages::proxies::shown;
+use crate::messages::proxies::tell_proxy_of;
 use ei_backend::{Interface, Kind, Object, PendingRequestResult};
 use ei_client::{
     Button, Callback, Connection, Context, Device, Event, Gesture, Handshake, Keyboard, Pingpong,
@@ -14,6 +14,7 @@ use ei_spec::KnownInterface;
 use ei_types::{ButtonState, ContextType, KeyState};
 use ei_wire::{NoMemory, SendError};
 use std::alloc::Global;
+use test_table::Answer;
 
 impl End for Context {
     type Message = Event;
@@ -45,8 +46,8 @@ impl End for Context {
         }
     }
 
-    fn text_of<K: Kind + Drop>(&self, alloc: Global, object: &Object) -> Shown {
-        shown::<Proxy<K>, Context>(alloc, self, object)
+    fn tell_proxy<K: Kind + Drop>(&self, answer: &mut Answer, object: &Object) {
+        tell_proxy_of::<Proxy<K>, Context>(answer, self, object);
     }
 }
 

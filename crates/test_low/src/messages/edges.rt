@@ -4,268 +4,222 @@
 use crate::messages::end::End;
 use crate::messages::joined::in_pieces;
 use crate::messages::targets::{proxy, with_targets};
-use ei_backend::{
-    Backend, HasBackend, Interface, MessageEnum, Object, PendingRequestResult, Pieces, Tray,
-};
+use crate::version::PIECE;
+use crate::words::{tell_bytes, tell_next};
+use ei_backend::{HasBackend, Interface, MessageEnum, Object, PendingRequestResult, Tray};
 use ei_types::DisconnectReason;
-use ei_wire::{Arg, NoMemory, ReadError, SendError};
-use std::alloc::{AllocError, Global};
-use std::io::Print;
-use test_table::Stop;
+use ei_wire::{Arg, SendError};
+use std::alloc::Global;
+use test_table::{Answer, Stop};
 
-/// Shows each.
-pub(crate) fn show<R: Print + AllocGlobal>(rt: &R) -> Result<(), Stop> {
-    let alloc = rt.alloc();
-    show_found(rt, "without a text", without_a_text(alloc))?;
-    show_found(rt, "a name of 1048555 bytes", name_carried(alloc, 1048555))?;
-    show_found(rt, "a name of 1048556 bytes", name_carried(alloc, 1048556))?;
-    show_found(rt, "other proxies", other_proxies(alloc))?;
-    show_found(rt, "a client", client_calls(alloc))?;
-    show_found(rt, "a server", server_calls(alloc))
+/// Tells each.
+pub(crate) fn tell(alloc: Global, answer: &mut Answer) {
+    answer.put("without a text: ");
+    tell_without_a_text(alloc, answer);
+    answer.put("\na name of 1048555 bytes: ");
+    tell_name(alloc, answer, 1048555);
+    answer.put("\na name of 1048556 bytes: ");
+    tell_name(alloc, answer, 1048556);
+    answer.put("\nother proxies:");
+    tell_others::<ei_server::Context, ei_server::Seat>(alloc, answer);
+    tell_others::<ei_client::Context, ei_client::Connection>(alloc, answer);
+    answer.put("\na client: ");
+    tell_client_calls(alloc, answer);
+    answer.put("\na server: ");
+    tell_server_calls(alloc, answer);
+    answer.put("\n");
 }
 
-/// Shows what was found, behind what it is.
-fn show_found<R: Print>(rt: &R, what: &str, found: Result<String, Stop>) -> Result<(), Stop> {
-    let text = found?;
-    println!(rt; "{what}: {text}")?;
-    Ok(())
-}
-
-/// What the calls of an end's own context do: it sends the version of its handshake, and a piece comes. What it makes is
-/// let go by a call: at the end of a scope the drop of each field is proved anew.
-macro_rules! own_calls {
-    ($alloc:ident, $context:ident, $tray:ident) => {{
-        let Some(handshake) = $context.handshake() else {
-            return Err(Stop::Call);
-        };
-        let sent = handshake.handshake_version($context, 1);
-        drop(handshake);
-        sent?;
-        let waiting = $context.unsent_len();
-        $context.flush($tray)?;
-        let mut pieces = in_pieces($alloc, &[1, 2, 3, 4, 5], &[], 65536)?;
-        let read = $context.read(&mut pieces);
+/// Tells what the calls of an end's own context do: it sends the version of its handshake, and a piece of five bytes
+/// comes.
+macro_rules! tell_own_calls {
+    ($alloc:ident, $answer:ident, $context:ident, $tray:ident) => {{
+        if let Some(handshake) = $context.handshake() {
+            $answer.take(handshake.handshake_version($context, 1));
+            // Let go by a call: at the end of a scope the drop of each field is proved anew.
+            drop(handshake);
+        }
+        tell_count($answer, $context.unsent_len(), " bytes wait, ");
+        $answer.take($context.flush($tray));
+        tell_count($answer, $context.unsent_len(), " left, ");
+        tell_count($answer, $tray.bytes().len(), " sent, ");
+        let mut pieces = in_pieces($alloc, $answer, &[1, 2, 3, 4, 5], &[], PIECE);
+        let read = $answer.take($context.read(&mut pieces));
         drop(pieces);
-        let read = read?;
-        let counts = [
-            waiting,
-            $context.unsent_len(),
-            $tray.bytes().len(),
-            read,
-            $context.unread_len(),
-        ];
-        calls_text($alloc, counts)
+        tell_count($answer, read.unwrap_or(0), " read, ");
+        tell_count($answer, $context.unread_len(), " unread");
     }};
 }
 
-/// How many bytes wait, are left, sent, read and unread, as a text.
-fn calls_text(alloc: Global, counts: [usize; 5]) -> Result<String, Stop> {
-    let [waiting, left, sent, read, unread] = counts;
-    Ok(format!(in alloc;
-        "{waiting} bytes wait, {left} left, {sent} sent, {read} read, {unread} unread"
-    )?)
+/// Tells a count, and what of.
+fn tell_count(answer: &mut Answer, count: usize, what: &str) {
+    answer.display(&count);
+    answer.put(what);
 }
 
-/// Those of a client, over a sink.
-fn client_over(
+/// Tells those of a client, over a sink.
+fn tell_client(
     alloc: Global,
+    answer: &mut Answer,
     context: &mut ei_client::Context,
     tray: &mut Tray,
-) -> Result<String, Stop> {
-    own_calls!(alloc, context, tray)
+) {
+    tell_own_calls!(alloc, answer, context, tray)
 }
 
-/// Those of a server, over a sink.
-fn server_over(
+/// Tells those of a server, over a sink.
+fn tell_server(
     alloc: Global,
+    answer: &mut Answer,
     context: &mut ei_server::Context,
     tray: &mut Tray,
-) -> Result<String, Stop> {
-    own_calls!(alloc, context, tray)
+) {
+    tell_own_calls!(alloc, answer, context, tray)
 }
 
-/// Those of a client to which five bytes come.
-fn client_calls(alloc: Global) -> Result<String, Stop> {
-    let mut context = ei_client::Context::new(alloc)?;
-    let mut tray = Tray::new(alloc);
-    let text = client_over(alloc, &mut context, &mut tray);
-    drop(tray);
-    drop(context);
-    text
+/// Tells those of a client to which five bytes come.
+fn tell_client_calls(alloc: Global, answer: &mut Answer) {
+    if let Some(mut context) = answer.take(ei_client::Context::new(alloc)) {
+        let mut tray = Tray::new(alloc);
+        tell_client(alloc, answer, &mut context, &mut tray);
+        drop(tray);
+        drop(context);
+    }
 }
 
-/// Those of a server to which five bytes come.
-fn server_calls(alloc: Global) -> Result<String, Stop> {
-    let mut context = ei_server::Context::new(alloc)?;
-    let mut tray = Tray::new(alloc);
-    let text = server_over(alloc, &mut context, &mut tray);
-    drop(tray);
-    drop(context);
-    text
+/// Tells those of a server to which five bytes come.
+fn tell_server_calls(alloc: Global, answer: &mut Answer) {
+    if let Some(mut context) = answer.take(ei_server::Context::new(alloc)) {
+        let mut tray = Tray::new(alloc);
+        tell_server(alloc, answer, &mut context, &mut tray);
+        drop(tray);
+        drop(context);
+    }
 }
 
-/// The bytes of the event that ends a connection without a text, and whether the connection is alive then.
-fn without_a_text(alloc: Global) -> Result<String, Stop> {
-    let mut server: ei_server::Context = with_targets(alloc)?;
-    let text = ended(alloc, &mut server);
-    drop(server);
-    text
+/// Tells the bytes of the event that ends a connection without a text, and whether the connection is alive then.
+fn tell_without_a_text(alloc: Global, answer: &mut Answer) {
+    if let Some(mut server) = with_targets::<ei_server::Context>(alloc, answer) {
+        match proxy(&server) {
+            Some(connection) => {
+                tell_disconnected(alloc, answer, &mut server, &connection);
+                drop(connection);
+            }
+            None => answer.stop(Stop::Call),
+        }
+        drop(server);
+    }
 }
 
-/// The same of this server.
-fn ended(alloc: Global, server: &mut ei_server::Context) -> Result<String, Stop> {
-    let Some(connection) = proxy(server) else {
-        return Err(Stop::Call);
-    };
-    let text = disconnected(alloc, server, &connection);
-    drop(connection);
-    text
-}
-
-/// The same of this server's connection.
-fn disconnected(
+/// Tells the same of this server's connection.
+fn tell_disconnected(
     alloc: Global,
+    answer: &mut Answer,
     server: &mut ei_server::Context,
     connection: &ei_server::Connection,
-) -> Result<String, Stop> {
-    connection.disconnected(server, 5, DisconnectReason::Value, None)?;
-    sent(alloc, server.backend(), connection.is_alive(server))
-}
-
-/// The bytes that an end sends, and whether the connection is alive.
-fn sent(alloc: Global, backend: &Backend, alive: bool) -> Result<String, Stop> {
-    let digits = hex::encode(alloc, backend.unsent())?;
-    Ok(format!(in alloc; "{digits}, alive {alive}")?)
+) {
+    answer.take(connection.disconnected(server, 5, DisconnectReason::Value, None));
+    tell_bytes(alloc, answer, server.backend().unsent());
+    answer.put(", alive ");
+    answer.display(&connection.is_alive(server));
 }
 
 /// A name of so many letters.
-fn long_name(alloc: Global, count: usize) -> Result<String, AllocError> {
+fn long_name(alloc: Global, answer: &mut Answer, count: usize) -> String {
     let mut name = String::new(alloc);
     for _ in 0..count {
-        name.push('a')?;
+        answer.take(name.push('a'));
     }
-    Ok(name)
+    name
 }
 
-/// What becomes of a client's name of so many letters: how many bytes are sent, and how many letters are read.
-fn name_carried(alloc: Global, count: usize) -> Result<String, Stop> {
-    let mut client = ei_client::Context::new(alloc)?;
-    let text = named(alloc, &mut client, count);
-    drop(client);
-    text
-}
-
-/// The same of this client.
-fn named(alloc: Global, client: &mut ei_client::Context, count: usize) -> Result<String, Stop> {
-    let name = long_name(alloc, count)?;
-    match send_name(client, name.as_str()) {
-        Ok(()) => carried(alloc, client),
-        Err(error) => unsent(alloc, client, &error),
+/// Tells what becomes of a client's name of so many letters: how many bytes are sent, and how many letters are read.
+fn tell_name(alloc: Global, answer: &mut Answer, count: usize) {
+    if let Some(mut client) = answer.take(ei_client::Context::new(alloc)) {
+        let name = long_name(alloc, answer, count);
+        match send_name(&mut client, name.as_str()) {
+            Ok(()) => tell_carried(alloc, answer, &mut client),
+            Err(error) => {
+                answer.show(&error);
+                answer.put(", ");
+                tell_count(answer, client.backend().unsent().len(), " bytes sent");
+            }
+        }
+        drop(name);
+        drop(client);
     }
 }
 
 /// Sends the name to the handshake.
 fn send_name(client: &mut ei_client::Context, name: &str) -> Result<(), SendError> {
-    let Some(handshake) = client.handshake() else {
-        return Ok(());
-    };
-    let sent = handshake.name(client, name);
-    drop(handshake);
-    sent
-}
-
-/// Why nothing is sent, and how many bytes wait.
-fn unsent(alloc: Global, client: &ei_client::Context, error: &SendError) -> Result<String, Stop> {
-    let waiting = client.backend().unsent().len();
-    Ok(format!(in alloc; "{error:?}, {waiting} bytes sent")?)
-}
-
-/// How many bytes a client sends, and how many letters are read of them.
-fn carried(alloc: Global, client: &mut ei_client::Context) -> Result<String, Stop> {
-    let mut tray = Tray::new(alloc);
-    let text = carried_by(alloc, client, &mut tray);
-    drop(tray);
-    text
-}
-
-/// The same, over this sink.
-fn carried_by(
-    alloc: Global,
-    client: &mut ei_client::Context,
-    tray: &mut Tray,
-) -> Result<String, Stop> {
-    client.flush(tray)?;
-    let letters = letters_read::<ei_server::Context>(alloc, tray)?;
-    Ok(format!(in alloc; "{} bytes sent, {letters} letters read", tray.bytes().len())?)
-}
-
-/// How many letters the name has that an end reads.
-fn letters_read<E: End>(alloc: Global, sent: &Tray) -> Result<usize, Stop> {
-    let mut end = E::new(alloc)?;
-    letters_of_next(alloc, &mut end, sent)
-}
-
-/// How many letters the name has that this end reads next.
-fn letters_of_next<E: End>(alloc: Global, end: &mut E, sent: &Tray) -> Result<usize, Stop> {
-    let mut pieces = in_pieces(alloc, sent.bytes(), sent.handles(), 65536)?;
-    let taken = take_all(end, &mut pieces, sent.bytes());
-    drop(pieces);
-    taken?;
-    let next = end.next()?;
-    letters_in(alloc, &next)
-}
-
-/// Lets all the bytes come.
-fn take_all<E: End>(end: &mut E, pieces: &mut Pieces, bytes: &[u8]) -> Result<(), ReadError> {
-    for _ in bytes.chunks(65536) {
-        end.backend_mut().read(pieces)?;
-    }
-    Ok(())
-}
-
-/// How many letters the request has that is answered.
-fn letters_in<M: MessageEnum>(
-    alloc: Global,
-    next: &Option<PendingRequestResult<M>>,
-) -> Result<usize, Stop> {
-    match next {
-        Some(PendingRequestResult::Request(message)) => Ok(letters_of(alloc, message)?),
-        _ => Err(Stop::Call),
-    }
-}
-
-/// How many bytes the text of the message has.
-fn letters_of<M: MessageEnum>(alloc: Global, message: &M) -> Result<usize, NoMemory> {
-    let mut count = 0usize;
-    for arg in &message.args(alloc)? {
-        if let Arg::String(Some(text)) = arg {
-            count = text.len();
+    match client.handshake() {
+        Some(handshake) => {
+            let sent = handshake.name(client, name);
+            drop(handshake);
+            sent
         }
-    }
-    Ok(count)
-}
-
-/// Whether a seat of the server has a proxy of a connection, and one of a client's seat; and a connection of the
-/// client one of a server's connection, and one of a seat.
-fn other_proxies(alloc: Global) -> Result<String, Stop> {
-    let (first, second) = others::<ei_server::Context, ei_server::Seat>(alloc)?;
-    let (third, fourth) = others::<ei_client::Context, ei_client::Connection>(alloc)?;
-    Ok(format!(in alloc; "{first} {second} {third} {fourth}")?)
-}
-
-/// Whether the object of that proxy has one of a server's connection, and one of a client's seat.
-fn others<E: End, T: Interface + Drop>(alloc: Global) -> Result<(bool, bool), Stop> {
-    let end: E = with_targets(alloc)?;
-    match proxy::<T, E>(&end) {
-        Some(it) => Ok((
-            has_proxy::<ei_server::Connection>(it.as_object().copy()),
-            has_proxy::<ei_client::Seat>(it.as_object().copy()),
-        )),
-        None => Err(Stop::Call),
+        None => Ok(()),
     }
 }
 
-/// Whether the object has a proxy of that type.
-fn has_proxy<T: Interface + Drop>(object: Object) -> bool {
-    object.downcast::<T>().is_some()
+/// Tells how many bytes a client sends, and how many letters are read of them.
+fn tell_carried(alloc: Global, answer: &mut Answer, client: &mut ei_client::Context) {
+    let mut tray = Tray::new(alloc);
+    answer.take(client.flush(&mut tray));
+    tell_count(answer, tray.bytes().len(), " bytes sent, ");
+    if let Some(mut server) = answer.take(ei_server::Context::new(alloc)) {
+        tell_letters_read(alloc, answer, &mut server, &tray);
+        drop(server);
+    }
+    drop(tray);
+}
+
+/// Tells how many letters the name has that this end reads.
+fn tell_letters_read<E: End>(alloc: Global, answer: &mut Answer, end: &mut E, sent: &Tray) {
+    let mut pieces = in_pieces(alloc, answer, sent.bytes(), sent.handles(), PIECE);
+    for _ in sent.bytes().chunks(PIECE) {
+        answer.take(end.backend_mut().read(&mut pieces));
+    }
+    drop(pieces);
+    if let Some(next) = answer.take(end.next()) {
+        match &next {
+            Some(PendingRequestResult::Request(message)) => tell_letters(alloc, answer, message),
+            _ => answer.stop(Stop::Call),
+        }
+        drop(next);
+    }
+}
+
+/// Tells how many bytes the texts of the message have.
+fn tell_letters<M: MessageEnum>(alloc: Global, answer: &mut Answer, message: &M) {
+    if let Some(args) = answer.take(message.args(alloc)) {
+        for arg in &args {
+            if let Arg::String(Some(text)) = arg {
+                tell_count(answer, text.len(), " letters read");
+            }
+        }
+        drop(args);
+    }
+}
+
+/// Tells whether the object of that proxy has one of a server's connection, and one of a client's seat.
+fn tell_others<E: End, T: Interface + Drop>(alloc: Global, answer: &mut Answer) {
+    if let Some(end) = with_targets::<E>(alloc, answer) {
+        match proxy::<T, E>(&end) {
+            Some(it) => {
+                tell_has::<ei_server::Connection>(answer, it.as_object().copy());
+                tell_has::<ei_client::Seat>(answer, it.as_object().copy());
+                drop(it);
+            }
+            None => answer.stop(Stop::Call),
+        }
+        drop(end);
+    }
+}
+
+/// Tells whether the object has a proxy of that type.
+fn tell_has<T: Interface + Drop>(answer: &mut Answer, object: Object) {
+    let proxy = object.downcast::<T>();
+    tell_next(answer, &proxy.is_some());
+    drop(proxy);
 }

@@ -4,8 +4,9 @@ use crate::messages::targets::proxy;
 use ei_backend::{HasBackend, Interface, Kind, MessageEnum, Object, PendingRequestResult};
 use ei_spec::KnownInterface;
 use ei_wire::{NoMemory, RawFloat, SendError};
-use std::alloc::{AllocError, Global};
-use std::fmt;
+use std::alloc::Global;
+use std::fmt::Debug;
+use test_table::Answer;
 
 /// The floats that are sent: -1, 0.5, 1 and 2.
 pub(crate) const MINUS_ONE: RawFloat = RawFloat(0xbf80_0000);
@@ -16,13 +17,10 @@ pub(crate) const ONE: RawFloat = RawFloat(0x3f80_0000);
 
 pub(crate) const TWO: RawFloat = RawFloat(0x4000_0000);
 
-/// A proxy as a text, or `None` where there is none.
-pub(crate) type Shown = Result<Option<String>, AllocError>;
-
 /// The context of one end.
 pub(crate) trait End: HasBackend + Drop {
     /// What it reads.
-    type Message: MessageEnum + fmt::Debug + Drop;
+    type Message: MessageEnum + Debug + Drop;
 
     const IS_CLIENT: bool;
 
@@ -38,8 +36,8 @@ pub(crate) trait End: HasBackend + Drop {
     /// The object that a message announces.
     fn announced(message: &Self::Message) -> Option<&Object>;
 
-    /// The proxy of that kind over the object as a text: `None` where the object has none.
-    fn text_of<K: Kind + Drop>(&self, alloc: Global, object: &Object) -> Shown;
+    /// Tells the proxy of that kind over the object: nothing where the object has none.
+    fn tell_proxy<K: Kind + Drop>(&self, answer: &mut Answer, object: &Object);
 }
 
 /// A proxy that sends each message of its interface, with the arguments that the table has.

@@ -4,8 +4,9 @@ use crate::messages::targets::interface_of;
 use ei_spec::KnownInterface;
 use ei_wire::Header;
 use std::alloc::Global;
+use std::io;
 use std::io::Input;
-use test_table::Stop;
+use test_table::{Answer, Stop, first};
 
 /// A message: its bytes, and what it is read as.
 #[derive(Drop)]
@@ -34,72 +35,84 @@ pub(crate) struct Table {
 
 impl Table {
     /// The table that the input spells, up to an empty line.
-    pub(crate) fn from_input<R: Input + AllocGlobal>(rt: &R) -> Result<Table, Stop> {
-        let mut table = Table::new(rt.alloc());
-        match table.fill(rt) {
-            Ok(()) => Ok(table),
-            Err(stop) => {
-                // Let go by a call: at the end of a scope the drop of each field is proved anew.
-                drop(table);
-                Err(stop)
-            }
-        }
-    }
-
-    /// A table without a message.
-    fn new(alloc: Global) -> Table {
-        Table {
+    pub(crate) fn from_input<R: Input + AllocGlobal>(rt: &R, answer: &mut Answer) -> Table {
+        let alloc = rt.alloc();
+        let mut table = Table {
             events: Vec::new(alloc),
             requests: Vec::new(alloc),
             lone_events: Vec::new(alloc),
             lone_requests: Vec::new(alloc),
-        }
-    }
-
-    /// Adds each line up to an empty one.
-    fn fill<R: Input + AllocGlobal>(&mut self, rt: &R) -> Result<(), Stop> {
-        let alloc = rt.alloc();
+        };
         for line in rt.lines(alloc) {
-            if !self.takes(alloc, line?.as_str())? {
+            if !table.takes(alloc, answer, line) {
                 break;
             }
         }
-        Ok(())
+        table
     }
 
     /// Adds the line, unless it ends the table, and says whether it was added.
-    fn takes(&mut self, alloc: Global, line: &str) -> Result<bool, Stop> {
-        if line.is_empty() {
-            return Ok(false);
+    fn takes(&mut self, alloc: Global, answer: &mut Answer, line: io::Result<String>) -> bool {
+        match answer.take(line) {
+            Some(line) => {
+                let more = !line.is_empty();
+                if more {
+                    self.push(alloc, answer, line.as_str());
+                }
+                // Let go by a call: at the end of a scope the drop of each field is proved anew.
+                drop(line);
+                more
+            }
+            None => false,
         }
-        self.push(alloc, line)?;
-        Ok(true)
     }
 
     /// Adds a line.
-    fn push(&mut self, alloc: Global, line: &str) -> Result<(), Stop> {
-        let (front, read_as) = line.split_once(" | ").ok_or(Stop::Line)?;
-        let (kind, digits) = front.split_once(' ').ok_or(Stop::Line)?;
-        let rows = match kind {
-            "event" => &mut self.events,
-            "request" => &mut self.requests,
-            "event-alone" => &mut self.lone_events,
-            "request-alone" => &mut self.lone_requests,
-            _ => return Err(Stop::Line),
+    fn push(&mut self, alloc: Global, answer: &mut Answer, line: &str) {
+        let (front, read_as) = line.split_once(" | ").unwrap_or((line, ""));
+        let (kind, digits) = first(front);
+        let row = Row {
+            bytes: bytes_of(alloc, answer, digits),
+            read_as: text_of(alloc, answer, read_as),
         };
-        rows.push(Row {
-            bytes: bytes_of(alloc, digits)?,
-            read_as: String::from_str(alloc, read_as)?,
-        })?;
-        Ok(())
+        match kind {
+            "event" => push_row(answer, &mut self.events, row),
+            "request" => push_row(answer, &mut self.requests, row),
+            "event-alone" => push_row(answer, &mut self.lone_events, row),
+            "request-alone" => push_row(answer, &mut self.lone_requests, row),
+            _ => {
+                drop(row);
+                answer.stop(Stop::Line);
+            }
+        }
     }
 }
 
+/// Adds a row.
+fn push_row(answer: &mut Answer, rows: &mut Vec<Row>, row: Row) {
+    answer.take(rows.push(row));
+}
+
+/// A text of these letters.
+fn text_of(alloc: Global, answer: &mut Answer, letters: &str) -> String {
+    let mut text = String::new(alloc);
+    answer.take(text.push_str(letters));
+    text
+}
+
 /// The bytes of hexadecimal digits, two for each byte.
-fn bytes_of(alloc: Global, digits: &str) -> Result<Vec<u8>, Stop> {
+fn bytes_of(alloc: Global, answer: &mut Answer, digits: &str) -> Vec<u8> {
     let mut bytes = Vec::new(alloc);
     for word in digits.split(' ') {
-        bytes.extend_from_slice(&hex::decode(alloc, word)?)?;
+        push_bytes(alloc, answer, &mut bytes, word);
     }
-    Ok(bytes)
+    bytes
+}
+
+/// Adds the bytes of a word.
+fn push_bytes(alloc: Global, answer: &mut Answer, bytes: &mut Vec<u8>, digits: &str) {
+    if let Some(more) = answer.take(hex::decode(alloc, digits)) {
+        answer.take(bytes.extend_from_slice(&more));
+        drop(more);
+    }
 }

@@ -1,9 +1,9 @@
 //! The server's end: its proxies, and its events, each with the arguments that the table has.
 
 use crate::messages::end::{
-    End, HALF, MINUS_ONE, ONE, Sends, Shown, TWO, send_by, send_to, without_proxy,
+    End, HALF, MINUS_ONE, ONE, Sends, TWO, send_by, send_to, without_proxy,
 };
-use crate::messages::proxies::shown;
+use crate::messages::proxies::tell_proxy_of;
 use ei_backend::{Interface, Kind, Object, PendingRequestResult};
 use ei_server::{
     Button, Callback, Connection, Context, Device, Gesture, Handshake, Keyboard, Pingpong, Pointer,
@@ -13,6 +13,7 @@ use ei_spec::{Handle, KnownInterface};
 use ei_types::{ButtonState, DeviceType, DisconnectReason, KeyState, KeymapType};
 use ei_wire::{NoMemory, SendError};
 use std::alloc::Global;
+use test_table::Answer;
 
 impl End for Context {
     type Message = Request;
@@ -40,8 +41,8 @@ impl End for Context {
         }
     }
 
-    fn text_of<K: Kind + Drop>(&self, alloc: Global, object: &Object) -> Shown {
-        shown::<Proxy<K>, Context>(alloc, self, object)
+    fn tell_proxy<K: Kind + Drop>(&self, answer: &mut Answer, object: &Object) {
+        tell_proxy_of::<Proxy<K>, Context>(answer, self, object);
     }
 }
 

@@ -1,12 +1,13 @@
 //! The two directions: what is sent, what is read, and what is carried from one end to the other.
 
 use crate::messages::end::End;
-use crate::messages::joined::{Lies, Received, Sent, carried, read_alone, send};
+use crate::messages::joined::{Lies, in_pieces, taken, tell_alone, tell_objects};
 use crate::messages::row::{Row, Table};
-use ei_backend::Tray;
+use crate::messages::targets::with_targets;
+use ei_backend::{HasBackend, Tray};
 use ei_spec::Handle;
-use std::io::Print;
-use test_table::Stop;
+use std::alloc::Global;
+use test_table::Answer;
 
 /// The sizes of the pieces in which the bytes come.
 const SIZES: [usize; 3] = [1, 5, 65536];
@@ -21,130 +22,206 @@ fn handles_of(row: &Row) -> &'static [Handle] {
 }
 
 /// The server sends, the client reads.
-pub(crate) fn events<R: Print + AllocGlobal>(rt: &R, table: &Table) -> Result<(), Stop> {
-    let (lone, rows) = (&table.lone_events, &table.events);
-    show::<ei_server::Context, ei_client::Context, R>(rt, "events", lone, rows)
+pub(crate) fn tell_events(alloc: Global, answer: &mut Answer, table: &Table) {
+    answer.put("events\n");
+    tell_side::<ei_client::Context>(alloc, answer, &table.lone_events, &table.events);
+    tell_joined::<ei_server::Context, ei_client::Context>(alloc, answer, &table.events);
 }
 
 /// The client sends, the server reads.
-pub(crate) fn requests<R: Print + AllocGlobal>(rt: &R, table: &Table) -> Result<(), Stop> {
-    let (lone, rows) = (&table.lone_requests, &table.requests);
-    show::<ei_client::Context, ei_server::Context, R>(rt, "requests", lone, rows)
+pub(crate) fn tell_requests(alloc: Global, answer: &mut Answer, table: &Table) {
+    answer.put("requests\n");
+    tell_side::<ei_server::Context>(alloc, answer, &table.lone_requests, &table.requests);
+    tell_joined::<ei_client::Context, ei_server::Context>(alloc, answer, &table.requests);
 }
 
-/// Shows what the second end reads of the rows that are only read, and of those that the first end sends, under this
-/// heading.
-fn show<S: End, E: End, R: Print + AllocGlobal>(
-    rt: &R,
-    heading: &str,
-    lone: &[Row],
-    rows: &[Row],
-) -> Result<(), Stop> {
-    println!(rt; "{heading}")?;
-    show_alone::<E, R>(rt, lone, Lies::InPlace)?;
-    show_alone::<E, R>(rt, rows, Lies::Across)?;
-    show_alone::<E, R>(rt, rows, Lies::InPlace)?;
-    show_joined::<S, E, R>(rt, rows)
+/// Tells what an end alone reads of the rows that are only read, and of the others.
+fn tell_side<E: End>(alloc: Global, answer: &mut Answer, lone: &[Row], rows: &[Row]) {
+    tell_rows::<E>(alloc, answer, lone, Lies::InPlace);
+    tell_rows::<E>(alloc, answer, rows, Lies::Across);
+    tell_rows::<E>(alloc, answer, rows, Lies::InPlace);
 }
 
-/// Shows how many rows a fresh end reads as they should be.
-fn show_alone<E: End, R: Print + AllocGlobal>(
-    rt: &R,
-    rows: &[Row],
-    lies: Lies,
-) -> Result<(), Stop> {
+/// Tells how many rows a fresh end reads as they should be.
+fn tell_rows<E: End>(alloc: Global, answer: &mut Answer, rows: &[Row], lies: Lies) {
     let mut right = 0usize;
     for row in rows {
-        let text = read_alone::<E>(rt.alloc(), row, handles_of(row), lies)?;
-        if is_right(rt, row, text.as_str())? {
+        if is_read_alone::<E>(alloc, answer, row, lies) {
             right = right.saturating_add(1);
         }
     }
-    println!(rt; "read alone: {right}")?;
-    Ok(())
+    answer.put("read alone: ");
+    answer.display(&right);
+    answer.put("\n");
 }
 
-/// Whether the text is what the row is read as. Shows both where it isn't.
-fn is_right<R: Print>(rt: &R, row: &Row, text: &str) -> Result<bool, Stop> {
+/// Whether a fresh end reads the row as it should be.
+fn is_read_alone<E: End>(alloc: Global, answer: &mut Answer, row: &Row, lies: Lies) -> bool {
+    let mut found = Answer::new(alloc);
+    tell_alone::<E>(alloc, &mut found, row, handles_of(row), lies);
+    match answer.take(found.text()) {
+        Some(text) => {
+            let right = is_right(answer, row, text.as_str());
+            // Let go by a call: at the end of a scope the drop of each field is proved anew.
+            drop(text);
+            right
+        }
+        None => false,
+    }
+}
+
+/// Whether the text is what the row is read as. Tells both where it isn't.
+fn is_right(answer: &mut Answer, row: &Row, text: &str) -> bool {
     let right = text == row.read_as.as_str();
     if !right {
-        println!(rt; "wanted {}\nfound  {text}", row.read_as)?;
+        answer.put("wanted ");
+        answer.put(row.read_as.as_str());
+        answer.put("\nfound  ");
+        answer.put(text);
+        answer.put("\n");
     }
-    Ok(right)
+    right
 }
 
-/// Shows how many rows are sent as they should be, and how many are read by the other end in pieces of each size;
+/// Tells how many rows are sent as they should be, and how many are read by the other end in pieces of each size;
 /// the handles that are sent; and the objects of both ends afterwards.
-fn show_joined<S: End, E: End, R: Print + AllocGlobal>(rt: &R, rows: &[Row]) -> Result<(), Stop> {
-    let sent = send::<S>(rt.alloc(), rows)?;
-    let shown = show_both::<E, R>(rt, rows, &sent);
-    // Let go by a call: at the end of a scope the drop of each field is proved anew.
-    drop(sent);
-    shown
-}
-
-/// Shows what was sent, and what the other end reads of it.
-fn show_both<E: End, R: Print + AllocGlobal>(
-    rt: &R,
-    rows: &[Row],
-    sent: &Sent,
-) -> Result<(), Stop> {
-    show_sent(rt, rows, sent)?;
-    for size in &SIZES {
-        show_carried::<E, R>(rt, rows, &sent.tray, *size)?;
+fn tell_joined<S: End, E: End>(alloc: Global, answer: &mut Answer, rows: &[Row]) {
+    let mut tray = Tray::new(alloc);
+    if let Some(mut sender) = with_targets::<S>(alloc, answer) {
+        send(answer, &mut sender, &mut tray, rows);
+        tell_sent(answer, &tray, rows);
+        answer.put("\nobjects of the sender");
+        tell_objects(answer, &sender);
+        drop(sender);
     }
-    Ok(())
+    for size in &SIZES {
+        tell_carried::<E>(alloc, answer, &tray, rows, *size);
+    }
+    answer.put("\n");
+    drop(tray);
 }
 
-/// Shows what the end reads in pieces of this size.
-fn show_carried<E: End, R: Print + AllocGlobal>(
-    rt: &R,
-    rows: &[Row],
-    tray: &Tray,
-    size: usize,
-) -> Result<(), Stop> {
-    println!(rt; "in pieces of {size}")?;
-    let received = carried::<E>(rt.alloc(), tray, size)?;
-    let shown = show_received(rt, rows, &received);
-    drop(received);
-    shown
+/// Sends the message of each row, in their order, into the tray.
+fn send<S: End>(answer: &mut Answer, sender: &mut S, tray: &mut Tray, rows: &[Row]) {
+    for row in rows {
+        if let Some((interface, opcode)) = row.message() {
+            answer.take(sender.send(interface, opcode));
+        }
+    }
+    answer.take(sender.backend_mut().flush(tray));
 }
 
-/// Shows how many rows are sent as they should be, each handle, and the objects of the sender.
-fn show_sent<R: Print>(rt: &R, rows: &[Row], sent: &Sent) -> Result<(), Stop> {
-    let mut rest = sent.tray.bytes();
+/// Tells how many rows are sent as they should be, and each handle.
+fn tell_sent(answer: &mut Answer, tray: &Tray, rows: &[Row]) {
+    let mut rest = tray.bytes();
     let mut right = 0usize;
     for row in rows {
-        if rest.starts_with(&row.bytes) {
+        if is_first(answer, rest, row) {
             right = right.saturating_add(1);
-        } else {
-            println!(rt; "not sent: {}", row.read_as)?;
         }
         rest = rest.get(row.bytes.len()..).unwrap_or(&[]);
     }
-    println!(rt;
-        "sent: {right}, and {} bytes, with {:?}\nobjects of the sender{}",
-        rest.len(),
-        sent.tray.handles(),
-        sent.objects
-    )?;
-    Ok(())
+    answer.put("sent: ");
+    answer.display(&right);
+    answer.put(", and ");
+    answer.display(&rest.len());
+    answer.put(" bytes, with ");
+    answer.show(&tray.handles());
 }
 
-/// Shows how many of the rows were read, one after another, what is left, and the objects then.
-fn show_received<R: Print>(rt: &R, rows: &[Row], received: &Received) -> Result<(), Stop> {
-    let mut right = 0usize;
-    for (row, text) in rows.iter().zip(&received.messages) {
-        if is_right(rt, row, text.as_str())? {
-            right = right.saturating_add(1);
+/// Whether the bytes of the row are the first. Tells the row where they aren't.
+fn is_first(answer: &mut Answer, bytes: &[u8], row: &Row) -> bool {
+    let right = bytes.starts_with(&row.bytes);
+    if !right {
+        answer.put("not sent: ");
+        answer.put(row.read_as.as_str());
+        answer.put("\n");
+    }
+    right
+}
+
+/// Tells how many of the rows an end reads in pieces of this size, one after another; what is left, and the objects
+/// then.
+fn tell_carried<E: End>(
+    alloc: Global,
+    answer: &mut Answer,
+    tray: &Tray,
+    rows: &[Row],
+    size: usize,
+) {
+    answer.put("\nin pieces of ");
+    answer.display(&size);
+    answer.put("\n");
+    if let Some(mut reader) = with_targets::<E>(alloc, answer) {
+        carry(alloc, answer, &mut reader, tray, rows, size);
+        tell_left(answer, &reader);
+        drop(reader);
+    }
+}
+
+/// Tells what is left, and the objects.
+fn tell_left<E: End>(answer: &mut Answer, reader: &E) {
+    answer.put("\nleft: ");
+    answer.display(&reader.backend().unread_len());
+    answer.put(" bytes and ");
+    answer.display(&reader.backend().unread_handles());
+    answer.put(" handles\nobjects of the reader");
+    tell_objects(answer, reader);
+}
+
+/// How many messages were read, and how many of them as the rows say.
+#[derive(Drop)]
+struct Read<'a> {
+    rows: &'a [Row],
+    count: usize,
+    right: usize,
+}
+
+/// Carries what was sent to an end in pieces of this size, and tells how many of the rows it reads.
+fn carry<E: End>(
+    alloc: Global,
+    answer: &mut Answer,
+    reader: &mut E,
+    tray: &Tray,
+    rows: &[Row],
+    size: usize,
+) {
+    let mut read = Read {
+        rows,
+        count: 0,
+        right: 0,
+    };
+    let mut pieces = in_pieces(alloc, answer, tray.bytes(), tray.handles(), size);
+    for _ in tray.bytes().chunks(size.max(1)) {
+        answer.take(reader.backend_mut().read(&mut pieces));
+        take_whole(alloc, answer, reader, &mut read);
+    }
+    drop(pieces);
+    answer.put("read: ");
+    answer.display(&read.right);
+    answer.put(" of ");
+    answer.display(&read.count);
+}
+
+/// Takes each message that is whole.
+fn take_whole<E: End>(alloc: Global, answer: &mut Answer, reader: &mut E, read: &mut Read<'_>) {
+    for _ in 0..reader.backend().unread_len() {
+        match taken(alloc, answer, reader) {
+            Some(text) => {
+                note(answer, read, text.as_str());
+                drop(text);
+            }
+            None => break,
         }
     }
-    println!(rt;
-        "read: {right} of {}\nleft: {} bytes and {} handles\nobjects of the reader{}",
-        received.messages.len(),
-        received.bytes_left,
-        received.handles_left,
-        received.objects
-    )?;
-    Ok(())
+}
+
+/// A message was read.
+fn note(answer: &mut Answer, read: &mut Read<'_>, text: &str) {
+    if let Some(row) = read.rows.get(read.count) {
+        if is_right(answer, row, text) {
+            read.right = read.right.saturating_add(1);
+        }
+    }
+    read.count = read.count.saturating_add(1);
 }

@@ -2,11 +2,10 @@
 //! begin that messages announce.
 
 use crate::messages::end::End;
-use ei_backend::{FIRST_SERVER_ID, HasBackend, Interface, InterfaceName, Object};
+use ei_backend::{Backend, FIRST_SERVER_ID, HasBackend, Interface, InterfaceName, Object};
 use ei_spec::KnownInterface;
-use ei_wire::SendError;
 use std::alloc::Global;
-use test_table::Stop;
+use test_table::{Answer, Stop};
 
 /// An object.
 pub(crate) struct Target {
@@ -100,55 +99,55 @@ pub(crate) fn targets() -> &'static [Target] {
 }
 
 /// A fresh end with all of them.
-pub(crate) fn with_targets<E: End>(alloc: Global) -> Result<E, Stop> {
-    let mut end = E::new(alloc)?;
-    put_all(&mut end)?;
-    Ok(end)
+pub(crate) fn with_targets<E: End>(alloc: Global, answer: &mut Answer) -> Option<E> {
+    let mut end = answer.take(E::new(alloc));
+    if let Some(end) = &mut end {
+        put_all(answer, end);
+    }
+    end
 }
 
 /// Puts all of them into the table of a fresh end.
-fn put_all<E: End>(end: &mut E) -> Result<(), Stop> {
+fn put_all<E: End>(answer: &mut Answer, end: &mut E) {
     for target in targets() {
-        if target.id != 0 && !puts(end, target) {
-            return Err(Stop::Call);
+        if target.id != 0 {
+            put(answer, end, target);
         }
     }
     if !E::IS_CLIENT {
-        pass_ids(end)?;
+        pass_ids(answer, end.backend_mut());
     }
-    Ok(())
 }
 
 /// Uses up a server's own ids before the first that its messages announce.
-fn pass_ids<E: End>(end: &mut E) -> Result<(), SendError> {
-    let backend = end.backend_mut();
+fn pass_ids(answer: &mut Answer, backend: &mut Backend) {
+    let name = KnownInterface::Callback;
     for id in backend.next_id()..FIRST_ANNOUNCED {
-        drop(backend.new_object(InterfaceName::Known(KnownInterface::Callback), 1)?);
+        check_made(answer, backend.new_object(InterfaceName::Known(name), 1));
         backend.remove_id(id);
     }
-    Ok(())
 }
 
-/// Puts the object into the table, as its own one or as the other end's, and says whether it is there.
-fn puts<E: End>(end: &mut E, target: &Target) -> bool {
+/// Puts the object into the table, as its own one or as the other end's.
+fn put<E: End>(answer: &mut Answer, end: &mut E, target: &Target) {
     let name = InterfaceName::Known(target.interface);
     let backend = end.backend_mut();
     if (target.id >= FIRST_SERVER_ID) == E::IS_CLIENT {
-        is_made(backend.new_peer_object(target.id, name, target.version))
+        check_made(
+            answer,
+            backend.new_peer_object(target.id, name, target.version),
+        );
     } else {
-        is_made(backend.new_object(name, target.version))
+        check_made(answer, backend.new_object(name, target.version));
     }
 }
 
-/// Whether there is an object. It is let go by a call: at the end of a scope the drop of each field is proved anew.
-fn is_made<E: Drop>(object: Result<Object, E>) -> bool {
-    match object {
-        Ok(object) => {
-            drop(object);
-            true
-        }
-        Err(_) => false,
+/// Checks that there is an object. It is let go by a call: at the end of a scope the drop of each field is proved anew.
+fn check_made<E: Drop>(answer: &mut Answer, made: Result<Object, E>) {
+    if made.is_err() {
+        answer.stop(Stop::Call);
     }
+    drop(made);
 }
 
 /// The interface of the object of that id.
