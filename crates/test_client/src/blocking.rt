@@ -2,13 +2,13 @@
 
 use crate::handshake::push_complete;
 use crate::laying::{Lent, lay_out};
-use crate::words::{kind_of, letters, push, push_shown};
+use crate::words::{kind, letters, push, push_shown};
 use ei_blocking::ei_handshake_blocking;
 use ei_client::Context;
 use ei_handshake::HandshakeResp;
 use ei_types::{ContextType, Error};
 use std::alloc::{AllocError, Global};
-use test_table::{Stop, first, number};
+use test_table::{Answer, Reader};
 
 /// `PIECES KIND NAME SOURCE SINK WORD ..`: adds what the handshake over these pieces answers, how many bytes the sink then
 /// has, how many are unread, and how many pieces are left. The source fails at that call, and the sink at that, 0 at none; a
@@ -16,39 +16,32 @@ use test_table::{Stop, first, number};
 pub(crate) fn block(
     alloc: Global,
     context: &mut Context,
-    call: &str,
-    text: &mut String,
-) -> Result<(), Stop> {
+    words: &mut Reader<'_>,
+    answer: &mut Answer,
+) {
     let mut lent = Lent::new(alloc);
-    let done = block_over(alloc, context, &mut lent, call, text);
+    block_over(alloc, context, &mut lent, words, answer);
+    push(answer, &lent.sink.bytes().len());
+    push(answer, &context.unread_len());
+    lent.push_left(answer);
     drop(lent);
-    done
 }
 
-/// The same, over what is lent.
+/// Adds what the handshake over what is lent answers.
 fn block_over(
     alloc: Global,
     context: &mut Context,
     lent: &mut Lent,
-    call: &str,
-    text: &mut String,
-) -> Result<(), Stop> {
-    let (pieces, rest) = first(call);
-    let (kind, rest) = first(rest);
-    let (name, rest) = first(rest);
-    let (source_fails, rest) = first(rest);
-    let (sink_fails, rest) = first(rest);
-    lay_out(alloc, context, &mut lent.source, rest)?;
-    lent.fail_at(source_fails, sink_fails)?;
-    let (kind, pieces) = (kind_of(kind)?, number(pieces)?);
-    let name = name_of(alloc, name)?;
-    let shaken = shake_hands(alloc, context, lent, name.as_str(), kind, pieces, text);
-    drop(name);
-    shaken?;
-    push(text, &lent.sink.bytes().len())?;
-    push(text, &context.unread_len())?;
-    push(text, &lent.left()?)?;
-    Ok(())
+    words: &mut Reader<'_>,
+    answer: &mut Answer,
+) {
+    let (pieces, kind) = (words.number(), kind(words));
+    if let Some(name) = answer.take(name_of(alloc, words)) {
+        lent.fail_at(words, answer);
+        lay_out(alloc, context, &mut lent.source, words.rest(), answer);
+        shake_hands(alloc, context, lent, name.as_str(), kind, pieces, answer);
+        drop(name);
+    }
 }
 
 /// Adds what the handshake answers.
@@ -59,9 +52,9 @@ fn shake_hands(
     name: &str,
     kind: ContextType,
     pieces: u32,
-    text: &mut String,
-) -> Result<(), AllocError> {
-    let answer = ei_handshake_blocking(
+    answer: &mut Answer,
+) {
+    let shaken = ei_handshake_blocking(
         alloc,
         context,
         &mut lent.source,
@@ -70,23 +63,23 @@ fn shake_hands(
         kind,
         pieces,
     );
-    let pushed = push_answer(text, &answer);
-    drop(answer);
-    pushed
+    push_shaken(answer, &shaken);
+    drop(shaken);
 }
 
 /// Adds what a handshake that blocks answers.
-fn push_answer(text: &mut String, answer: &Result<HandshakeResp, Error>) -> Result<(), AllocError> {
-    match answer {
-        Ok(resp) => push_complete(text, resp),
-        Err(error) => push_shown(text, error),
+fn push_shaken(answer: &mut Answer, shaken: &Result<HandshakeResp, Error>) {
+    match shaken {
+        Ok(resp) => push_complete(answer, resp),
+        Err(error) => push_shown(answer, error),
     }
 }
 
-/// The name that a word stands for.
-fn name_of(alloc: Global, word: &str) -> Result<String, Stop> {
+/// The name that the next word stands for.
+fn name_of(alloc: Global, words: &mut Reader<'_>) -> Result<String, AllocError> {
+    let word = words.word();
     match word.strip_prefix('*') {
-        Some(length) => letters(alloc, length),
-        None => Ok(String::from_str(alloc, word)?),
+        Some(length) => letters(alloc, words.or(length.parse::<usize>(), 0)),
+        None => String::from_str(alloc, word),
     }
 }

@@ -8,8 +8,7 @@ use ei_backend::Interface;
 use ei_client::Callback;
 use ei_event::{Handler, Run};
 use std::alloc::Global;
-use std::fmt::Debug;
-use test_table::{Stop, first, id};
+use test_table::{Answer, Reader, Stop};
 
 /// `call-back NUMBER BYTES`: asks a server, which sent the bytes of the last connection, for a callback, whose handler
 /// changes the number that comes by this one, and for another without a handler. It adds the first callback, what
@@ -17,14 +16,14 @@ use test_table::{Stop, first, id};
 pub(crate) fn call_back(
     alloc: Global,
     hello: &[u8],
-    rest: &str,
-    text: &mut String,
+    words: &mut Reader<'_>,
+    answer: &mut Answer,
 ) -> Result<(), Stop> {
-    let (number, digits) = first(rest);
-    let by = id(number)?;
+    let by = words.id();
     // Made where no converter is lent, so that the closure can't leave by one.
     let run: Run = Box::new(alloc, move |value: u64| value ^ by)?;
-    call_back_with(alloc, Handler::new(run), hello, digits, text)
+    call_back_with(alloc, Handler::new(run), hello, words.rest(), answer);
+    Ok(())
 }
 
 /// The same, with the handler.
@@ -33,18 +32,14 @@ fn call_back_with(
     handler: Handler,
     hello: &[u8],
     digits: &str,
-    text: &mut String,
-) -> Result<(), Stop> {
-    match Client::new(alloc) {
-        Ok(mut client) => {
-            let done = call_back_at(&mut client, handler, hello, digits, text);
+    answer: &mut Answer,
+) {
+    match answer.take(Client::new(alloc)) {
+        Some(mut client) => {
+            call_back_at(&mut client, handler, hello, digits, answer);
             drop(client);
-            done
         }
-        Err(stop) => {
-            drop(handler);
-            Err(stop)
-        }
+        None => drop(handler),
     }
 }
 
@@ -54,60 +49,53 @@ fn call_back_at(
     handler: Handler,
     hello: &[u8],
     digits: &str,
-    text: &mut String,
-) -> Result<(), Stop> {
-    handle(client, handler, hello, text)?;
-    drop(asked(client)?);
-    take_digits(client, digits, text)?;
-    push(text, &client.converter()?.receipts())?;
-    Ok(())
-}
-
-/// Shakes hands with the server, and adds the callback that has the handler.
-fn handle(
-    client: &mut Client,
-    handler: Handler,
-    hello: &[u8],
-    text: &mut String,
-) -> Result<(), Stop> {
-    match ask(client, hello, text) {
-        Ok(callback) => keep(client, callback, handler),
-        Err(stop) => {
-            drop(handler);
-            Err(stop)
-        }
+    answer: &mut Answer,
+) {
+    greet(client, 0, hello, answer);
+    handle(client, handler, answer);
+    drop(asked(client, answer));
+    take_digits(client, digits, answer);
+    if let Some(converter) = &client.converter {
+        push(answer, &converter.receipts());
     }
 }
 
-/// Shakes hands with the server, and adds the callback that it is asked for.
-fn ask(client: &mut Client, hello: &[u8], text: &mut String) -> Result<Callback, Stop> {
-    greet(client, 0, hello)?;
-    shown(text, asked(client))
-}
-
-/// Adds a value that was made.
-fn shown<T: Debug + Drop>(text: &mut String, made: Result<T, Stop>) -> Result<T, Stop> {
-    let value = made?;
-    push(text, &value)?;
-    Ok(value)
+/// Adds the callback that the server is asked for, and keeps the handler for it.
+fn handle(client: &mut Client, handler: Handler, answer: &mut Answer) {
+    match asked(client, answer) {
+        Some(callback) => {
+            push(answer, &callback);
+            keep(client, callback, handler, answer);
+        }
+        None => drop(handler),
+    }
 }
 
 /// Keeps a handler for the callback.
-fn keep(client: &mut Client, callback: Callback, handler: Handler) -> Result<(), Stop> {
+fn keep(client: &mut Client, callback: Callback, handler: Handler, answer: &mut Answer) {
     match &mut client.converter {
-        Some(converter) => Ok(converter.add_callback_handler(callback, handler)?),
+        Some(converter) => {
+            answer.take(converter.add_callback_handler(callback, handler));
+        }
         None => {
             drop(callback);
             drop(handler);
-            Err(Stop::Line)
         }
     }
 }
 
-/// A callback of the server.
-fn asked(client: &mut Client) -> Result<Callback, Stop> {
-    let connection = client.converter()?.connection().connection().copy();
-    let callback = connection.sync(&mut client.context, 1);
-    drop(connection);
-    Ok(callback?)
+/// A callback of the server, which has to be connected.
+fn asked(client: &mut Client, answer: &mut Answer) -> Option<Callback> {
+    match &client.converter {
+        Some(converter) => {
+            let connection = converter.connection().connection().copy();
+            let callback = connection.sync(&mut client.context, 1);
+            drop(connection);
+            answer.take(callback)
+        }
+        None => {
+            answer.stop(Stop::Line);
+            None
+        }
+    }
 }

@@ -4,7 +4,7 @@ use crate::client::Client;
 use crate::{converter, handshake, iterator};
 use ei_iterator::EiConvertEventIterator;
 use std::alloc::Global;
-use test_table::{Answers, Stop, first, joined};
+use test_table::{Answer, Answers, Reader, Stop, joined};
 
 /// The client that the calls go on with, what the server sent until its connection, and the iterator behind the last
 /// handshake that gave one.
@@ -19,42 +19,60 @@ pub(crate) struct Calls {
 impl Calls {
     /// A client that shook no hands.
     pub(crate) fn new(alloc: Global) -> Result<Calls, Stop> {
-        Ok(Calls {
-            alloc,
-            client: Client::new(alloc)?,
-            hello: Vec::new(alloc),
-            iterator: None,
-        })
+        match Client::new(alloc) {
+            Ok(client) => Ok(Calls {
+                alloc,
+                client,
+                hello: Vec::new(alloc),
+                iterator: None,
+            }),
+            Err(stop) => Err(stop),
+        }
     }
 }
 
 impl Answers for Calls {
     fn answer(&mut self, alloc: Global, call: &str) -> Result<String, Stop> {
-        let mut text = String::new(alloc);
-        answer(self, call.trim_end(), &mut text)?;
-        Ok(text)
+        let mut words = Reader::new(call.trim_end());
+        let mut answer = Answer::new(alloc);
+        add(self, &mut words, &mut answer);
+        // Once for each call: where a word was wrong the program stops, whatever was done with it.
+        answer.take(words.done());
+        answer.text()
     }
 
     fn is_wanted(&self, alloc: Global, found: &str, wanted: &str) -> Result<bool, Stop> {
-        let found = joined(alloc, found)?;
-        is_joined(alloc, found.as_str(), wanted)
+        match joined(alloc, found) {
+            Ok(found) => {
+                let wanted = is_joined(alloc, found.as_str(), wanted);
+                drop(found);
+                wanted
+            }
+            Err(error) => Err(Stop::from(error)),
+        }
     }
 }
 
 /// Whether the words, one behind another, are that text.
 fn is_joined(alloc: Global, text: &str, words: &str) -> Result<bool, Stop> {
-    let joined = joined(alloc, words)?;
-    Ok(joined.as_str() == text)
+    match joined(alloc, words) {
+        Ok(joined) => {
+            let same = joined.as_str() == text;
+            drop(joined);
+            Ok(same)
+        }
+        Err(error) => Err(Stop::from(error)),
+    }
 }
 
 /// Adds what a call of a part answers, see `handshake`, `converter` and `iterator`.
-fn answer(calls: &mut Calls, call: &str, text: &mut String) -> Result<(), Stop> {
-    let (part, call) = first(call);
-    let (name, rest) = first(call);
+fn add(calls: &mut Calls, words: &mut Reader<'_>, answer: &mut Answer) {
+    let part = words.word();
+    let name = words.word();
     match part {
-        "handshake" => handshake::answer(&mut calls.client, name, rest, text),
-        "converter" => converter::answer(calls, name, rest, text),
-        "iterator" => iterator::answer(calls, name, rest, text),
-        _ => Err(Stop::Line),
+        "handshake" => handshake::add(&mut calls.client, name, words, answer),
+        "converter" => converter::add(calls, name, words, answer),
+        "iterator" => iterator::add(calls, name, words, answer),
+        _ => answer.stop(Stop::Line),
     }
 }

@@ -4,9 +4,8 @@ use ei_backend::Readings;
 use ei_client::Context;
 use ei_event::{Device, EiEvent, EiEventConverter, Seat};
 use ei_handshake::EiHandshaker;
-use ei_wire::NoMemory;
-use std::alloc::{AllocError, Global};
-use test_table::{Stop, count};
+use std::alloc::Global;
+use test_table::{Answer, Stop};
 
 /// An endpoint, with the handshaker on it, and behind the handshake a converter with its clock, the seats and the devices
 /// that were added, in this order, and the events of the last call that took some.
@@ -25,22 +24,35 @@ pub(crate) struct Client {
 impl Client {
     /// A client that shook no hands.
     pub(crate) fn new(alloc: Global) -> Result<Client, Stop> {
-        let clock = Readings::new(alloc, &[])?;
-        Ok(Client {
-            alloc,
-            context: Context::new(alloc)?,
-            handshaker: None,
-            converter: None,
-            clock,
-            seats: Vec::new(alloc),
-            devices: Vec::new(alloc),
-            told: Vec::new(alloc),
-        })
+        match Readings::new(alloc, &[]) {
+            Ok(clock) => Client::with_clock(alloc, clock),
+            Err(error) => Err(Stop::from(error)),
+        }
+    }
+
+    /// The same, with that clock.
+    fn with_clock(alloc: Global, clock: Readings) -> Result<Client, Stop> {
+        match Context::new(alloc) {
+            Ok(context) => Ok(Client {
+                alloc,
+                context,
+                handshaker: None,
+                converter: None,
+                clock,
+                seats: Vec::new(alloc),
+                devices: Vec::new(alloc),
+                told: Vec::new(alloc),
+            }),
+            Err(error) => {
+                drop(clock);
+                Err(Stop::from(error))
+            }
+        }
     }
 
     /// Begins on a fresh endpoint.
-    pub(crate) fn begin(&mut self) -> Result<(), NoMemory> {
-        replace(&mut self.context, Context::new(self.alloc))
+    pub(crate) fn begin(&mut self, answer: &mut Answer) {
+        replace(&mut self.context, Context::new(self.alloc), answer);
     }
 
     /// Forgets the seats, the devices and the last events.
@@ -50,35 +62,16 @@ impl Client {
         clear(&mut self.told);
     }
 
-    /// The converter.
-    pub(crate) fn converter(&self) -> Result<&EiEventConverter, Stop> {
-        match &self.converter {
-            Some(converter) => Ok(converter),
-            None => Err(Stop::Line),
-        }
-    }
-
-    /// The seat of that place.
-    pub(crate) fn seat(&self, word: &str) -> Result<&Seat, Stop> {
-        self.seats.get(count(word)?).ok_or(Stop::Line)
-    }
-
-    /// The device of that place.
-    pub(crate) fn device(&self, word: &str) -> Result<&Device, Stop> {
-        self.devices.get(count(word)?).ok_or(Stop::Line)
-    }
-
     /// Takes all events that wait, one by one, as the last ones, and keeps the seats and the devices that they added.
-    pub(crate) fn take_told(&mut self) -> Result<(), Stop> {
+    pub(crate) fn take_told(&mut self, answer: &mut Answer) {
         clear(&mut self.told);
         match &mut self.converter {
-            Some(converter) => take_events(converter, &mut self.told)?,
-            None => return Err(Stop::Line),
+            Some(converter) => take_events(converter, &mut self.told, answer),
+            None => answer.stop(Stop::Line),
         }
         for event in &self.told {
-            keep_key(event, &mut self.seats, &mut self.devices)?;
+            keep_key(event, &mut self.seats, &mut self.devices, answer);
         }
-        Ok(())
     }
 }
 
@@ -88,18 +81,13 @@ pub(crate) fn put<T: Drop>(place: &mut T, value: T) {
 }
 
 /// Puts a value that was made in the place of another.
-fn replace<T: Drop>(place: &mut T, made: Result<T, NoMemory>) -> Result<(), NoMemory> {
-    put(place, made?);
-    Ok(())
-}
-
-/// Keeps a value that was made.
-pub(crate) fn keep_made<T: Drop>(
-    place: &mut Option<T>,
-    made: Result<T, NoMemory>,
-) -> Result<(), NoMemory> {
-    put(place, Some(made?));
-    Ok(())
+pub(crate) fn replace<T: Drop, E: Drop>(place: &mut T, made: Result<T, E>, answer: &mut Answer)
+where
+    Stop: From<E>,
+{
+    if let Some(value) = answer.take(made) {
+        put(place, value);
+    }
 }
 
 /// Forgets all values.
@@ -108,18 +96,19 @@ pub(crate) fn clear<T: Drop>(values: &mut Vec<T>) {
 }
 
 /// Takes all events that wait, one by one.
-fn take_events(converter: &mut EiEventConverter, told: &mut Vec<EiEvent>) -> Result<(), Stop> {
+fn take_events(converter: &mut EiEventConverter, told: &mut Vec<EiEvent>, answer: &mut Answer) {
     for _ in 0..converter.queued_len() {
-        push_next(told, converter.next_event())?;
+        push_next(told, converter.next_event(), answer);
     }
-    Ok(())
 }
 
 /// Adds the value that there has to be.
-fn push_next<T: Drop>(values: &mut Vec<T>, next: Option<T>) -> Result<(), Stop> {
+fn push_next<T: Drop>(values: &mut Vec<T>, next: Option<T>, answer: &mut Answer) {
     match next {
-        Some(value) => Ok(values.push(value)?),
-        None => Err(Stop::Call),
+        Some(value) => {
+            answer.take(values.push(value));
+        }
+        None => answer.stop(Stop::Call),
     }
 }
 
@@ -128,16 +117,18 @@ pub(crate) fn keep_key(
     event: &EiEvent,
     seats: &mut Vec<Seat>,
     devices: &mut Vec<Device>,
-) -> Result<(), AllocError> {
+    answer: &mut Answer,
+) {
     match event {
-        EiEvent::SeatAdded(added) => keep(&added.seat, seats),
-        EiEvent::DeviceAdded(added) => keep(&added.device, devices),
-        _ => Ok(()),
+        EiEvent::SeatAdded(added) => keep(&added.seat, seats, answer),
+        EiEvent::DeviceAdded(added) => keep(&added.device, devices, answer),
+        _ => {}
     }
 }
 
 /// Keeps a key behind others.
-fn keep<K: Clone + Drop>(key: &K, keys: &mut Vec<K>) -> Result<(), AllocError> {
-    keys.push(key.clone()?)?;
-    Ok(())
+fn keep<K: Clone + Drop>(key: &K, keys: &mut Vec<K>, answer: &mut Answer) {
+    if let Some(key) = answer.take(key.clone()) {
+        answer.take(keys.push(key));
+    }
 }

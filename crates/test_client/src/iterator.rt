@@ -9,9 +9,9 @@ use ei_client::Context;
 use ei_event::EiEvent;
 use ei_iterator::handshake_blocking;
 use ei_types::{ContextType, Error};
-use std::alloc::{AllocError, Global};
+use std::alloc::Global;
 use std::fmt::Display;
-use test_table::{Stop, first, number};
+use test_table::{Answer, Reader, Stop};
 
 /// Adds what a call answers:
 /// - `shake PIECES WORD..`: whether a handshake over these pieces gives an iterator, which may take as many a call, and
@@ -19,38 +19,35 @@ use test_table::{Stop, first, number};
 /// - `next SOURCE SINK WORD..`: what the iterator answers over these pieces, how many are left, and what was sent. The
 ///   source fails at that call, and the sink at that, 0 at none;
 /// - `bind CAPABILITIES`: whether the last seat is asked for these, and what was sent.
-pub(crate) fn answer(
-    calls: &mut Calls,
-    name: &str,
-    rest: &str,
-    text: &mut String,
-) -> Result<(), Stop> {
+pub(crate) fn add(calls: &mut Calls, name: &str, words: &mut Reader<'_>, answer: &mut Answer) {
     match name {
-        "shake" => shake(calls, rest, text),
-        "next" => next(calls, rest, text),
-        "bind" => bind(calls, rest, text),
-        _ => Err(Stop::Line),
+        "shake" => shake(calls, words, answer),
+        "next" => next(calls, words, answer),
+        "bind" => bind(calls, words, answer),
+        _ => answer.stop(Stop::Line),
     }
 }
 
 /// Shakes hands as a client of the name `demo`, over what is laid out.
-fn shake(calls: &mut Calls, rest: &str, text: &mut String) -> Result<(), Stop> {
+fn shake(calls: &mut Calls, words: &mut Reader<'_>, answer: &mut Answer) {
+    let pieces = words.number();
     let mut lent = Lent::new(calls.alloc);
-    let done = shake_over(calls, &mut lent, rest, text);
+    let context = laid_out(calls.alloc, &mut lent.source, words.rest(), answer);
+    if let Some(context) = context {
+        shake_over(calls, context, &mut lent, pieces, answer);
+    }
+    lent.push_left(answer);
     drop(lent);
-    done
 }
 
-/// The same, over what is lent.
+/// The same, on that endpoint, over what is lent.
 fn shake_over(
     calls: &mut Calls,
+    context: Context,
     lent: &mut Lent,
-    rest: &str,
-    text: &mut String,
-) -> Result<(), Stop> {
-    let (pieces, rest) = first(rest);
-    let pieces = number(pieces)?;
-    let context = laid_out(calls.alloc, &mut lent.source, rest)?;
+    pieces: u32,
+    answer: &mut Answer,
+) {
     let shaken = handshake_blocking(
         calls.alloc,
         context,
@@ -60,115 +57,97 @@ fn shake_over(
         ContextType::Sender,
         pieces,
     );
-    keep_connected(&mut calls.iterator, shaken, text)?;
-    push(text, &lent.left()?)?;
-    Ok(())
+    keep_connected(&mut calls.iterator, shaken, answer);
 }
 
 /// A fresh endpoint, for which everything is ready.
-fn laid_out(alloc: Global, source: &mut Pieces, words: &str) -> Result<Context, Stop> {
-    let mut context = Context::new(alloc)?;
-    match lay_out(alloc, &mut context, source, words) {
-        Ok(()) => Ok(context),
-        Err(stop) => {
-            drop(context);
-            Err(stop)
-        }
+fn laid_out(
+    alloc: Global,
+    source: &mut Pieces,
+    words: &str,
+    answer: &mut Answer,
+) -> Option<Context> {
+    let mut made = answer.take(Context::new(alloc));
+    if let Some(context) = &mut made {
+        lay_out(alloc, context, source, words, answer);
     }
+    made
 }
 
 /// Keeps what a handshake gave, and adds whether it gave anything.
 fn keep_connected<T: Drop, E: Display + Drop>(
     place: &mut Option<T>,
     shaken: Result<T, E>,
-    text: &mut String,
-) -> Result<(), AllocError> {
+    answer: &mut Answer,
+) {
     match shaken {
         Ok(value) => {
             put(place, Some(value));
-            text.push_str("connected ")
+            answer.put("connected ");
         }
-        Err(error) => push_shown(text, &error),
+        Err(error) => {
+            push_shown(answer, &error);
+            drop(error);
+        }
     }
 }
 
 /// Asks for the next event over what is laid out.
-fn next(calls: &mut Calls, rest: &str, text: &mut String) -> Result<(), Stop> {
-    let mut clock = Readings::new(calls.alloc, &[100, 101, 102, 103])?;
-    let done = next_at(calls, &mut clock, rest, text);
-    drop(clock);
-    done
-}
-
-/// The same, with a clock.
-fn next_at(
-    calls: &mut Calls,
-    clock: &mut Readings,
-    rest: &str,
-    text: &mut String,
-) -> Result<(), Stop> {
+fn next(calls: &mut Calls, words: &mut Reader<'_>, answer: &mut Answer) {
     let mut lent = Lent::new(calls.alloc);
-    let done = next_over(calls, &mut lent, clock, rest, text);
+    lent.fail_at(words, answer);
+    let made = Readings::new(calls.alloc, &[100, 101, 102, 103]);
+    if let Some(mut clock) = answer.take(made) {
+        next_over(calls, &mut lent, &mut clock, words.rest(), answer);
+        drop(clock);
+    }
+    lent.push_left(answer);
+    push_bytes(calls.alloc, lent.sink.bytes(), "> ", answer);
     drop(lent);
-    done
 }
 
-/// The same, over what is lent.
+/// The same, over what is lent, with a clock.
 fn next_over(
     calls: &mut Calls,
     lent: &mut Lent,
     clock: &mut Readings,
-    rest: &str,
-    text: &mut String,
-) -> Result<(), Stop> {
-    let (source_fails, rest) = first(rest);
-    let (sink_fails, rest) = first(rest);
+    words: &str,
+    answer: &mut Answer,
+) {
     let Some(iterator) = &mut calls.iterator else {
-        return Err(Stop::Line);
+        return answer.stop(Stop::Line);
     };
-    lay_out(calls.alloc, iterator.context_mut(), &mut lent.source, rest)?;
-    lent.fail_at(source_fails, sink_fails)?;
-    let answer = iterator.next(&mut lent.source, &mut lent.sink, clock);
-    let pushed = push_answer(&mut calls.client, &answer, text);
-    drop(answer);
-    pushed?;
-    push(text, &lent.left()?)?;
-    push_bytes(calls.alloc, lent.sink.bytes(), "> ", text)
+    lay_out(
+        calls.alloc,
+        iterator.context_mut(),
+        &mut lent.source,
+        words,
+        answer,
+    );
+    let given = iterator.next(&mut lent.source, &mut lent.sink, clock);
+    push_given(&mut calls.client, &given, answer);
+    drop(given);
 }
 
-/// Adds what the iterator answered. The keys of what an event added are kept.
-fn push_answer(
-    client: &mut Client,
-    answer: &Option<Result<EiEvent, Error>>,
-    text: &mut String,
-) -> Result<(), AllocError> {
-    match answer {
-        Some(given) => push_given(client, given, text),
-        None => text.push_str("none "),
-    }
-}
-
-/// Adds the event that was given, or why none was.
-fn push_given(
-    client: &mut Client,
-    given: &Result<EiEvent, Error>,
-    text: &mut String,
-) -> Result<(), AllocError> {
+/// Adds the event that the iterator gave, or why it gave none. The keys of what an event added are kept.
+fn push_given(client: &mut Client, given: &Option<Result<EiEvent, Error>>, answer: &mut Answer) {
     match given {
-        Ok(event) => {
-            keep_key(event, &mut client.seats, &mut client.devices)?;
-            push(text, event)
+        Some(Ok(event)) => {
+            keep_key(event, &mut client.seats, &mut client.devices, answer);
+            push(answer, event);
         }
-        Err(error) => push_shown(text, error),
+        Some(Err(error)) => push_shown(answer, error),
+        None => answer.put("none "),
     }
 }
 
 /// Asks the last seat for these capabilities.
-fn bind(calls: &mut Calls, bits: &str, text: &mut String) -> Result<(), Stop> {
+fn bind(calls: &mut Calls, words: &mut Reader<'_>, answer: &mut Answer) {
+    let capabilities = capabilities(words);
     let (Some(iterator), Some(seat)) = (&mut calls.iterator, calls.client.seats.last()) else {
-        return Err(Stop::Line);
+        return answer.stop(Stop::Line);
     };
-    iterator.bind_capabilities(seat, capabilities(bits)?)?;
-    text.push_str("done 0 ")?;
-    push_sent(calls.alloc, iterator.context_mut(), "> ", text)
+    answer.take(iterator.bind_capabilities(seat, capabilities));
+    answer.put("done 0 ");
+    push_sent(calls.alloc, iterator.context_mut(), "> ", answer);
 }

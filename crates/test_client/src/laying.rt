@@ -1,12 +1,11 @@
 //! What a call is lent, and what the words of a line lay out for it.
 
-use crate::words::bytes;
+use crate::words::{bytes, push};
 use ei_backend::{HasBackend, Pieces, Source, Tray};
 use ei_client::Context;
 use ei_wire::Handle;
 use std::alloc::Global;
-use std::fmt::Write;
-use test_table::{Stop, number};
+use test_table::{Answer, Reader, Stop};
 
 /// The pieces that a call may take, and the tray that takes what it sends.
 #[derive(Drop)]
@@ -24,20 +23,26 @@ impl Lent {
         }
     }
 
-    /// Lets the source fail at that call, and the sink at that, 0 at none.
-    pub(crate) fn fail_at(&mut self, source: &str, sink: &str) -> Result<(), Stop> {
-        let (source, sink) = (number(source)?, number(sink)?);
+    /// Lets the source fail at the call that the next word says, and the sink at that of the word behind it, 0 at none.
+    pub(crate) fn fail_at(&mut self, words: &mut Reader<'_>, answer: &mut Answer) {
+        let (source, sink) = (words.number(), words.number());
         if source > 0 {
-            self.source.fail_at(source)?;
+            answer.take(self.source.fail_at(source));
         }
         if sink > 0 {
-            self.sink.fail_at(sink)?;
+            answer.take(self.sink.fail_at(sink));
         }
-        Ok(())
+    }
+
+    /// Adds how many pieces are left.
+    pub(crate) fn push_left(&mut self, answer: &mut Answer) {
+        if let Some(left) = answer.take(self.left()) {
+            push(answer, &left);
+        }
     }
 
     /// How many pieces are left.
-    pub(crate) fn left(&mut self) -> Result<u32, Stop> {
+    fn left(&mut self) -> Result<u32, Stop> {
         let mut bytes = [0; 65536];
         let mut handles = [Handle(0); 64];
         for left in 0..u32::MAX {
@@ -60,58 +65,61 @@ pub(crate) fn lay_out(
     context: &mut Context,
     source: &mut Pieces,
     words: &str,
-) -> Result<(), Stop> {
+    answer: &mut Answer,
+) {
     for word in words.split(' ') {
-        lay(alloc, context, source, word)?;
+        lay(alloc, context, source, word, answer);
     }
-    Ok(())
 }
 
 /// Does what a word says.
-fn lay(alloc: Global, context: &mut Context, source: &mut Pieces, word: &str) -> Result<(), Stop> {
+fn lay(alloc: Global, context: &mut Context, source: &mut Pieces, word: &str, answer: &mut Answer) {
     match word {
-        "" => Ok(()),
-        "!" => finish(context),
-        "#" => {
-            context.backend_mut().close();
-            Ok(())
-        }
-        _ => lay_bytes(alloc, context, source, word),
+        "" => {}
+        "!" => finish(context, answer),
+        "#" => context.backend_mut().close(),
+        _ => match word.strip_prefix('<') {
+            Some(digits) => read(alloc, context, digits, &[], answer),
+            None => lay_pieces(alloc, source, word, answer),
+        },
     }
 }
 
-/// Does what a word of bytes says.
-fn lay_bytes(
-    alloc: Global,
-    context: &mut Context,
-    source: &mut Pieces,
-    word: &str,
-) -> Result<(), Stop> {
+/// Adds the pieces that a word says.
+fn lay_pieces(alloc: Global, source: &mut Pieces, word: &str, answer: &mut Answer) {
     if let Some(digits) = word.strip_prefix('*') {
-        push_each(source, &bytes(alloc, digits)?, &[])
+        push_each(alloc, source, digits, &[], answer)
     } else if let Some(digits) = word.strip_prefix('%') {
-        push_each(source, &bytes(alloc, digits)?, &[Handle(7); 64])
-    } else if let Some(digits) = word.strip_prefix('<') {
-        read(alloc, context, digits, &[])
-    } else {
-        push_piece(source, &bytes(alloc, word)?, &[])
+        push_each(alloc, source, digits, &[Handle(7); 64], answer)
+    } else if let Some(piece) = answer.take(bytes(alloc, word)) {
+        push_piece(source, &piece, &[], answer);
+        drop(piece);
     }
 }
 
-/// A piece more for each byte, with these handles.
-fn push_each(source: &mut Pieces, piece: &[u8], handles: &[Handle]) -> Result<(), Stop> {
-    for byte in piece {
-        push_piece(source, &[*byte], handles)?;
+/// A piece more for each byte of these digits, with these handles.
+fn push_each(
+    alloc: Global,
+    source: &mut Pieces,
+    digits: &str,
+    handles: &[Handle],
+    answer: &mut Answer,
+) {
+    if let Some(bytes) = answer.take(bytes(alloc, digits)) {
+        for byte in &bytes {
+            push_piece(source, &[*byte], handles, answer);
+        }
+        drop(bytes);
     }
-    Ok(())
 }
 
 /// A piece more, with these handles.
-fn push_piece(source: &mut Pieces, piece: &[u8], handles: &[Handle]) -> Result<(), Stop> {
+fn push_piece(source: &mut Pieces, piece: &[u8], handles: &[Handle], answer: &mut Answer) {
     if piece.is_empty() || piece.len() > 65536 || handles.len() > 64 {
-        return Err(Stop::Line);
+        answer.stop(Stop::Line);
+    } else {
+        answer.take(source.push(piece, handles));
     }
-    Ok(source.push(piece, handles)?)
 }
 
 /// Reads one piece, the bytes of these digits with these handles.
@@ -120,11 +128,12 @@ pub(crate) fn read(
     context: &mut Context,
     digits: &str,
     handles: &[Handle],
-) -> Result<(), Stop> {
-    let piece = bytes(alloc, digits)?;
-    let read = read_bytes(alloc, context, &piece, handles);
-    drop(piece);
-    read
+    answer: &mut Answer,
+) {
+    if let Some(piece) = answer.take(bytes(alloc, digits)) {
+        read_bytes(alloc, context, &piece, handles, answer);
+        drop(piece);
+    }
 }
 
 /// Reads one piece, these bytes with these handles.
@@ -133,70 +142,41 @@ pub(crate) fn read_bytes(
     context: &mut Context,
     piece: &[u8],
     handles: &[Handle],
-) -> Result<(), Stop> {
+    answer: &mut Answer,
+) {
     let mut source = Pieces::new(alloc);
-    let read = read_from(context, &mut source, piece, handles);
+    push_piece(&mut source, piece, handles, answer);
+    answer.take(context.read(&mut source));
     drop(source);
-    read
-}
-
-/// Reads the piece that these bytes make with these handles, behind those of the source.
-fn read_from(
-    context: &mut Context,
-    source: &mut Pieces,
-    piece: &[u8],
-    handles: &[Handle],
-) -> Result<(), Stop> {
-    push_piece(source, piece, handles)?;
-    context.read(source)?;
-    Ok(())
 }
 
 /// Leaves a request unsent.
-fn finish(context: &mut Context) -> Result<(), Stop> {
-    let Some(handshake) = context.handshake() else {
-        return Err(Stop::Line);
-    };
-    handshake.finish(context)?;
-    Ok(())
+fn finish(context: &mut Context, answer: &mut Answer) {
+    match context.handshake() {
+        Some(handshake) => {
+            answer.take(handshake.finish(context));
+            drop(handshake);
+        }
+        None => answer.stop(Stop::Line),
+    }
 }
 
 /// Takes out what waits to be sent, and adds its bytes behind the mark, if there are any.
-pub(crate) fn push_sent(
-    alloc: Global,
-    context: &mut Context,
-    mark: &str,
-    text: &mut String,
-) -> Result<(), Stop> {
+pub(crate) fn push_sent(alloc: Global, context: &mut Context, mark: &str, answer: &mut Answer) {
     let mut tray = Tray::new(alloc);
-    let pushed = push_flushed(alloc, context, &mut tray, mark, text);
+    answer.take(context.flush(&mut tray));
+    push_bytes(alloc, tray.bytes(), mark, answer);
     drop(tray);
-    pushed
-}
-
-/// The same, by way of a tray.
-fn push_flushed(
-    alloc: Global,
-    context: &mut Context,
-    tray: &mut Tray,
-    mark: &str,
-    text: &mut String,
-) -> Result<(), Stop> {
-    context.flush(tray)?;
-    push_bytes(alloc, tray.bytes(), mark, text)
 }
 
 /// Adds these bytes behind the mark, if there are any.
-pub(crate) fn push_bytes(
-    alloc: Global,
-    sent: &[u8],
-    mark: &str,
-    text: &mut String,
-) -> Result<(), Stop> {
+pub(crate) fn push_bytes(alloc: Global, sent: &[u8], mark: &str, answer: &mut Answer) {
     if sent.is_empty() {
-        return Ok(());
+        return;
     }
-    let digits = hex::encode(alloc, sent)?;
-    write!(text, "{mark}{digits}")?;
-    Ok(())
+    answer.put(mark);
+    if let Some(digits) = answer.take(hex::encode(alloc, sent)) {
+        answer.put(digits.as_str());
+        drop(digits);
+    }
 }
