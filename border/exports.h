@@ -29,7 +29,7 @@ typedef struct reis_c_device {
     uint32_t keymap_size;
 } reis_c_device;
 
-uint32_t reis_c_connection_start(reis_connection *connection, uint32_t serial);
+uint32_t reis_c_connection_start(reis_connection *connection, uint32_t serial, uint32_t flags);
 uint32_t reis_c_connection_feed(reis_connection *connection, const uint8_t *bytes, size_t count, const uint32_t *handles,
                                 size_t handle_count, uint64_t time);
 uint32_t reis_c_connection_end_of_input(reis_connection *connection);

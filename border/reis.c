@@ -122,10 +122,10 @@ reis_answer reis_session_end_text(reis_session *session, uint8_t *text, size_t r
 
 /* ---- a connection ---- */
 
-reis_answer reis_connection_start(reis_connection *connection, uint32_t serial) {
+reis_answer reis_connection_start(reis_connection *connection, uint32_t serial, uint32_t flags) {
     if (connection == NULL)
         return REIS_NULL;
-    return answer_of(reis_c_connection_start(connection, serial));
+    return answer_of(reis_c_connection_start(connection, serial, flags));
 }
 
 reis_answer reis_connection_feed(reis_connection *connection, const uint8_t *bytes, size_t count, const uint32_t *handles,

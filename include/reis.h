@@ -371,7 +371,7 @@ typedef REIS_ENUM(reis_end) {
     REIS_END_GOES_ON = 0,         /* it didn't */
     REIS_END_DISCONNECTED = 1,    /* the client disconnected */
     REIS_END_END_OF_INPUT = 2,    /* no more came, after the handshake */
-    REIS_END_TOLD = 3,            /* reis_connection_disconnect told the client so */
+    REIS_END_TOLD = 3,            /* the client was told so, by reis_connection_disconnect, or since REIS_STRICT ends it */
 
     /* errors */
     REIS_END_ERROR_UNEXPECTED_EOF = 10,             /* no more came, before the connection */
@@ -432,10 +432,10 @@ reis_answer reis_session_end_text(reis_session *session, uint8_t *text, size_t r
 
 /* ---- a connection ----
  *
- * A client's connection, without a policy:
+ * A client's connection, without a policy but for what REIS_STRICT refuses:
  *
  *     reis_connection connection = {0};
- *     reis_connection_start(&connection, serial);
+ *     reis_connection_start(&connection, serial, REIS_STRICT);
  *     at each turn of the loop:
  *         act on each request that reis_connection_next_request hands out, until it answers REIS_NOTHING;
  *         once reis_connection_client answers REIS_OK: add seats, and devices where the client binds;
@@ -448,9 +448,24 @@ reis_answer reis_session_end_text(reis_session *session, uint8_t *text, size_t r
  * bytes that wait: it answers REIS_NOT_CONNECTED before the handshake is done and REIS_OVER once the connection is over.
  * A text is UTF-8, and has a pointer and a count of bytes, with no zero behind it; where the count is 0 there is none. */
 
-/* Starts a connection in a word that is zero. Its greeting waits to be written. `serial` is the one that it bears at first.
- * REIS_OK, REIS_HAS_SESSION, REIS_NO_MEMORY, REIS_NULL. */
-reis_answer reis_connection_start(reis_connection *connection, uint32_t serial);
+/* A flag of reis_connection_start, for a server that is as strict as libeis where the protocol leaves open what is refused of a client.
+ * With it reis_connection_next_request judges each start_emulating, stop_emulating, frame and input by what is so when it is
+ * called. A device is paused until reis_connection_resume, and from reis_connection_pause on. The client emulates on it from the
+ * start_emulating that was handed out to its stop_emulating, or to the next of those two calls, behind which no key and no button of
+ * it is down. These are dropped:
+ *   - all of them that are of a paused device, and each request, of whatever kind, of a device that was taken away;
+ *   - a key or a button that goes down where it is down, or up where it isn't.
+ * These end the client, which is told so as by reis_connection_disconnect, with REIS_REASON_PROTOCOL and the text that stands here:
+ *   - "input without start_emulating": an input or a frame of a device that isn't paused, on which the client doesn't emulate;
+ *   - "start_emulating while emulating", and "stop_emulating without start_emulating", of a device that isn't paused;
+ *   - "events of a receiver": each of them from a receiver, also of a paused device.
+ * All else is handed out, as all is without the flag. */
+#define REIS_STRICT 1u
+
+/* Starts a connection in a word that is zero. Its greeting waits to be written. `serial` is the one that it bears at first. `flags`
+ * is 0 or REIS_STRICT.
+ * REIS_OK, REIS_HAS_SESSION, REIS_NO_MEMORY, REIS_NULL. REIS_INVALID: another flag. */
+reis_answer reis_connection_start(reis_connection *connection, uint32_t serial, uint32_t flags);
 
 /* As reis_session_feed: one piece of what came from the client. REIS_OK says that it was taken; it may have ended the
  * connection: see reis_connection_end. What the client asks waits as requests, and nothing is done about them: a bind makes no
@@ -476,8 +491,10 @@ reis_answer reis_connection_sent(reis_connection *connection, size_t bytes);
 
 /* As reis_session_next_request, but that REIS_KIND_CONNECTED comes once, before all others, as soon as the handshake is done;
  * and that REIS_KIND_SEAT_RELEASED and REIS_KIND_PONG, in their order, come only while no request waits. So a pong comes behind
- * all that the client asked before it.
- * REIS_OK, REIS_NO_SESSION, REIS_NOTHING, REIS_NULL; where it isn't REIS_OK the request isn't written. */
+ * all that the client asked before it. With REIS_STRICT it may end the client, and then hands out no request: reis_connection_end
+ * tells it, and what waits is to be written. Requests behind the one that ended it come by later calls, but none of a device.
+ * REIS_OK, REIS_NO_SESSION, REIS_NOTHING, REIS_NULL; where it isn't REIS_OK the request isn't written. REIS_NO_MEMORY, only with
+ * REIS_STRICT: nothing is lost, and the next call goes on. */
 reis_answer reis_connection_next_request(reis_connection *connection, reis_request *request);
 
 /* As reis_session_request_text.

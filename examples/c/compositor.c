@@ -1,5 +1,5 @@
-/* A compositor's end of the protocol: it listens on a path, gives each client a seat and the devices that it binds, and prints what
- * comes from them.
+/* A compositor's end of the protocol, as strict as libeis: it listens on a path, gives each client a seat and the devices that it
+ * binds, and prints what comes from them.
  *
  *     compositor PATH [CLIENTS]
  *
@@ -67,17 +67,14 @@ static int open_keymap(void) {
 }
 
 static void says_why(struct client *client, const char *what, reis_answer answer) {
-    if (answer != REIS_OK)
+    if (answer != REIS_OK && answer != REIS_NOTHING)
         printf("client %u: %s: %s\n", client->number, what, reis_answer_name(answer));
 }
 
 static void add_device(struct client *client, int which, uint64_t capabilities) {
     reis_connection *connection = &client->peer.connection;
-    reis_device device = {.size = sizeof device,
-                          .name = names[which],
-                          .name_length = strlen(names[which]),
-                          .capabilities = capabilities,
-                          .type = REIS_DEVICE_VIRTUAL};
+    reis_device device = {.size = sizeof device, .name = names[which], .name_length = strlen(names[which]),
+                          .capabilities = capabilities, .type = REIS_DEVICE_VIRTUAL};
     if (capabilities & REIS_CAPABILITY_POINTER_ABSOLUTE) {
         device.regions = screens;
         device.region_count = sizeof screens / sizeof screens[0];
@@ -115,29 +112,30 @@ static void forget(struct client *client, uint64_t device) {
 
 /* Once the client is known it gets its seat. */
 static void greet(struct client *client) {
-    uint8_t name[64];
     size_t length;
     reis_context_type type;
-    reis_connection_client(&client->peer.connection, &type, name, sizeof name, &length);
+    reis_connection_client(&client->peer.connection, &type, NULL, 0, &length);
     printf("client %u: a %s\n", client->number, type == REIS_CONTEXT_SENDER ? "sender" : "receiver");
     says_why(client, "add_seat",
              reis_connection_add_seat(&client->peer.connection, "default", 7, given[0] | given[1] | given[2], &client->seat));
 }
 
+/* Where memory runs out the rest is taken at the next turn. */
 static void act(struct client *client) {
     reis_request request;
-    while (reis_connection_next_request(&client->peer.connection, &request) == REIS_OK) {
-        if (request.kind == REIS_KIND_CONNECTED) {
+    reis_answer answer;
+    while ((answer = reis_connection_next_request(&client->peer.connection, &request)) == REIS_OK) {
+        if (request.kind == REIS_KIND_CONNECTED)
             greet(client);
-            continue;
-        }
-        printf("client %u: %s %" PRIu64 " %" PRIu64 "\n", client->number, reis_kind_name(request.kind), request.fields[0],
-               request.fields[1]);
+        else
+            printf("client %u: %s %" PRIu64 " %" PRIu64 "\n", client->number, reis_kind_name(request.kind), request.fields[0],
+                   request.fields[1]);
         if (request.kind == REIS_KIND_BIND)
             give_devices(client, request.bind.capabilities);
         else if (request.kind == REIS_KIND_DEVICE_CLOSED)
             forget(client, request.device);
     }
+    says_why(client, "next_request", answer);
 }
 
 static void pause_or_resume(void) {
@@ -172,7 +170,7 @@ static void accept_client(int listener) {
             continue;
         int socket = accept4(listener, NULL, NULL, SOCK_CLOEXEC);
         *client = (struct client){.number = ++accepted};
-        client->here = socket != -1 && peer_open(&client->peer, socket, 1) == REIS_OK;
+        client->here = socket != -1 && peer_open(&client->peer, socket, 1, REIS_STRICT) == REIS_OK;
         return;
     }
 }

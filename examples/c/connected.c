@@ -1,5 +1,5 @@
 /* Tests of each call on a connection, without a socket: what a client is sent is compared byte by byte with what docs/PROTOCOL.md
- * says, and what the client sends is fed in odd cuts.
+ * says, and what the client sends is fed in odd cuts. REIS_STRICT makes no difference to these clients.
  *
  *     connected */
 #include "ask.h"
@@ -21,6 +21,7 @@ struct played {
 
 static struct played played;
 static struct played other;
+static uint32_t flags;
 
 /* ---- what comes and goes ---- */
 
@@ -79,8 +80,8 @@ static void starts(struct played *it, reis_context_type context_type, size_t cut
     memset(it, 0, sizeof *it);
     it->cut = cut;
     it->serial = SERIAL;
-    CHECK(reis_connection_start(&it->connection, SERIAL) == REIS_OK);
-    CHECK(reis_connection_start(&it->connection, SERIAL) == REIS_HAS_SESSION);
+    CHECK(reis_connection_start(&it->connection, SERIAL, flags) == REIS_OK);
+    CHECK(reis_connection_start(&it->connection, SERIAL, flags) == REIS_HAS_SESSION);
     CHECK(reis_connection_client(&it->connection, &told, name, sizeof name, &length) == REIS_NOTHING && told == 0 && length == 0);
     CHECK(reis_connection_add_seat(&it->connection, "x", 1, 1, &seat) == REIS_NOT_CONNECTED && seat == 0);
     CHECK(reis_connection_ping(&it->connection, &seat) == REIS_NOT_CONNECTED && seat == 0);
@@ -470,17 +471,19 @@ static void test_none(void) {
     CHECK(reis_connection_device_has(&none, 1, 1, &has) == REIS_NO_SESSION && has == 0);
     CHECK(reis_connection_send(&none, &request, NULL, 0) == REIS_NO_SESSION);
     CHECK(reis_connection_frame(&none, 1, 1) == REIS_NO_SESSION);
-    CHECK(reis_connection_start(NULL, 1) == REIS_NULL && reis_connection_frame(NULL, 1, 1) == REIS_NULL);
+    CHECK(reis_connection_start(NULL, 1, 0) == REIS_NULL && reis_connection_frame(NULL, 1, 1) == REIS_NULL);
     CHECK(reis_connection_send(&none, NULL, NULL, 0) == REIS_NULL && reis_connection_free(NULL) == REIS_NULL);
 }
 
 int main(void) {
     static const size_t cuts[] = {1, 3, 16, 31, 113, MOST_STREAM};
+    static const size_t count = sizeof cuts / sizeof cuts[0];
     test_none();
-    for (size_t i = 0; i < sizeof cuts / sizeof cuts[0]; i++) {
-        test_sender(cuts[i]);
-        test_notices(cuts[i]);
-        test_receiver(cuts[i]);
+    for (size_t i = 0; i < 2 * count; i++) {
+        flags = i < count ? 0 : REIS_STRICT;
+        test_sender(cuts[i % count]);
+        test_notices(cuts[i % count]);
+        test_receiver(cuts[i % count]);
     }
     return checked("connected");
 }

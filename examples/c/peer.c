@@ -5,10 +5,10 @@
 #include <sys/socket.h>
 #include <unistd.h>
 
-reis_answer peer_open(struct peer *peer, int socket, uint32_t serial) {
+reis_answer peer_open(struct peer *peer, int socket, uint32_t serial, uint32_t flags) {
     peer->socket = socket;
     peer->connection = (reis_connection){0};
-    reis_answer answer = reis_connection_start(&peer->connection, serial);
+    reis_answer answer = reis_connection_start(&peer->connection, serial, flags);
     if (answer != REIS_OK)
         close(socket);
     return answer;

@@ -11,8 +11,8 @@ struct peer {
     reis_connection connection;
 };
 
-/* Starts a connection on the socket, which is closed where that fails. */
-reis_answer peer_open(struct peer *peer, int socket, uint32_t serial);
+/* Starts a connection on the socket, with flags as reis_connection_start has them. The socket is closed where that fails. */
+reis_answer peer_open(struct peer *peer, int socket, uint32_t serial, uint32_t flags);
 
 /* Reads what the socket has, and hands it in. Whether it can go on. */
 bool peer_read(struct peer *peer, uint64_t time);

@@ -66,7 +66,7 @@ static void shake_hands(reis_context_type type) {
     hello.count = 0;
     CHECK(socketpair(AF_UNIX, SOCK_STREAM | SOCK_CLOEXEC, 0, ends) == 0);
     pair.client = ends[0];
-    CHECK(peer_open(&pair.peer, ends[1], SERIAL) == REIS_OK && blocks_here() > 0);
+    CHECK(peer_open(&pair.peer, ends[1], SERIAL, 0) == REIS_OK && blocks_here() > 0);
     add_handshake(&hello, all_interfaces, type, "probe");
     client_says(&hello);
     reis_request request;

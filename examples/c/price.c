@@ -42,7 +42,7 @@ static void begin(reis_context_type type) {
     uint64_t seat, added;
     reis_device described = {.size = sizeof described, .capabilities = capabilities, .type = REIS_DEVICE_VIRTUAL};
     add_handshake(&hello, all_interfaces, type, "price");
-    if (reis_connection_start(&connection, 1) != REIS_OK ||
+    if (reis_connection_start(&connection, 1, 0) != REIS_OK ||
         reis_connection_feed(&connection, hello.bytes, hello.count, NULL, 0, 0) != REIS_OK ||
         reis_connection_add_seat(&connection, NULL, 0, capabilities, &seat) != REIS_OK ||
         reis_connection_add_device(&connection, seat, &described, &added) != REIS_OK || added != device)

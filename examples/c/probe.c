@@ -1,10 +1,11 @@
 /* A client that is written from docs/PROTOCOL.md alone, for the compositor and for the server that captures. It sends in odd cuts,
  * and compares each message that it is sent, byte by byte, with the one that is wanted.
  *
- *     probe PATH CUT sender|receiver|waits
+ *     probe PATH CUT sender|hasty|waits|receiver
  *
- * `sender` binds, gets three devices and their keymap, sends input and disconnects. `waits` does the same, says so on its output,
- * and waits to be paused, resumed and told that the compositor ends. `receiver` gets input until it is told that the server is done. */
+ * `sender` binds, gets three devices and their keymap, sends input and disconnects. `hasty` sends input without start_emulating, and
+ * is told that it ends by that. `waits` does as `sender`, says so on its output, and waits to be paused, resumed and told that the
+ * compositor ends. `receiver` gets input until it is told that the server is done. */
 #include "wire.h"
 
 #include <stdio.h>
@@ -180,6 +181,31 @@ static void send_keys(const uint64_t ids[3]) {
     say(&stream);
 }
 
+/* It is told that all goes, and that it ends, for that reason. */
+static void hear_end(const uint64_t ids[3], uint32_t reason, const char *text) {
+    static struct stream stream;
+    for (int i = 0; i < 3; i++) {
+        uint64_t behind = i < 2 ? ids[i + 1] : ids[2] + 2;
+        for (uint64_t id = ids[i] + 1; id < behind; id++)
+            add(&stream, id, 0, "w", next());
+        add(&stream, ids[i], 0, "w", next());
+    }
+    add(&stream, FIRST_SEAT, 0, "w", next());
+    add(&stream, CONNECTION, 0, "wwt", serial, reason, text);
+    hears(&stream);
+}
+
+static void play_hasty(void) {
+    static struct stream stream;
+    uint64_t ids[3];
+    begin(2, "default", 1 | 32 | 16 | 2 | 4);
+    hear_devices(ids);
+    add(&stream, ids[2] + 1, 1, "ww", 30u, 1u);
+    add(&stream, ids[2], 3, "wl", serial, (uint64_t)5000);
+    say(&stream);
+    hear_end(ids, 3, "input without start_emulating");
+}
+
 static void play_sender(bool waits) {
     static struct stream stream;
     uint64_t ids[3];
@@ -200,15 +226,7 @@ static void play_sender(bool waits) {
     }
     printf("waits\n");
     fflush(stdout);
-    for (int i = 0; i < 3; i++) {
-        uint64_t behind = i < 2 ? ids[i + 1] : ids[2] + 2;
-        for (uint64_t id = ids[i] + 1; id < behind; id++)
-            add(&stream, id, 0, "w", next());
-        add(&stream, ids[i], 0, "w", next());
-    }
-    add(&stream, FIRST_SEAT, 0, "w", next());
-    add(&stream, CONNECTION, 0, "wwt", serial, 0u, "the compositor ends");
-    hears(&stream);
+    hear_end(ids, 0, "the compositor ends");
 }
 
 static void play_receiver(void) {
@@ -248,11 +266,13 @@ static void play_receiver(void) {
 
 int main(int count, char **words) {
     if (count != 4)
-        fail("usage: probe PATH CUT sender|receiver|waits");
+        fail("usage: probe PATH CUT sender|hasty|waits|receiver");
     cut = strtoul(words[2], NULL, 10);
     connect_to(words[1]);
     if (strcmp(words[3], "receiver") == 0)
         play_receiver();
+    else if (strcmp(words[3], "hasty") == 0)
+        play_hasty();
     else
         play_sender(strcmp(words[3], "waits") == 0);
     uint8_t byte;

@@ -1,6 +1,7 @@
 /* Tests of a connection that wants memory, over a heap that checks each call: each block that a call asks for is refused in turn.
  * Then the call answers that, nothing changed, and made again it does what it does. What the client is told is compared byte by
- * byte with what docs/PROTOCOL.md says. A thousand connections leave nothing, and take no more than the first.
+ * byte with what docs/PROTOCOL.md says, with REIS_STRICT and without. A thousand connections leave nothing, and take no more than the
+ * first.
  *
  *     scarce */
 #include "blocks.h"
@@ -22,6 +23,7 @@ struct told {
 };
 
 static struct told told;
+static uint32_t flags;
 static const uint64_t seat = FIRST_SEAT, device = FIRST_SEAT + FIRST_DEVICE;
 
 static uint32_t next_serial(struct told *it) {
@@ -201,7 +203,7 @@ static void begin(struct told *it) {
     it->next_id = FIRST_SEAT;
     blocks_refuse(0);
     add_handshake(&hello, all_interfaces, REIS_CONTEXT_RECEIVER, "probe");
-    CHECK(reis_connection_start(&it->connection, SERIAL) == REIS_OK);
+    CHECK(reis_connection_start(&it->connection, SERIAL, flags) == REIS_OK);
     CHECK(reis_connection_feed(&it->connection, hello.bytes, hello.count, NULL, 0, 0) == REIS_OK);
     reis_request request;
     CHECK(reis_connection_next_request(&it->connection, &request) == REIS_OK && request.kind == REIS_KIND_CONNECTED);
@@ -279,12 +281,12 @@ static void test_call(const struct call *call) {
 static void test_start(void) {
     reis_connection connection = {0};
     size_t number = 1;
-    for (blocks_refuse(number); reis_connection_start(&connection, SERIAL) == REIS_NO_MEMORY; blocks_refuse(++number)) {
+    for (blocks_refuse(number); reis_connection_start(&connection, SERIAL, 0) == REIS_NO_MEMORY; blocks_refuse(++number)) {
         checking("start", number, 0);
         CHECK(blocks_asked() == number && connection.at == NULL && blocks_here() == 0);
     }
     blocks_refuse(0);
-    CHECK(number > 1 && reis_connection_start(&connection, SERIAL) == REIS_HAS_SESSION);
+    CHECK(number > 1 && reis_connection_start(&connection, SERIAL, 0) == REIS_HAS_SESSION);
     CHECK(reis_connection_free(&connection) == REIS_OK && blocks_here() == 0 && blocks_wrong() == 0);
 }
 
@@ -325,7 +327,7 @@ static void test_handshake(void) {
         checking("handshake", number, 0);
         memset(&told, 0, sizeof told);
         add_welcome(&told.wanted, all_interfaces, SERIAL);
-        CHECK(reis_connection_start(&told.connection, SERIAL) == REIS_OK);
+        CHECK(reis_connection_start(&told.connection, SERIAL, 0) == REIS_OK);
         blocks_refuse(number);
         feed_all(&told, &hello, &ran_out);
         CHECK(ran_out == (blocks_asked() >= number));
@@ -448,8 +450,12 @@ int main(void) {
     test_handshake();
     test_requests();
     test_others();
-    for (size_t i = 0; i < sizeof calls / sizeof calls[0]; i++)
-        test_call(&calls[i]);
     test_many();
+    for (size_t i = 0; i < sizeof calls / sizeof calls[0]; i++) {
+        flags = 0;
+        test_call(&calls[i]);
+        flags = REIS_STRICT;
+        test_call(&calls[i]);
+    }
     return checked("scarce");
 }

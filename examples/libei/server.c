@@ -152,7 +152,7 @@ int main(int count, char **words) {
         return 1;
     struct pollfd polled = {.fd = listener, .events = POLLIN};
     int socket = poll(&polled, 1, -1) < 0 ? -1 : accept4(listener, NULL, NULL, SOCK_CLOEXEC);
-    if (socket != -1 && peer_open(&peer, socket, 1) == REIS_OK) {
+    if (socket != -1 && peer_open(&peer, socket, 1, 0) == REIS_OK) {
         play(&peer);
         printf("end %s\n", reis_end_name(peer_end(&peer)));
         peer_close(&peer);

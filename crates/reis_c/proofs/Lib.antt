@@ -4,6 +4,8 @@ mod ConnectionValues
 mod Copies
 mod Describing
 mod Given
+mod Handing
 mod Obliging
 mod SlotValues
+mod Telling
 mod Working

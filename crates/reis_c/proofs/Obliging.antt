@@ -1,37 +1,31 @@
 -- What a connection's calls make of a connection behind the word.
-use Rattle.std.proofs.Common.{◌≡◌, ◌≢◌, ℕ, ◌==◌, ◌≤◌, Bool, true, false, List, [], ◌∷◌, length, take, map, min, Option, Some, None}
+use Rattle.std.proofs.Common.{◌≡◌, ◌≢◌, ℕ, ◌==◌, ◌≤◌, Bool, true, false, List, length, take, map, min, Option, None}
 use Rattle.std.proofs.Common.{Result, Ok, Err, if◌then◌else◌, refl, ap, sym, subst, ◌∙◌, arith}
-use Rattle.std.specs.Prelude.{nat_lt, not, ◌&&◌, is_some, OnOk, OnErr, IfErr}
+use Rattle.std.specs.Prelude.{nat_lt, is_some, OnOk, OnErr, IfErr}
 use Rattle.std.proofs.lemmas.Bool.{ltb-false}
 use Rattle.std.proofs.lemmas.Grind.{common_steps}
 use Rattle.ei_spec.specs.declared.handle.Handle.{Handle}
 use Rattle.ei_backend.specs.Outgoing.{unsent_after}
-use Rattle.ei_input.specs.Queue.{first_of, rest_of}
 use Rattle.ei_request.specs.Connection.{ConnectionView}
-use Rattle.ei_request.specs.declared.event.EisRequest.{EisRequest}
 use Rattle.reis_eis.specs.declared.call_error.CallError.{CallError}
 use Rattle.reis_eis.specs.declared.call_error.CallError.TheVariants as call_error
-use Rattle.reis_eis.specs.declared.phase.Phase.{Phase}
-use Rattle.reis_eis.specs.declared.phase.Phase.TheVariants as phase
-use Rattle.reis_eis.specs.declared.notice.Notice.{Notice}
 use Rattle.reis_eis.specs.View.{EisView}
-use Rattle.reis_eis.specs.Words.{handle_in, queue_in, with_queue, unsent_in}
+use Rattle.reis_eis.specs.Words.{unsent_in}
 use Rattle.reis_eis.specs.Starting.{with_unsent_in}
 use Rattle.reis_eis.specs.Feeding.{Feeds}
 use Rattle.reis_eis.specs.Refusals.{Tells, TellsOrWants, feed_answer, end_answer, sent_answer}
 use Rattle.reis_eis.specs.Acting.{ActsOn, IsKept, refusal}
-use Rattle.reis_c.specs.declared.flat.ReisRequest.{ReisRequest}
+use Rattle.reis_strict.specs.View.{StrictView}
 use Rattle.reis_c.specs.declared.connection.Handed.{Handed}
 use Rattle.reis_c.specs.declared.connection.HeldConnection.{HeldConnection}
-use Rattle.reis_c.specs.Numbers.{OK, NO_MEMORY, NOTHING}
+use Rattle.reis_c.specs.Numbers.{OK, NO_MEMORY}
 use Rattle.reis_c.specs.Answers.{refusal_number, outcome_number, reason_number}
-use Rattle.reis_c.specs.Connecting.{FeedsConnection, EndsConnection, SendsBytes, HandsNext, HandsFrom, HandsFirst, HandsNotice, Tries, Does, without_input, awaiting, noticing, with_last}
-use Rattle.reis_c.specs.Flat.{flat, of_connected, of_notice}
+use Rattle.reis_c.specs.Connecting.{FeedsConnection, EndsConnection, SendsBytes, Tries, Does, without_input}
 use Rattle.reis_c.specs.Handles.{handle_of}
 use Rattle.reis_c.proofs.Working.{lent_length, lent_whole}
 
-abbrev pub behind : EisView → Handed → HeldConnection
-behind c last = record { connection = c; handed = last }
+abbrev pub behind : EisView → Handed → Option StrictView → HeldConnection
+behind c last policy = record { connection = c; handed = last; policy = policy }
 
 -- no refusal is told as done
 pub refused : (e : CallError) → refusal_number e ≢ OK
@@ -103,76 +97,78 @@ accepted_is why e = ap reason_number (sym e)
 
 -- ---- calls that are refused for a reason, or do something
 
-module _ (reason : ConnectionView → Option CallError) (does : ConnectionView → ConnectionView → Type 0) (old new : EisView) (last : Handed) where
-  pub tried_ok : ActsOn does old new → refusal reason old ≡ None → Tries reason does OK (behind old last) (behind new last)
+module _ (reason : ConnectionView → Option CallError) (does : ConnectionView → ConnectionView → Type 0) (old new : EisView) (last : Handed) (p : Option StrictView) where
+  pub tried_ok : ActsOn does old new → refusal reason old ≡ None → Tries reason does OK (behind old last p) (behind new last p)
   tried_ok done accepted = record {
     answers = λ _. accepted_is (refusal reason old) accepted;
     done = λ _. done;
     kept = λ h. absurd (h refl);
     handed = refl;
+    policy = refl;
   }
 
-  pub tried_err : (e : CallError) → TellsOrWants (refusal reason old) e → IsKept old new → Tries reason does (refusal_number e) (behind old last) (behind new last)
+  pub tried_err : (e : CallError) → TellsOrWants (refusal reason old) e → IsKept old new → Tries reason does (refusal_number e) (behind old last p) (behind new last p)
   tried_err e why kept = record {
     answers = λ h. told (refusal reason old) e why h;
     done = λ h. absurd (refused e h);
     kept = λ _. kept;
     handed = refl;
+    policy = refl;
   }
 
-  pub did_ok : ActsOn does old new → refusal reason old ≡ None → Does reason does OK (behind old last) (behind new last)
+  pub did_ok : ActsOn does old new → refusal reason old ≡ None → Does reason does OK (behind old last p) (behind new last p)
   did_ok done accepted = record { tries = tried_ok done accepted; memory = λ h. absurd (omega (arith, h)) }
 
-  pub did_err : (e : CallError) → Tells (refusal reason old) e → IsKept old new → Does reason does (refusal_number e) (behind old last) (behind new last)
+  pub did_err : (e : CallError) → Tells (refusal reason old) e → IsKept old new → Does reason does (refusal_number e) (behind old last p) (behind new last p)
   did_err e why kept = record {
     tries = tried_err e (wants (refusal reason old) e why) kept;
     memory = λ h. memory_only (refusal reason old) e why h;
   }
 
   did_so : (r : Result Unit CallError) → OnOk r (ActsOn does old new) → OnOk r (refusal reason old ≡ None) → IfErr r (Tells (refusal reason old))
-      → OnErr r (IsKept old new) → Does reason does (outcome_number r) (behind old last) (behind new last)
+      → OnErr r (IsKept old new) → Does reason does (outcome_number r) (behind old last p) (behind new last p)
   did_so (Ok u) done accepted why kept = did_ok done accepted
   did_so (Err e) done accepted why kept = did_err e why kept
 
   pub did : (r : Result Unit CallError) (answer : ℕ) → answer ≡ outcome_number r → OnOk r (ActsOn does old new) → OnOk r (refusal reason old ≡ None)
-      → IfErr r (Tells (refusal reason old)) → OnErr r (IsKept old new) → Does reason does answer (behind old last) (behind new last)
+      → IfErr r (Tells (refusal reason old)) → OnErr r (IsKept old new) → Does reason does answer (behind old last p) (behind new last p)
   did r answer a done accepted why kept =
-      subst (λ (n : ℕ). Does reason does n (behind old last) (behind new last)) (sym a) (did_so r done accepted why kept)
+      subst (λ (n : ℕ). Does reason does n (behind old last p) (behind new last p)) (sym a) (did_so r done accepted why kept)
 
 -- ---- what comes and goes
 
-module _ (old new : EisView) (last : Handed) where
+module _ (old new : EisView) (last : Handed) (p : Option StrictView) where
   no_more_so : (r : Result Unit CallError) → r ≡ end_answer (is_some old.ending) → OnErr r (new ≡ old) → OnOk r (new ≡ without_input old)
-      → EndsConnection (outcome_number r) (behind old last) (behind new last)
-  no_more_so (Ok u) e kept ends = record { answers = ap outcome_number e; kept = λ h. absurd (h refl); ends = λ _. ap (λ v. behind v last) ends }
+      → EndsConnection (outcome_number r) (behind old last p) (behind new last p)
+  no_more_so (Ok u) e kept ends = record { answers = ap outcome_number e; kept = λ h. absurd (h refl); ends = λ _. ap (λ v. behind v last p) ends }
   no_more_so (Err e₁) e kept ends = record {
     answers = ap outcome_number e;
-    kept = λ _. ap (λ v. behind v last) kept;
+    kept = λ _. ap (λ v. behind v last p) kept;
     ends = λ h. absurd (refused e₁ h);
   }
 
   pub no_more : (r : Result Unit CallError) (answer : ℕ) → answer ≡ outcome_number r → r ≡ end_answer (is_some old.ending) → OnErr r (new ≡ old)
-      → OnOk r (new ≡ without_input old) → EndsConnection answer (behind old last) (behind new last)
+      → OnOk r (new ≡ without_input old) → EndsConnection answer (behind old last p) (behind new last p)
   no_more r answer a e kept ends =
-      subst (λ (n : ℕ). EndsConnection n (behind old last) (behind new last)) (sym a) (no_more_so r e kept ends)
+      subst (λ (n : ℕ). EndsConnection n (behind old last p) (behind new last p)) (sym a) (no_more_so r e kept ends)
 
-module _ (bytes : ℕ) (old new : EisView) (last : Handed) where
+module _ (bytes : ℕ) (old new : EisView) (last : Handed) (p : Option StrictView) where
   abbrev left : EisView
   left = with_unsent_in old (unsent_after bytes (unsent_in old.phase))
 
   sent_so : (r : Result Unit CallError) → r ≡ sent_answer bytes (length (unsent_in old.phase).bytes) → OnErr r (new ≡ old) → OnOk r (new ≡ left)
-      → SendsBytes bytes (outcome_number r) (behind old last) (behind new last)
-  sent_so (Ok u) e kept dropped = record { answers = ap outcome_number e; kept = λ h. absurd (h refl); dropped = λ _. ap (λ v. behind v last) dropped }
+      → SendsBytes bytes (outcome_number r) (behind old last p) (behind new last p)
+  sent_so (Ok u) e kept dropped = record { answers = ap outcome_number e; kept = λ h. absurd (h refl); dropped = λ _. ap (λ v. behind v last p) dropped }
   sent_so (Err e₁) e kept dropped = record {
     answers = ap outcome_number e;
-    kept = λ _. ap (λ v. behind v last) kept;
+    kept = λ _. ap (λ v. behind v last p) kept;
     dropped = λ h. absurd (refused e₁ h);
   }
 
   pub sent_bytes : (r : Result Unit CallError) (answer : ℕ) → answer ≡ outcome_number r → r ≡ sent_answer bytes (length (unsent_in old.phase).bytes)
-      → OnErr r (new ≡ old) → OnOk r (new ≡ left) → SendsBytes bytes answer (behind old last) (behind new last)
+      → OnErr r (new ≡ old) → OnOk r (new ≡ left) → SendsBytes bytes answer (behind old last p) (behind new last p)
   sent_bytes r answer a e kept dropped =
-      subst (λ (n : ℕ). SendsBytes bytes n (behind old last) (behind new last)) (sym a) (sent_so r e kept dropped)
+      subst (λ (n : ℕ). SendsBytes bytes n (behind old last p) (behind new last p)) (sym a) (sent_so r e kept dropped)
 
 -- ---- a piece
 
@@ -200,93 +196,33 @@ last_test false false false true e = grind (arith, e)
 few : (over : Bool) (bytes n : ℕ) → Ok tt ≡ feed_answer over bytes n → n ≤ 64
 few over bytes n e = ltb-false 64 n (last_test over (bytes == 0) (nat_lt 65536 bytes) (nat_lt 64 n) e)
 
-module _ (old new : EisView) (last : Handed) (bytes numbers : List ℕ) (lent : List Handle) (time : ℕ)
+module _ (old new : EisView) (last : Handed) (p : Option StrictView) (bytes numbers : List ℕ) (lent : List Handle) (time : ℕ)
     (lent_is : lent ≡ map handle_of (take (min (length numbers) 65) numbers)) where
   abbrev Took : List Handle → Type 0
   Took handles = Feeds (record { bytes = bytes; handles = handles }) time old new
 
   fed_so : (r : Result Unit CallError) → r ≡ feed_answer (is_some old.ending) (length bytes) (length numbers) → OnErr r (new ≡ old) → OnOk r (Took lent)
-      → FeedsConnection bytes numbers time (outcome_number r) (behind old last) (behind new last)
+      → FeedsConnection bytes numbers time (outcome_number r) (behind old last p) (behind new last p)
   fed_so (Ok u) e kept feeds = record {
     answers = ap outcome_number e;
     kept = λ h. absurd (h refl);
     feeds = λ _. subst Took (lent_whole numbers lent lent_is (few (is_some old.ending) (length bytes) (length numbers) e)) feeds;
     handed = refl;
+    policy = refl;
   }
   fed_so (Err e₁) e kept feeds = record {
     answers = ap outcome_number e;
-    kept = λ _. ap (λ v. behind v last) kept;
+    kept = λ _. ap (λ v. behind v last p) kept;
     feeds = λ h. absurd (refused e₁ h);
     handed = refl;
+    policy = refl;
   }
 
   pub fed : (r : Result Unit CallError) (answer : ℕ) → answer ≡ outcome_number r
       → r ≡ feed_answer (is_some old.ending) (length bytes) (length lent) → OnErr r (new ≡ old) → OnOk r (Took lent)
-      → FeedsConnection bytes numbers time answer (behind old last) (behind new last)
+      → FeedsConnection bytes numbers time answer (behind old last p) (behind new last p)
   fed r answer a e kept feeds =
       let e₁ : r ≡ feed_answer (is_some old.ending) (length bytes) (length numbers) =
       e ∙ ap (feed_answer (is_some old.ending) (length bytes)) (lent_length numbers lent lent_is) ∙ same_answer (is_some old.ending) (length bytes)
       (length numbers) in
-      subst (λ (n : ℕ). FeedsConnection bytes numbers time n (behind old last) (behind new last)) (sym a) (fed_so r e₁ kept feeds)
-
--- ---- requests
-
--- the phase in which no request waits is as it is without the first
-same_queue : (p : Phase) → queue_in p ≡ [] → with_queue p (rest_of (queue_in p)) ≡ p
-same_queue (phase.Shaking s) e = refl
-same_queue (phase.Standing c) e = ap (λ (q : List EisRequest). phase.Standing (record c { queue = q })) (ap rest_of e ∙ sym e)
-same_queue phase.Between e = refl
-
-none_first : (requests : List EisRequest) → None ≡ first_of requests → requests ≡ []
-none_first [] e = refl
-none_first (r ∷ rest) e = grind (arith, e)
-
-some_first : (r : EisRequest) (requests : List EisRequest) → Some r ≡ first_of requests → requests ≡ r ∷ rest_of requests
-some_first r [] e = grind (arith, e)
-some_first r (q ∷ rest) e = grind (arith, e)
-
--- no notice is first, or one is
-none_noticed : (notices : List Notice) → None ≡ first_of notices → notices ≡ []
-none_noticed [] e = refl
-none_noticed (n ∷ rest) e = grind (arith, e)
-
-some_noticed : (n : Notice) (notices : List Notice) → Some n ≡ first_of notices → notices ≡ n ∷ rest_of notices
-some_noticed n [] e = grind (arith, e)
-some_noticed n (m ∷ rest) e = grind (arith, e)
-
-module _ (old new : EisView) (last : Handed) (room : ReisRequest) where
-  pub noticed_none : None ≡ first_of old.notices → new ≡ noticing old (rest_of old.notices) → HandsNotice old.notices room NOTHING room (behind old last) (behind new last)
-  noticed_none e is =
-      let empty : old.notices ≡ [] = none_noticed old.notices e in
-      let same : new ≡ old = is ∙ ap (λ (ns : List Notice). noticing old ns) (ap rest_of empty ∙ sym empty) in
-      subst (λ (ns : List Notice). HandsNotice ns room NOTHING room (behind old last) (behind new last)) (sym empty) (refl, refl, ap (λ v. behind v last) same)
-
-  pub noticed_some : (n : Notice) (request : ReisRequest) → request ≡ of_notice n → Some n ≡ first_of old.notices → new ≡ noticing old (rest_of old.notices)
-      → HandsNotice old.notices room OK request (behind old last) (behind new (with_last last None))
-  noticed_some n request f e is =
-      subst (λ (ns : List Notice). HandsNotice ns room OK request (behind old last) (behind new (with_last last None))) (sym (some_noticed n old.notices e))
-      (refl, f, ap (λ v. behind v (with_last last None)) is)
-
-  abbrev rest : EisView
-  rest = awaiting old (rest_of (queue_in old.phase))
-
-  handed_from : (b : Bool) (answer : ℕ) (request : ReisRequest) (held : HeldConnection) → b ≡ false → HandsFirst (queue_in old.phase) room answer request (behind old last) held → HandsFrom b room answer request (behind old last) held
-  handed_from b answer request held e h = rw e h
-
-  pub handed_none : (answer : ℕ) (request : ReisRequest) (held : HeldConnection) → (not last.connected && is_some (handle_in old.phase)) ≡ false → None ≡ first_of (queue_in old.phase) → new ≡ rest
-      → HandsNotice new.notices room answer request (behind new last) held → HandsNext room answer request (behind old last) held
-  handed_none answer request held told e is h =
-      let empty : queue_in old.phase ≡ [] = none_first (queue_in old.phase) e in
-      let same : new ≡ old = is ∙ ap (λ (p : Phase). record old { phase = p }) (same_queue old.phase empty) in
-      handed_from _ answer request held told (subst (λ (q : List EisRequest). HandsFirst q room answer request (behind old last) held) (sym empty)
-      (subst (λ (v : EisView). HandsNotice v.notices room answer request (behind v last) held) same h))
-
-  pub handed_some : (r : EisRequest) (request : ReisRequest) → (not last.connected && is_some (handle_in old.phase)) ≡ false → request ≡ flat r → Some r ≡ first_of (queue_in old.phase) → new ≡ rest
-      → HandsNext room OK request (behind old last) (behind new (with_last last (Some r)))
-  handed_some r request told f e is =
-      handed_from _ OK request _ told (subst (λ (q : List EisRequest). HandsFirst q room OK request (behind old last) (behind new (with_last last (Some r)))) (sym (some_first r (queue_in old.phase) e))
-      (refl, f, ap (λ v. behind v (with_last last (Some r))) is))
-
-  pub handed_connected : (request : ReisRequest) → (not last.connected && is_some (handle_in old.phase)) ≡ true → request ≡ of_connected
-      → HandsNext room OK request (behind old last) (behind old (record { last = None; connected = true }))
-  handed_connected request told f = rw told (refl, f, refl)
+      subst (λ (n : ℕ). FeedsConnection bytes numbers time n (behind old last p) (behind new last p)) (sym a) (fed_so r e₁ kept feeds)

@@ -8,6 +8,7 @@ pub mod Slot
 pub mod Inputs
 pub mod Given
 pub mod Describing
+pub mod Policy
 pub mod Connecting
 pub mod Starting
 -- what the clauses cite of the crates below

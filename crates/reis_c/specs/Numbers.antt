@@ -77,6 +77,10 @@ IDS_EXHAUSTED = 18
 abbrev pub INVALID : ℕ
 INVALID = 19
 
+-- the flag of a connection that hands out what libeis would
+abbrev pub STRICT : ℕ
+STRICT = 1
+
 -- so many pieces are no limit
 abbrev pub NO_LIMIT : ℕ
 NO_LIMIT = 4294967295

@@ -1,25 +1,23 @@
 //! What stands behind the word of a connection.
 
-ghost use Rattle.std.specs.Prelude.{◌≡◌, ◌≢◌, true, false, IfSome, MatchOption};
-ghost use Rattle.std.specs.Option.{option_copied};
-ghost use Rattle.std.specs.Str.{is_utf8};
-ghost use Rattle.ei_types.specs.Capability.{bit_of};
-ghost use Rattle.ei_types.specs.declared.capability.DeviceCapability.{DeviceCapability};
-ghost use Rattle.ei_types.specs.Enums.{disconnect_reason_number};
-ghost use Rattle.reis_c.specs.Given.{named};
+ghost use Rattle.std.specs.Prelude.{◌≡◌, ◌≢◌, IfSome};
 
 use crate::device::{ReisDevice, ReisRegion, describe, is_wrong, type_of};
 use crate::flat::{ReisRequest, flat, of_connected, of_notice};
 use crate::held::{forget, keep};
 use crate::input::input_in;
+use crate::meaning::{capability_of, reason_of, text_of};
 use crate::numbers::{
     CAPABILITIES, GONE, INVALID, NO_MEMORY, NOTHING, OK, outcome_number, refusal_number,
 };
+use crate::policy;
 use crate::writing::{HANDLE_ROOM, copy_handles};
 use ei_request::EisRequest;
 use ei_spec::Handle;
-use ei_types::{DeviceCapabilities, DeviceCapability, DisconnectReason, OtherReason};
+use ei_types::DeviceCapabilities;
+use ei_wire::NoMemory;
 use reis_eis::Connection;
+use reis_strict::Strict;
 use std::alloc::Global;
 
 /// What was handed out: the request that was the last, where that was one, and whether it was told that the handshake is done.
@@ -29,71 +27,25 @@ pub(crate) struct Handed {
     pub(crate) connected: bool,
 }
 
-/// The connection, and what it handed out.
+/// The connection, what it handed out, and the policy beside it, where it was started with the flag.
 #[derive(Drop)]
 pub(crate) struct HeldConnection {
     pub(crate) connection: Connection,
     pub(crate) handed: Handed,
-}
-
-/// The text of some bytes: there is none where there is no byte. `None` where they are no text.
-#[tactic(auto, using(crate::proofs::Given::is_text, crate::proofs::Given::is_no_text))]
-fn text_of(bytes: &[u8]) -> Option<Option<&str>>
-    ensures { MatchOption result (is_utf8 bytes.now ≡ false) (λ text. (is_utf8 bytes.now ≡ true) ×
-        (option_copied text ≡ named bytes.now)) }
-{
-    match str::from_utf8(bytes) {
-        Ok(text) => {
-            if text.is_empty() {
-                return Some(None);
-            }
-            Some(Some(text))
-        }
-        Err(_) => None,
-    }
-}
-
-/// The capability of that bit.
-fn capability_of(bit: u64) -> Option<DeviceCapability>
-    ensures { MatchOption result ((one : DeviceCapability) → bit_of one ≢ bit) (λ one. bit_of one ≡ bit) }
-{
-    match bit {
-        1 => Some(DeviceCapability::Pointer),
-        2 => Some(DeviceCapability::PointerAbsolute),
-        4 => Some(DeviceCapability::Keyboard),
-        8 => Some(DeviceCapability::Touch),
-        16 => Some(DeviceCapability::Scroll),
-        32 => Some(DeviceCapability::Button),
-        64 => Some(DeviceCapability::Text),
-        128 => Some(DeviceCapability::Gesture),
-        _ => None,
-    }
-}
-
-/// The reason of that number.
-fn reason_of(number: u32) -> DisconnectReason
-    ensures { disconnect_reason_number result ≡ number }
-{
-    match number {
-        0 => DisconnectReason::Disconnected,
-        1 => DisconnectReason::Error,
-        2 => DisconnectReason::Mode,
-        3 => DisconnectReason::Protocol,
-        4 => DisconnectReason::Value,
-        _ => match OtherReason::new(number) {
-            Some(other) => DisconnectReason::Other(other),
-            None => DisconnectReason::Transport,
-        },
-    }
+    pub(crate) policy: Option<Strict>,
 }
 
 // What comes and goes.
 impl HeldConnection {
     ghost use Rattle.reis_c.specs.Connecting.{begun, FeedsConnection, EndsConnection, SendsBytes, HandsNext, HandsNotice, is_untold, Disconnects};
 
-    /// A connection that was just started; `None` where memory ran out.
-    pub(crate) fn start(alloc: Global, initial_serial: u32) -> Option<Box<HeldConnection>>
-        ensures { IfSome result (λ held. held.value ≡ begun initial_serial) }
+    /// A connection that was just started with these flags; `None` where memory ran out.
+    pub(crate) fn start(
+        alloc: Global,
+        initial_serial: u32,
+        flags: u32,
+    ) -> Option<Box<HeldConnection>>
+        ensures { IfSome result (λ held. held.value ≡ begun initial_serial flags) }
     {
         let connection = Connection::start(alloc, initial_serial).ok()?;
         Box::new(
@@ -104,6 +56,7 @@ impl HeldConnection {
                     last: None,
                     connected: false,
                 },
+                policy: policy::policy_for(alloc, flags),
             },
         )
         .ok()
@@ -132,9 +85,10 @@ impl HeldConnection {
         outcome_number(self.connection.sent(bytes))
     }
 
-    /// Hands out what comes next: once, that the handshake is done; and then a request, or, where none waits, a notice.
+    /// Hands out what comes next: once, that the handshake is done; and then a request, or, where none is, a notice.
     pub(crate) fn next_request(&mut self, request: &mut ReisRequest) -> u32
-        ensures { HandsNext request.old result request.new self.old self.new }
+        ensures hands { HandsNext request.old result request.new self.old self.new }
+        ensures none { result ≢ OK → request.new ≡ request.old }
     {
         if self.is_untold() {
             *request = of_connected();
@@ -142,13 +96,14 @@ impl HeldConnection {
             self.handed.connected = true;
             return OK;
         }
-        match self.connection.next_request() {
-            Some(next) => {
+        match policy::next(&mut self.policy, &mut self.connection) {
+            Ok(Some(next)) => {
                 *request = flat(&next);
                 keep(&mut self.handed.last, next);
                 OK
             }
-            None => self.next_notice(request),
+            Ok(None) => self.next_notice(request),
+            Err(NoMemory) => NO_MEMORY,
         }
     }
 
@@ -161,7 +116,8 @@ impl HeldConnection {
 
     /// Hands out the next notice.
     fn next_notice(&mut self, request: &mut ReisRequest) -> u32
-        ensures { HandsNotice self.old.connection.notices request.old result request.new self.old self.new }
+        ensures hands { HandsNotice self.old.connection.notices request.old result request.new self.old self.new }
+        ensures none { result ≢ OK → request.new ≡ request.old }
     {
         match self.connection.next_notice() {
             Some(notice) => {
@@ -180,7 +136,13 @@ impl HeldConnection {
         let Some(text) = text_of(text) else {
             return INVALID;
         };
-        outcome_number(self.connection.disconnect(reason_of(reason), text))
+        match self.connection.disconnect(reason_of(reason), text) {
+            Ok(()) => {
+                policy::forget_gone(&mut self.policy, &self.connection);
+                OK
+            }
+            Err(refusal) => refusal_number(refusal),
+        }
     }
 }
 
@@ -188,8 +150,9 @@ impl HeldConnection {
 impl HeldConnection {
     ghost use Rattle.ei_spec.specs.declared.interface.KnownInterface.TheVariants as known;
     ghost use Rattle.reis_eis.specs.Refusals.{pinging, on_seat, on_device, on_interface};
-    ghost use Rattle.reis_eis.specs.Acting.{PingsAs, RemovesSeatAt, RemovesDeviceAt, Resumes, Pauses, TellsModifiers};
-    ghost use Rattle.reis_c.specs.Connecting.{AddsSeatTo, AddsDeviceTo, Does, TellsDevice};
+    ghost use Rattle.reis_eis.specs.Acting.{PingsAs, RemovesSeatAt, RemovesDeviceAt, Pauses, TellsModifiers};
+    ghost use Rattle.reis_c.specs.Connecting.{AddsSeatTo, AddsDeviceTo, Does, DoesAndTells, ResumesAndTells, TellsDevice};
+    ghost use Rattle.reis_c.specs.Policy.{forgetting, pausing, removing};
 
     /// Announces a ping.
     pub(crate) fn ping(&mut self, ping: &mut u64) -> u32
@@ -229,9 +192,15 @@ impl HeldConnection {
 
     /// Takes a seat away.
     pub(crate) fn remove_seat(&mut self, seat: u64) -> u32
-        ensures { Does (on_seat seat) (RemovesSeatAt seat) result self.old self.new }
+        ensures { DoesAndTells (on_seat seat) (RemovesSeatAt seat) forgetting result self.old self.new }
     {
-        outcome_number(self.connection.remove_seat(seat))
+        match self.connection.remove_seat(seat) {
+            Ok(()) => {
+                policy::forget_gone(&mut self.policy, &self.connection);
+                OK
+            }
+            Err(refusal) => refusal_number(refusal),
+        }
     }
 
     /// Announces a device.
@@ -277,23 +246,45 @@ impl HeldConnection {
 
     /// Takes a device away.
     pub(crate) fn remove_device(&mut self, device: u64) -> u32
-        ensures { Does (on_device device) (RemovesDeviceAt device) result self.old self.new }
+        ensures { DoesAndTells (on_device device) (RemovesDeviceAt device) (removing device) result self.old
+            self.new }
     {
-        outcome_number(self.connection.remove_device(device))
+        match self.connection.remove_device(device) {
+            Ok(()) => {
+                policy::removed(&mut self.policy, device);
+                OK
+            }
+            Err(refusal) => refusal_number(refusal),
+        }
     }
 
     /// Tells the client that the device takes input.
     pub(crate) fn resume(&mut self, device: u64) -> u32
-        ensures { Does (on_device device) (Resumes device) result self.old self.new }
+        ensures { ResumesAndTells device result self.old self.new }
     {
-        outcome_number(self.connection.resume(device))
+        let Ok(()) = policy::reserve(&mut self.policy, &self.connection, device) else {
+            return NO_MEMORY;
+        };
+        match self.connection.resume(device) {
+            Ok(()) => {
+                policy::resumed(&mut self.policy, device);
+                OK
+            }
+            Err(refusal) => refusal_number(refusal),
+        }
     }
 
     /// Tells the client that it takes none.
     pub(crate) fn pause(&mut self, device: u64) -> u32
-        ensures { Does (on_device device) (Pauses device) result self.old self.new }
+        ensures { DoesAndTells (on_device device) (Pauses device) (pausing device) result self.old self.new }
     {
-        outcome_number(self.connection.pause(device))
+        match self.connection.pause(device) {
+            Ok(()) => {
+                policy::paused(&mut self.policy, device);
+                OK
+            }
+            Err(refusal) => refusal_number(refusal),
+        }
     }
 
     /// Tells whether the device has the capability of that bit.

@@ -1,16 +1,17 @@
 //! What C calls on a connection. No call requires anything: what is wrong is answered.
 
-ghost use Rattle.std.specs.Prelude.{◌≡◌, ◌≢◌, ◌⊎◌, ◌↔◌, length, IsSome, is_some, if◌then◌else◌, None, Some};
+ghost use Rattle.std.specs.Prelude.{◌≡◌, ◌≢◌, ◌<◌, ◌⊎◌, ◌↔◌, length, IsSome, is_some, if◌then◌else◌, None, Some};
 ghost use Rattle.ei_spec.specs.declared.interface.KnownInterface.TheVariants as known;
 ghost use Rattle.reis_eis.specs.Refusals.{pinging, on_seat, on_device, on_interface, on_receiver};
-ghost use Rattle.reis_eis.specs.Acting.{PingsAs, RemovesSeatAt, RemovesDeviceAt, Resumes, Pauses, TellsModifiers, StartsEmulating, StopsEmulating, Frames};
+ghost use Rattle.reis_eis.specs.Acting.{PingsAs, RemovesSeatAt, RemovesDeviceAt, Pauses, TellsModifiers, StartsEmulating, StopsEmulating, Frames};
 ghost use Rattle.reis_eis.specs.Words.{unsent_in, handle_in};
 ghost use Rattle.reis_c.specs.Answers.{Writes};
 ghost use Rattle.reis_c.specs.Calls.{OnWord, ReadsWord, TellsClient, text_of_last};
-ghost use Rattle.reis_c.specs.Connecting.{begun, FeedsConnection, EndsConnection, SendsBytes, HandsNext, Disconnects, AddsSeatTo, AddsDeviceTo, Does, TellsDevice, SendsTo};
+ghost use Rattle.reis_c.specs.Connecting.{begun, FeedsConnection, EndsConnection, SendsBytes, HandsNext, Disconnects, AddsSeatTo, AddsDeviceTo, Does, DoesAndTells, ResumesAndTells, TellsDevice, SendsTo};
 ghost use Rattle.reis_c.specs.Ending.{ending_number};
 ghost use Rattle.reis_c.specs.Inputs.{input_in};
 ghost use Rattle.reis_c.specs.Numbers as number;
+ghost use Rattle.reis_c.specs.Policy.{forgetting, pausing, removing};
 
 use crate::connection::HeldConnection;
 use crate::connection_slot::ReisConnection;
@@ -18,30 +19,37 @@ use crate::device::{ReisDevice, ReisRegion};
 use crate::ending::ending_number;
 use crate::exports::on_word;
 use crate::flat::ReisRequest;
-use crate::numbers::{HAS_SESSION, NO_MEMORY, NO_SESSION, OK};
+use crate::numbers::{HAS_SESSION, INVALID, NO_MEMORY, NO_SESSION, OK, STRICT};
 use crate::writing::{lend, tell_client, write_text_of};
 use ei_spec::Handle;
 use std::alloc::Global;
 
-/// Starts a connection where there is none.
+/// Starts a connection where there is none. With the flag `STRICT` it hands out what libeis would: a policy stands beside it.
 ///
-/// `HAS_SESSION` where there is one; `NO_MEMORY`.
+/// `HAS_SESSION` where there is one; `INVALID` where a bit is no flag; `NO_MEMORY`.
 #[unsafe(no_mangle)]
 pub extern "C" fn reis_c_connection_start(
     alloc: Global,
     connection: &mut ReisConnection,
     serial: u32,
+    flags: u32,
 ) -> u32
-    ensures started { result ≡ number.OK → connection.new.held ≡ Some (begun serial) }
+    ensures started { result ≡ number.OK → connection.new.held ≡ Some (begun serial flags) }
     ensures kept { result ≢ number.OK → connection.new.held ≡ connection.old.held }
+    // which answer it is
     ensures there { (result ≡ number.HAS_SESSION) ↔ IsSome connection.old.held }
-    ensures which { (result ≡ number.OK) ⊎ (result ≡ number.NO_MEMORY) ⊎ (result ≡ number.HAS_SESSION) }
+    ensures lawless { (result ≡ number.INVALID) ↔ ((connection.old.held ≡ None) × (number.STRICT < flags)) }
+    ensures which { (result ≡ number.OK) ⊎ (result ≡ number.NO_MEMORY) ⊎ (result ≡ number.HAS_SESSION) ⊎
+        (result ≡ number.INVALID) }
 {
     if let Some(held) = connection.take(alloc) {
         connection.put(held);
         return HAS_SESSION;
     }
-    match HeldConnection::start(alloc, serial) {
+    if flags > STRICT {
+        return INVALID;
+    }
+    match HeldConnection::start(alloc, serial, flags) {
         Some(held) => {
             connection.put(held);
             OK
@@ -122,10 +130,11 @@ pub extern "C" fn reis_c_connection_sent(
     on_word!(connection, alloc, |held| held.sent(bytes))
 }
 
-/// Hands out what comes next: once, that the handshake is done; and then the next request, or, where none waits, the next
-/// notice.
+/// Hands out what comes next: once, that the handshake is done; and then the next request, or, where none is, the next notice.
+/// With the flag of a start the next request is the first that passes: those before it are dropped, and one that ends the
+/// client is gone, the client told so, as `reis_strict` says.
 ///
-/// `NO_SESSION`; `NOTHING` where there is none.
+/// `NO_SESSION`; `NOTHING` where there is none; with the flag `NO_MEMORY`: what isn't dropped waits still.
 #[unsafe(no_mangle)]
 pub extern "C" fn reis_c_connection_next_request(
     alloc: Global,
@@ -274,7 +283,7 @@ pub extern "C" fn reis_c_connection_add_seat(
     )
 }
 
-/// Takes a seat away, with its devices.
+/// Takes a seat away, with its devices. Nothing is kept of these.
 ///
 /// `NO_SESSION`; what `Connection::remove_seat` answers.
 #[unsafe(no_mangle)]
@@ -283,7 +292,8 @@ pub extern "C" fn reis_c_connection_remove_seat(
     connection: &mut ReisConnection,
     seat: u64,
 ) -> u32
-    ensures { OnWord connection.old.held result connection.new.held (Does (on_seat seat) (RemovesSeatAt seat) result) }
+    ensures { OnWord connection.old.held result connection.new.held
+        (DoesAndTells (on_seat seat) (RemovesSeatAt seat) forgetting result) }
 {
     on_word!(connection, alloc, |held| held.remove_seat(seat))
 }
@@ -325,21 +335,21 @@ pub extern "C" fn reis_c_connection_remove_device(
     device: u64,
 ) -> u32
     ensures { OnWord connection.old.held result connection.new.held
-        (Does (on_device device) (RemovesDeviceAt device) result) }
+        (DoesAndTells (on_device device) (RemovesDeviceAt device) (removing device) result) }
 {
     on_word!(connection, alloc, |held| held.remove_device(device))
 }
 
 /// Tells the client that the device takes input.
 ///
-/// `NO_SESSION`; what `Connection::resume` answers.
+/// `NO_SESSION`; what `Connection::resume` answers. With the flag of a start memory is wanted for the device too.
 #[unsafe(no_mangle)]
 pub extern "C" fn reis_c_connection_resume(
     alloc: Global,
     connection: &mut ReisConnection,
     device: u64,
 ) -> u32
-    ensures { OnWord connection.old.held result connection.new.held (Does (on_device device) (Resumes device) result) }
+    ensures { OnWord connection.old.held result connection.new.held (ResumesAndTells device result) }
 {
     on_word!(connection, alloc, |held| held.resume(device))
 }
@@ -353,7 +363,8 @@ pub extern "C" fn reis_c_connection_pause(
     connection: &mut ReisConnection,
     device: u64,
 ) -> u32
-    ensures { OnWord connection.old.held result connection.new.held (Does (on_device device) (Pauses device) result) }
+    ensures { OnWord connection.old.held result connection.new.held
+        (DoesAndTells (on_device device) (Pauses device) (pausing device) result) }
 {
     on_word!(connection, alloc, |held| held.pause(device))
 }

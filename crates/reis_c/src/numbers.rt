@@ -46,7 +46,10 @@ pub const IDS_EXHAUSTED: u32 = 18;
 
 pub const INVALID: u32 = 19;
 
-// ---- what a session is started with
+// ---- what a session is started with, and a connection
+
+/// The flag of a connection that hands out what libeis would.
+pub const STRICT: u32 = 1;
 
 /// So many pieces are no limit.
 pub const NO_LIMIT: u32 = 4294967295;

@@ -38,6 +38,10 @@ pub const REIS_REASON_VALUE: reis_reason = reis_reason(4);
 /// The bytes between the two failed.
 pub const REIS_REASON_TRANSPORT: reis_reason = reis_reason(5);
 
+/// A flag of [`reis_connection_start`]: [`reis_connection_next_request`] refuses what libeis refuses of a client and the protocol
+/// leaves open. `reis.h` says what is dropped then, and what ends the client.
+pub const REIS_STRICT: u32 = 1;
+
 /// What a device is.
 #[repr(transparent)]
 #[derive(Clone, Copy, Debug, PartialEq, Eq, Hash)]
@@ -94,8 +98,12 @@ pub struct reis_device {
 }
 
 extern "C" {
-    /// Starts a connection in a word that is zero. Its greeting waits to be written.
-    pub fn reis_connection_start(connection: *mut reis_connection, serial: u32) -> reis_answer;
+    /// Starts a connection in a word that is zero. Its greeting waits to be written. `flags` is 0 or [`REIS_STRICT`].
+    pub fn reis_connection_start(
+        connection: *mut reis_connection,
+        serial: u32,
+        flags: u32,
+    ) -> reis_answer;
 
     /// As `reis_session_feed`; nothing is done about what the client asks.
     pub fn reis_connection_feed(
@@ -122,7 +130,8 @@ extern "C" {
     /// Says that the first so many bytes were written, and with the first of them all handles that waited.
     pub fn reis_connection_sent(connection: *mut reis_connection, bytes: usize) -> reis_answer;
 
-    /// As `reis_session_next_request`.
+    /// As `reis_session_next_request`. With [`REIS_STRICT`] it may end the client, and may answer `REIS_NO_MEMORY`: nothing is
+    /// lost then, and the next call goes on.
     pub fn reis_connection_next_request(
         connection: *mut reis_connection,
         request: *mut reis_request,

@@ -282,7 +282,9 @@ fn what_is_no_connection_is_answered() {
     assert_eq!((count, handle_count, end), (0, 0, REIS_END_GOES_ON));
     assert_eq!(context_type, reis_context_type(0));
     // SAFETY: a null is answered.
-    assert_eq!(unsafe { reis_connection_start(null_mut(), 1) }, REIS_NULL);
+    assert_eq!(unsafe { reis_connection_start(null_mut(), 1, 0) }, REIS_NULL);
+    // SAFETY: the word is zero.
+    assert_eq!(unsafe { reis_connection_start(&mut it, 1, REIS_STRICT + 1) }, REIS_INVALID);
 }
 
 #[test]

@@ -1,4 +1,5 @@
-//! A compositor: it listens on a path, gives each client a seat and the devices that it binds, and prints what comes from them.
+//! A compositor, as strict as libeis: it listens on a path, gives each client a seat and the devices that it binds, and prints
+//! what comes from them.
 //!
 //!     compositor PATH [CLIENTS]
 //!
@@ -7,7 +8,7 @@
 
 use paltukwi::{
     check_version, now, wait, Capabilities, DeviceId, DeviceSetup, End, Interest, KeymapFile,
-    Listener, Peer, Reason, Region, Request, SeatId, TellError,
+    Listener, Peer, Policy, Reason, Region, Request, SeatId, TellError,
 };
 use std::error::Error;
 use std::fs::File;
@@ -249,7 +250,7 @@ impl Compositor {
     fn accept(&mut self) -> Result<(), Box<dyn Error>> {
         if let Some(stream) = self.listener.accept()? {
             self.accepted += 1;
-            let (number, peer) = (self.accepted, Peer::open(stream, 1)?);
+            let (number, peer) = (self.accepted, Peer::open_with(stream, 1, Policy::Strict)?);
             self.clients.push(Client { number, peer, devices: [None; DEVICES] });
         }
         Ok(())

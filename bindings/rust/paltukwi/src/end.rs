@@ -12,7 +12,8 @@ pub enum End {
     Disconnected,
     /// No more came, after the handshake.
     EndOfInput,
-    /// [`Link::disconnect`](crate::Link::disconnect) told the client so. No session ends by it.
+    /// The client was told so, by [`Link::disconnect`](crate::Link::disconnect), or since [`Policy::Strict`](crate::Policy::Strict)
+    /// ends it. No session ends by it.
     Told,
     /// An error of the client's, or want of memory.
     Failed(SessionError),

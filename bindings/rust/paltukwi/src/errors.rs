@@ -77,6 +77,18 @@ impl fmt::Display for NotUnsent {
 
 impl Error for NotUnsent {}
 
+/// Memory ran out. Nothing is lost: the call made again goes on.
+#[derive(Clone, Copy, Debug, PartialEq, Eq)]
+pub struct NoMemory;
+
+impl fmt::Display for NoMemory {
+    fn fmt(&self, f: &mut fmt::Formatter<'_>) -> fmt::Result {
+        f.write_str("memory ran out")
+    }
+}
+
+impl Error for NoMemory {}
+
 /// Why a client wasn't told what a call is for: all is as it was.
 ///
 /// What these types rule out has no variant: a null, no link, and a text that isn't UTF-8.

@@ -55,7 +55,7 @@ mod error_kind;
 pub use error_kind::ErrorKind;
 
 mod errors;
-pub use errors::{FeedError, NotUnsent, StartError, TellError};
+pub use errors::{FeedError, NoMemory, NotUnsent, StartError, TellError};
 
 mod fields;
 
@@ -69,6 +69,9 @@ mod path;
 
 mod peer;
 pub use peer::Peer;
+
+mod policy;
+pub use policy::Policy;
 
 mod request;
 pub use request::{DeviceId, Input, PingId, Request, SeatId};

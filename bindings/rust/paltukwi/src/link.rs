@@ -2,11 +2,11 @@
 
 use crate::answers::{end_name, fed, lent, text, told};
 use crate::device::Regions;
-use crate::errors::{FeedError, NotUnsent, StartError, TellError};
+use crate::errors::{FeedError, NoMemory, NotUnsent, StartError, TellError};
 use crate::session::check_version;
 use crate::{
-    Capabilities, Client, DeviceId, DeviceSetup, End, Input, Modifiers, PingId, Reason, Request,
-    SeatId, Unsent,
+    Capabilities, Client, DeviceId, DeviceSetup, End, Input, Modifiers, PingId, Policy, Reason,
+    Request, SeatId, Unsent,
 };
 use paltukwi_sys as sys;
 use std::os::fd::OwnedFd;
@@ -52,16 +52,26 @@ pub struct Link {
 
 /// What comes and goes.
 impl Link {
-    /// Starts a link, whose greeting waits to be written. `serial` is the one that it bears at first.
+    /// Starts a link that refuses no more than the protocol does, and whose greeting waits to be written. `serial` is the one that
+    /// it bears at first.
     ///
     /// # Errors
     ///
     /// `Version`, where the library is of another version than these bindings; `NoMemory`.
     pub fn start(serial: u32) -> Result<Link, StartError> {
+        Link::start_with(serial, Policy::Protocol)
+    }
+
+    /// Starts a link that refuses what this policy does.
+    ///
+    /// # Errors
+    ///
+    /// Those of [`start`](Link::start).
+    pub fn start_with(serial: u32, policy: Policy) -> Result<Link, StartError> {
         check_version()?;
         let mut raw = sys::reis_connection::none();
         // SAFETY: the word is zero.
-        match unsafe { sys::reis_connection_start(&mut raw, serial) } {
+        match unsafe { sys::reis_connection_start(&mut raw, serial, policy.flags()) } {
             sys::REIS_OK => Ok(Link { raw, keymaps: Vec::new() }),
             _ => Err(StartError::NoMemory),
         }
@@ -138,12 +148,25 @@ impl Link {
     /// [`Connected`](Request::Connected) comes first, once the handshake is done, and [`SeatReleased`](Request::SeatReleased) and
     /// [`Pong`](Request::Pong) only while no other waits. It works after the end too; behind the client's own disconnect only
     /// those that are older come.
+    ///
+    /// By [`Policy::Strict`] it may end the client, and it is `None` too where memory runs out:
+    /// [`try_next_request`](Link::try_next_request) tells that apart.
     pub fn next_request(&mut self) -> Option<Request> {
+        self.try_next_request().ok().flatten()
+    }
+
+    /// As [`next_request`](Link::next_request).
+    ///
+    /// # Errors
+    ///
+    /// `NoMemory`, only by [`Policy::Strict`]: no request is lost, and a later call hands out the next one.
+    pub fn try_next_request(&mut self) -> Result<Option<Request>, NoMemory> {
         let mut written = sys::reis_request::none();
         // SAFETY: the word is a link's, and the request is borrowed alone.
         match unsafe { sys::reis_connection_next_request(&mut self.raw, &mut written) } {
-            sys::REIS_OK => Some(Request::of(&written, || self.request_text())),
-            _ => None,
+            sys::REIS_OK => Ok(Some(Request::of(&written, || self.request_text()))),
+            sys::REIS_NO_MEMORY => Err(NoMemory),
+            _ => Ok(None),
         }
     }
 

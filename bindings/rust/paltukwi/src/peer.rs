@@ -3,8 +3,8 @@
 use crate::socket::{Socket, PIECE};
 use crate::wait::Interest;
 use crate::{
-    Capabilities, Client, DeviceId, DeviceSetup, End, Input, Link, Modifiers, PingId, Reason,
-    Request, SeatId, StartError, TellError,
+    Capabilities, Client, DeviceId, DeviceSetup, End, Input, Link, Modifiers, NoMemory, PingId,
+    Policy, Reason, Request, SeatId, StartError, TellError,
 };
 use std::io;
 use std::os::fd::{AsFd, BorrowedFd};
@@ -58,13 +58,23 @@ pub struct Peer {
 
 /// What comes and goes.
 impl Peer {
-    /// Starts a link over the socket. Its greeting is written by the first turn. `serial` is the one that it bears at first.
+    /// Starts a link over the socket, which refuses no more than the protocol does. Its greeting is written by the first turn.
+    /// `serial` is the one that it bears at first.
     ///
     /// # Errors
     ///
     /// Those of [`Link::start`]; then the socket is closed.
     pub fn open(stream: UnixStream, serial: u32) -> Result<Peer, StartError> {
-        let link = Link::start(serial)?;
+        Peer::open_with(stream, serial, Policy::Protocol)
+    }
+
+    /// Starts a link over the socket, which refuses what this policy does.
+    ///
+    /// # Errors
+    ///
+    /// Those of [`open`](Peer::open).
+    pub fn open_with(stream: UnixStream, serial: u32, policy: Policy) -> Result<Peer, StartError> {
+        let link = Link::start_with(serial, policy)?;
         Ok(Peer { link, socket: Socket::new(stream), writes: true, over: false })
     }
 
@@ -98,9 +108,21 @@ impl Peer {
         Ok(())
     }
 
-    /// The next request of the client, which waits no more.
+    /// The next request of the client, which waits no more. By [`Policy::Strict`] it may end the client, which the next turn
+    /// tells it; and it is `None` too where memory runs out.
     pub fn next_request(&mut self) -> Option<Request> {
-        self.link.next_request()
+        self.try_next_request().ok().flatten()
+    }
+
+    /// As [`next_request`](Peer::next_request).
+    ///
+    /// # Errors
+    ///
+    /// Those of [`Link::try_next_request`].
+    pub fn try_next_request(&mut self) -> Result<Option<Request>, NoMemory> {
+        let request = self.link.try_next_request();
+        self.note();
+        request
     }
 
     /// Who the client is: `None` until the handshake is done.
@@ -151,7 +173,7 @@ impl Peer {
 
     /// Something may wait to be written, and the link may be over.
     fn note(&mut self) {
-        self.writes = true;
+        self.writes = !self.link.unsent().bytes.is_empty();
         self.over = self.link.end().is_some();
     }
 }

@@ -4,11 +4,11 @@
 mod common;
 
 use common::wire::{
-    device, handshake, message, seat, welcome, Arg, CONNECTION, FIRST_SEAT, RECEIVER,
+    device, handshake, message, seat, welcome, Arg, CONNECTION, FIRST_SEAT, RECEIVER, SENDER,
 };
 use paltukwi::{
-    Capabilities, DeviceId, DeviceSetup, Input, KeymapFile, Link, Modifiers, PingId, Reason,
-    Region, SeatId, StartError, TellError,
+    Capabilities, DeviceId, DeviceSetup, End, Input, KeymapFile, Link, Modifiers, NoMemory, PingId,
+    Policy, Reason, Region, Request, SeatId, StartError, TellError,
 };
 use std::ffi::c_void;
 use std::ptr::{null_mut, NonNull};
@@ -178,6 +178,45 @@ fn plays(which: usize, number: usize) -> bool {
     refused
 }
 
+/// The names of what is handed out, and how often memory runs out meanwhile.
+fn taken(link: &mut Link) -> (Vec<&'static str>, usize) {
+    let (mut names, mut failures) = (Vec::new(), 0);
+    loop {
+        match link.try_next_request() {
+            Ok(Some(request)) => names.push(request.name()),
+            Ok(None) => return (names, failures),
+            Err(NoMemory) => failures += 1,
+        }
+    }
+}
+
+/// Takes what a sender asks of a strict link, which is ended by it, with that block refused: nothing is lost. Whether the link asked
+/// for so many.
+fn takes(number: usize) -> bool {
+    let mut link = Link::start_with(7, Policy::Strict).unwrap();
+    link.feed(&handshake(SENDER, "probe"), &[], 0).unwrap();
+    assert_eq!(link.try_next_request(), Ok(Some(Request::Connected)));
+    assert_eq!(link.add_seat(None, Capabilities::KEYBOARD), Ok(SEAT));
+    let setup = DeviceSetup { capabilities: Capabilities::KEYBOARD, ..DeviceSetup::default() };
+    assert_eq!(link.add_device(SEAT, &setup), Ok(DEVICE));
+    link.resume(DEVICE).unwrap();
+    let mut asked = message(ID, 1, &[Word(7), Word(1)]);
+    for key in 0..20 {
+        asked.extend(message(ID + 1, 1, &[Word(key), Word(1)]));
+    }
+    asked.extend(message(ID, 3, &[Word(7), Long(5)]));
+    asked.extend(message(ID, 1, &[Word(7), Word(2)]));
+    link.feed(&asked, &[], 0).unwrap();
+    let ((names, failures), refused) = with_refused(number, || taken(&mut link));
+    assert_eq!(failures, usize::from(refused), "{number}");
+    let mut wanted = vec!["start_emulating"];
+    wanted.extend(["key"; 20]);
+    wanted.push("frame");
+    assert_eq!(names, wanted, "{number}");
+    assert_eq!(link.end(), Some(End::Told), "{number}");
+    refused
+}
+
 #[test]
 fn each_block_that_is_refused() {
     let (began, _) = with_refused(usize::MAX, || Link::start(7).is_ok());
@@ -195,6 +234,8 @@ fn each_block_that_is_refused() {
         .map(|which| (1..).take_while(|number| plays(which, *number)).count())
         .collect();
     assert!(started > 0 && refused[..2].iter().all(|count| *count > 0), "{started} {refused:?}");
+    assert!((1..).take_while(|number| takes(*number)).count() > 0);
     assert_eq!(HERE.load(Relaxed), 0);
     assert_eq!(TellError::NoMemory.to_string(), StartError::NoMemory.to_string());
+    assert_eq!(NoMemory.to_string(), StartError::NoMemory.to_string());
 }

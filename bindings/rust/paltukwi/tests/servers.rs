@@ -323,18 +323,20 @@ fn the_compositor_pauses_resumes_and_ends() {
     assert!(folder.names().is_empty());
 }
 
-/// One client sends input and leaves, and one breaks the protocol: it is told so.
+/// One client sends input and leaves, one breaks the protocol, and one sends input without a start: these two are told so.
 #[test]
 fn the_compositor_serves_who_leaves_and_who_is_wrong() {
     let folder = Folder::new("compositor-serves");
     let path = folder.0.join("socket");
     let mut compositor = example("compositor");
-    compositor.arg(&path).arg("2").stdin(Stdio::null());
+    compositor.arg(&path).arg("3").stdin(Stdio::null());
     let compositor = Running::start(compositor);
     let mut probe = Probe::begin(&path);
     probe.binds();
-    probe.stream.write_all(&message(KEYBOARD + 1, 1, &[Word(30), Word(1)])).unwrap();
-    probe.stream.write_all(&message(KEYBOARD, 3, &[Word(4), Long(5000)])).unwrap();
+    let mut key = message(KEYBOARD + 1, 1, &[Word(30), Word(1)]);
+    key.extend(message(KEYBOARD, 3, &[Word(4), Long(5000)]));
+    probe.stream.write_all(&message(KEYBOARD, 1, &[Word(4), Word(1)])).unwrap();
+    probe.stream.write_all(&key).unwrap();
     probe.stream.write_all(&message(POINTER, 0, &[])).unwrap();
     for id in (POINTER + 1..ABSOLUTE).chain([POINTER]) {
         let serial = [probe.next()];
@@ -345,9 +347,14 @@ fn the_compositor_serves_who_leaves_and_who_is_wrong() {
     let mut wrong = Probe::begin(&path);
     wrong.stream.write_all(&message(FIRST_SEAT, 99, &[])).unwrap();
     wrong.hears_the_end(&[FIRST_SEAT], 3, "parse_invalid_opcode");
+    let mut hasty = Probe::begin(&path);
+    hasty.binds();
+    hasty.stream.write_all(&key).unwrap();
+    hasty.hears_the_end(&all_ids(), 3, "input without start_emulating");
     let wanted = [
         "client 1: Sender",
         "client 1: bind seat=ff00000000000001 capabilities=55",
+        "client 1: start_emulating device=ff00000000000008 serial=4 sequence=1",
         "client 1: key device=ff00000000000008 key=30 state=press",
         "client 1: frame device=ff00000000000008 serial=4",
         "client 1: device_closed device=ff00000000000002",
@@ -355,6 +362,9 @@ fn the_compositor_serves_who_leaves_and_who_is_wrong() {
         "client 1: the client disconnected",
         "client 2: Sender",
         "client 2: parse_invalid_opcode",
+        "client 3: Sender",
+        "client 3: bind seat=ff00000000000001 capabilities=55",
+        "client 3: the client was told so",
     ];
     assert_eq!(compositor.finish(), wanted);
     assert!(folder.names().is_empty());

@@ -1,9 +1,15 @@
 use Rattle.reis_eis.specs.Refusals.{on_device}
 use Rattle.reis_eis.specs.Acting.{RemovesDeviceAt}
-use Rattle.reis_c.proofs.Obliging.{did}
+use Rattle.reis_c.specs.Policy.{removing}
+use Rattle.reis_c.proofs.Telling.{told_ok, told_err}
 use Rattle.reis_c.proofs.connection.HeldConnection.remove_device.Goals as goal
 
-pub returns : goal.returns
-returns c =
-    did (on_device c.args.device) (RemovesDeviceAt c.args.device) c.args.self.now.connection c.remove_device.new.self c.args.self.now.handed c.remove_device.result c.outcome_number.result
-    c.outcome_number.ensures c.remove_device.ensures.removes c.remove_device.ensures.accepted c.remove_device.ensures.why c.remove_device.ensures.err
+pub returns-in-Ok : goal.returns-in-Ok
+returns-in-Ok c =
+    told_ok (on_device c.args.device) (RemovesDeviceAt c.args.device) (removing c.args.device) c.args.self.now.connection c.remove_device.new.self c.args.self.now.handed c.args.self.now.policy
+    c.removed.new.policy c.in-Ok.ensures.removes c.in-Ok.ensures.accepted c.removed.ensures
+
+pub returns-in-Err : goal.returns-in-Err
+returns-in-Err c =
+    told_err (on_device c.args.device) (RemovesDeviceAt c.args.device) (removing c.args.device) c.args.self.now.connection c.remove_device.new.self c.args.self.now.handed c.args.self.now.policy
+    c.args.self.now.policy c.in-Err.refusal c.refusal_number.result c.refusal_number.ensures c.in-Err.ensures.why c.in-Err.ensures.err
