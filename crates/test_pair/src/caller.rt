@@ -1,6 +1,7 @@
 //! A client and a server with their handshakes and converters, over links.
 
 use crate::changing::{Changes, ClientCall, Pair};
+use crate::shown::tell;
 use ei_backend::{Interface, Readings};
 use ei_linked::Side;
 use ei_pair::{Made, ServerCall};
@@ -8,36 +9,31 @@ use ei_request::{Device, Seat};
 use ei_server::Pointer;
 use ei_types::{ContextType, DeviceCapabilities, DeviceType};
 use ei_values::Value;
-use ei_wire::NoMemory;
 use std::alloc::Global;
 use std::fmt::Debug;
-use test_table::Stop;
+use test_table::{Answer, Stop};
 
 /// `caller`: both shake hands, the client asks for a callback, and the server moves the pointer of a device. It answers what the
 /// callback's handler answered, and what the client was told.
-pub(crate) fn caller(alloc: Global) -> Result<String, Stop> {
-    let_talk(alloc, Pair::new(alloc, "demo", ContextType::Receiver, 1))
-}
-
-/// Two ends that talk to each other.
-trait Talk {
-    /// What the callback's handler answered, and what the client was told.
-    fn talk(&mut self, alloc: Global) -> Result<String, Stop>;
-}
-
-impl Talk for Pair {
-    fn talk(&mut self, alloc: Global) -> Result<String, Stop> {
-        settle(alloc, self)?;
-        call_back(self)?;
-        add_seat(self)?;
-        settle(alloc, self)?;
-        told(alloc, self)
+pub(crate) fn caller(alloc: Global, answer: &mut Answer) {
+    let made = Pair::new(alloc, "demo", ContextType::Receiver, 1);
+    if let Some(mut pair) = answer.take(made) {
+        talk(alloc, answer, &mut pair);
+        // Let go by a call: at the end of a scope the drop of each field is proved anew.
+        drop(pair);
     }
 }
 
-/// Lets what was made talk.
-fn let_talk<T: Talk + Drop>(alloc: Global, made: Result<T, NoMemory>) -> Result<String, Stop> {
-    made?.talk(alloc)
+/// Both ends talk to each other.
+fn talk(alloc: Global, answer: &mut Answer, pair: &mut Pair) {
+    settle(alloc, answer, pair);
+    drop(answer.take(call_back(pair)));
+    drop(answer.take(add_seat(pair)));
+    settle(alloc, answer, pair);
+    tell_receipts(answer, pair);
+    for _place in 0..8 {
+        tell_event(answer, pair.next_event());
+    }
 }
 
 /// The client asks for a callback.
@@ -51,37 +47,38 @@ fn call_back(pair: &mut Pair) -> Result<(), Stop> {
 }
 
 /// Hands over what waits, there, back and there, as often as both handshakes take.
-fn settle(alloc: Global, pair: &mut Pair) -> Result<(), Stop> {
-    hand_over(alloc, pair, Side::Server, Side::Client)?;
-    hand_over(alloc, pair, Side::Client, Side::Server)?;
-    hand_over(alloc, pair, Side::Server, Side::Client)
+fn settle(alloc: Global, answer: &mut Answer, pair: &mut Pair) {
+    hand_over(alloc, answer, pair, Side::Server, Side::Client);
+    hand_over(alloc, answer, pair, Side::Client, Side::Server);
+    hand_over(alloc, answer, pair, Side::Server, Side::Client);
 }
 
 /// Puts what waits at a side before the other, which steps until no whole message is left.
-fn hand_over(alloc: Global, pair: &mut Pair, from: Side, to: Side) -> Result<(), Stop> {
-    if pair.is_spent() {
-        return Ok(());
+fn hand_over(alloc: Global, answer: &mut Answer, pair: &mut Pair, from: Side, to: Side) {
+    if !pair.is_spent() {
+        drop(answer.take(pair.flush(from)));
     }
-    pair.flush(from)?;
-    if pair.is_spent() {
-        return Ok(());
+    if !pair.is_spent() {
+        drop(answer.take(pair.deliver(to, 1536)));
     }
-    let _bytes = pair.deliver(to, 1536)?;
-    let mut clock = Readings::new(alloc, &[])?;
-    let stepped = step_all(pair, to, &mut clock);
-    // Let go by a call: at the end of a scope the drop of each field is proved anew.
-    drop(clock);
-    stepped
+    if let Some(mut clock) = answer.take(Readings::new(alloc, &[])) {
+        step_all(answer, pair, to, &mut clock);
+        drop(clock);
+    }
 }
 
 /// Steps of the side until no whole message is left.
-fn step_all(pair: &mut Pair, to: Side, clock: &mut Readings) -> Result<(), Stop> {
+fn step_all(answer: &mut Answer, pair: &mut Pair, to: Side, clock: &mut Readings) {
     for _message in 0..1536 / 16 {
-        if pair.is_spent() || !pair.step(to, clock)? {
+        if !step(answer, pair, to, clock) {
             break;
         }
     }
-    Ok(())
+}
+
+/// A step of the side. Whether there was a whole message.
+fn step(answer: &mut Answer, pair: &mut Pair, to: Side, clock: &mut Readings) -> bool {
+    !pair.is_spent() && answer.take(pair.step(to, clock)).unwrap_or(false)
 }
 
 /// The server announces a seat, and a device of it.
@@ -162,40 +159,23 @@ fn end_frame(pair: &mut Pair, device: &Device) -> Result<(), Stop> {
     Ok(())
 }
 
-/// What the closure answered, and what the client was told.
-fn told(alloc: Global, pair: &mut Pair) -> Result<String, Stop> {
-    let mut lines = called(alloc, pair)?;
-    for _place in 0..8 {
-        tell_event(alloc, &mut lines, pair.next_event())?;
-    }
-    Ok(lines)
-}
-
-/// Adds what the client was told, if it was told something.
-fn tell_event<T: Debug + Drop>(
-    alloc: Global,
-    lines: &mut String,
-    event: Option<T>,
-) -> Result<(), Stop> {
+/// Tells what the client was told, if it was told something.
+fn tell_event<T: Debug + Drop>(answer: &mut Answer, event: Option<T>) {
     if let Some(event) = event {
-        let line = format!(in alloc; "told {event:?} / ")?;
-        lines.push_str(line.as_str())?;
+        answer.put("told ");
+        answer.show(&event);
+        answer.put(" / ");
+        drop(event);
     }
-    Ok(())
 }
 
-/// What the closure answered.
-fn called(alloc: Global, pair: &Pair) -> Result<String, Stop> {
-    let mut lines = String::new(alloc);
-    let Some(converter) = pair.converter() else {
-        return Ok(lines);
-    };
-    for receipt in converter.receipts() {
-        let line = format!(in alloc;
-            "callback {} answered {} / ",
-            receipt.callback, receipt.answer
-        )?;
-        lines.push_str(line.as_str())?;
+/// Tells what the callback's handler answered.
+fn tell_receipts(answer: &mut Answer, pair: &Pair) {
+    if let Some(converter) = pair.converter() {
+        for receipt in converter.receipts() {
+            tell(answer, "callback ", &receipt.callback);
+            tell(answer, " answered ", &receipt.answer);
+            answer.put(" / ");
+        }
     }
-    Ok(lines)
 }

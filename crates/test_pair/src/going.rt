@@ -1,82 +1,97 @@
 //! Bytes that go from one end to the other, and what can be seen of a side.
 
 use crate::linked::Linked;
-use crate::shown::read_name;
+use crate::shown::{tell, tell_read_error};
+use crate::spelled::is_read;
 use ei_linked::Side;
-use std::alloc::Global;
-use test_table::{Stop, count};
+use ei_wire::ReadError;
+use test_table::{Answer, Reader, Stop};
 
 /// `flush SIDE`.
-pub(crate) fn flush<T: Linked>(alloc: Global, ends: &mut T, side: Side) -> Result<String, Stop> {
-    ends.send_all(side)?;
-    Ok(String::from_str(alloc, "done")?)
+pub(crate) fn flush<T: Linked>(answer: &mut Answer, ends: &mut T, side: Side) {
+    ends.send_all(answer, side);
+    answer.put("done");
 }
 
 /// `deliver SIDE BYTES`: so many bytes.
 pub(crate) fn deliver<T: Linked>(
-    alloc: Global,
+    answer: &mut Answer,
     ends: &mut T,
     side: Side,
-    n: usize,
-) -> Result<String, Stop> {
-    match ends.hand_over(side, n)? {
-        Ok(n) => Ok(format!(in alloc; "{n}")?),
-        Err(error) => Ok(String::from_str(alloc, read_name(error)?)?),
+    mut words: Reader<'_>,
+) {
+    let n = words.count();
+    if is_read(answer, &words) {
+        match ends.hand_over(answer, side, n) {
+            Ok(n) => answer.display(&n),
+            Err(error) => tell_read_error(answer, error),
+        }
     }
 }
 
 /// `deliver-all SIDE`: how many bytes came, and why no more came where it was refused.
-pub(crate) fn deliver_all<T: Linked>(
-    alloc: Global,
-    ends: &mut T,
-    side: Side,
-) -> Result<String, Stop> {
+pub(crate) fn deliver_all<T: Linked>(answer: &mut Answer, ends: &mut T, side: Side) {
+    let (bytes, refused) = pour(answer, ends, side);
+    answer.display(&bytes);
+    if let Some(error) = refused {
+        answer.put(" ");
+        tell_read_error(answer, error);
+    }
+}
+
+/// Hands over all that is there: how many bytes came, and why no more came where it was refused.
+fn pour<T: Linked>(answer: &mut Answer, ends: &mut T, side: Side) -> (usize, Option<ReadError>) {
     let mut bytes = 0usize;
     for _ in 0..u64::MAX {
-        match ends.hand_over(side, 1536)? {
+        match ends.hand_over(answer, side, 1536) {
             Ok(0) => break,
             Ok(n) => bytes = bytes.saturating_add(n),
-            Err(error) => {
-                let name = read_name(error)?;
-                return Ok(format!(in alloc; "{bytes} {name}")?);
-            }
+            Err(error) => return (bytes, Some(error)),
         }
     }
-    Ok(format!(in alloc; "{bytes}")?)
+    (bytes, None)
 }
 
 /// What can be seen of a side: `sent SIDE COUNT` and `taken SIDE COUNT` show what stands behind the first so many.
 pub(crate) fn look_at<T: Linked>(
-    alloc: Global,
+    answer: &mut Answer,
     ends: &T,
     name: &str,
     side: Side,
-    rest: &str,
-) -> Result<String, Stop> {
-    match name {
-        "sent" => ends.sent_behind(alloc, side, past(rest)?),
-        "taken" => ends.taken_behind(alloc, side, past(rest)?),
-        _ => count_at(alloc, ends, name, side),
+    mut words: Reader<'_>,
+) {
+    let past = past(&mut words);
+    if is_read(answer, &words) {
+        match name {
+            "sent" => ends.tell_sent(answer, side, past),
+            "taken" => ends.tell_taken(answer, side, past),
+            _ => tell_count(answer, ends, name, side),
+        }
     }
 }
 
-/// What can be counted at a side.
-fn count_at<T: Linked>(alloc: Global, ends: &T, name: &str, side: Side) -> Result<String, Stop> {
+/// Tells what can be counted at a side.
+fn tell_count<T: Linked>(answer: &mut Answer, ends: &T, name: &str, side: Side) {
     let counted = ends.counted(side);
     match name {
-        "count" => both(alloc, counted.sent, counted.taken),
-        "waiting" => both(alloc, counted.unsent, counted.unread),
-        "closed" => Ok(format!(in alloc; "{}", counted.is_closed)?),
-        _ => Err(Stop::Line),
+        "count" => tell_both(answer, counted.sent, counted.taken),
+        "waiting" => tell_both(answer, counted.unsent, counted.unread),
+        "closed" => answer.display(&counted.is_closed),
+        _ => answer.stop(Stop::Line),
     }
 }
 
-/// Two numbers.
-fn both(alloc: Global, one: usize, other: usize) -> Result<String, Stop> {
-    Ok(format!(in alloc; "{one} {other}")?)
+/// Tells two numbers.
+fn tell_both(answer: &mut Answer, one: usize, other: usize) {
+    answer.display(&one);
+    tell(answer, " ", &other);
 }
 
-/// How many messages are passed over.
-fn past(word: &str) -> Result<usize, Stop> {
-    if word.is_empty() { Ok(0) } else { count(word) }
+/// How many messages are passed over: none where no word says it.
+fn past(words: &mut Reader<'_>) -> usize {
+    if words.rest().is_empty() {
+        0
+    } else {
+        words.count()
+    }
 }

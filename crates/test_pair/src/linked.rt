@@ -2,40 +2,32 @@
 
 use crate::changing::Pair;
 use crate::counted::Counted;
-use crate::shown::{read_name, records_text, taken_text};
+use crate::shown::{tell_records, tell_taken};
 use ei_backend::HasBackend;
 use ei_linked::Side;
 use ei_wire::ReadError;
 use ei_world::World;
-use std::alloc::Global;
-use test_table::Stop;
+use test_table::{Answer, Stop};
 
 /// Two endpoints over links.
 pub(crate) trait Linked {
-    /// Whether what the last call wrote or took isn't stored.
-    fn is_at_end(&self) -> bool;
-
     /// What can be counted at the side.
     fn counted(&self, side: Side) -> Counted;
 
-    /// What the side sent behind the first so many messages.
-    fn sent_behind(&self, alloc: Global, side: Side, past: usize) -> Result<String, Stop>;
+    /// Tells what the side sent behind the first so many messages.
+    fn tell_sent(&self, answer: &mut Answer, side: Side, past: usize);
 
-    /// What the side took behind the first so many messages.
-    fn taken_behind(&self, alloc: Global, side: Side, past: usize) -> Result<String, Stop>;
+    /// Tells what the side took behind the first so many messages.
+    fn tell_taken(&self, answer: &mut Answer, side: Side, past: usize);
 
     /// All that waits at the side goes.
-    fn send_all(&mut self, side: Side) -> Result<(), Stop>;
+    fn send_all(&mut self, answer: &mut Answer, side: Side);
 
-    /// Hands so many bytes to the side.
-    fn hand_over(&mut self, side: Side, n: usize) -> Result<Result<usize, ReadError>, Stop>;
+    /// Hands so many bytes to the side: how many came.
+    fn hand_over(&mut self, answer: &mut Answer, side: Side, n: usize) -> Result<usize, ReadError>;
 }
 
 impl Linked for World {
-    fn is_at_end(&self) -> bool {
-        self.is_spent()
-    }
-
     fn counted(&self, side: Side) -> Counted {
         let (unsent, unread) = match side {
             Side::Client => (self.client().unsent_len(), self.client().unread_len()),
@@ -50,34 +42,32 @@ impl Linked for World {
         }
     }
 
-    fn sent_behind(&self, alloc: Global, side: Side, past: usize) -> Result<String, Stop> {
-        records_text(alloc, self.sent(side), past)
+    fn tell_sent(&self, answer: &mut Answer, side: Side, past: usize) {
+        tell_records(answer, self.sent(side), past);
     }
 
-    fn taken_behind(&self, alloc: Global, side: Side, past: usize) -> Result<String, Stop> {
-        taken_text(alloc, self.taken(side), past)
+    fn tell_taken(&self, answer: &mut Answer, side: Side, past: usize) {
+        tell_taken(answer, self.taken(side), past);
     }
 
-    fn send_all(&mut self, side: Side) -> Result<(), Stop> {
+    fn send_all(&mut self, answer: &mut Answer, side: Side) {
         if self.is_spent() {
-            return Err(Stop::Call);
+            answer.stop(Stop::Call);
+        } else {
+            drop(answer.take(self.flush(side)));
         }
-        Ok(self.flush(side)?)
     }
 
-    fn hand_over(&mut self, side: Side, n: usize) -> Result<Result<usize, ReadError>, Stop> {
+    fn hand_over(&mut self, answer: &mut Answer, side: Side, n: usize) -> Result<usize, ReadError> {
         if self.is_spent() || n == 0 || n > 1536 {
-            return Err(Stop::Line);
+            answer.stop(Stop::Line);
+            return Ok(0);
         }
-        Ok(self.deliver(side, n))
+        self.deliver(side, n)
     }
 }
 
 impl Linked for Pair {
-    fn is_at_end(&self) -> bool {
-        self.is_spent()
-    }
-
     fn counted(&self, side: Side) -> Counted {
         let (unsent, unread) = match (side, self.handle()) {
             (Side::Client, _) => (self.client().unsent_len(), self.client().unread_len()),
@@ -95,25 +85,27 @@ impl Linked for Pair {
         }
     }
 
-    fn sent_behind(&self, alloc: Global, side: Side, past: usize) -> Result<String, Stop> {
-        records_text(alloc, self.sent(side), past)
+    fn tell_sent(&self, answer: &mut Answer, side: Side, past: usize) {
+        tell_records(answer, self.sent(side), past);
     }
 
-    fn taken_behind(&self, alloc: Global, side: Side, past: usize) -> Result<String, Stop> {
-        taken_text(alloc, self.taken(side), past)
+    fn tell_taken(&self, answer: &mut Answer, side: Side, past: usize) {
+        tell_taken(answer, self.taken(side), past);
     }
 
-    fn send_all(&mut self, side: Side) -> Result<(), Stop> {
+    fn send_all(&mut self, answer: &mut Answer, side: Side) {
         if self.is_spent() {
-            return Err(Stop::Call);
+            answer.stop(Stop::Call);
+        } else {
+            drop(answer.take(self.flush(side)));
         }
-        Ok(self.flush(side)?)
     }
 
-    fn hand_over(&mut self, side: Side, n: usize) -> Result<Result<usize, ReadError>, Stop> {
+    fn hand_over(&mut self, answer: &mut Answer, side: Side, n: usize) -> Result<usize, ReadError> {
         if self.is_spent() || n == 0 || n > 1536 {
-            return Err(Stop::Line);
+            answer.stop(Stop::Line);
+            return Ok(0);
         }
-        Ok(self.deliver(side, n))
+        self.deliver(side, n)
     }
 }

@@ -4,211 +4,207 @@ use crate::changing::Pair;
 use crate::describing::describe;
 use crate::keys::Keys;
 use crate::may::serve;
-use crate::shown::send_name;
-use crate::spelled::{capabilities, id_of, text_of, values_of};
+use crate::shown::tell_send_error;
+use crate::spelled::{capabilities, id_of, is_read, name_of, text_of, values_of};
 use ei_backend::{HasBackend, Object};
 use ei_pair::{Made, ServerCall};
-use ei_request::{Device, Seat};
+use ei_request::Device;
 use ei_types::{DeviceCapabilities, DisconnectReason};
 use ei_values::Value;
 use ei_wire::SendError;
 use std::alloc::Global;
 use std::fmt::Debug;
-use test_table::{Stop, count, first, id, number};
+use test_table::{Answer, Reader, Stop};
 
-/// What a call of the server answers; what it made is kept.
-fn made_text(
-    alloc: Global,
-    keys: &mut Keys,
-    answer: Option<Result<Made, SendError>>,
-) -> Result<String, Stop> {
-    match answer {
-        Some(Ok(made)) => kept_text(alloc, keys, made),
-        Some(Err(error)) => Ok(String::from_str(alloc, send_name(error)?)?),
-        None => Ok(String::from_str(alloc, "may not")?),
-    }
-}
-
-/// What was made, which is kept.
-fn kept_text(alloc: Global, keys: &mut Keys, made: Made) -> Result<String, Stop> {
+/// Tells what a call of the server answers; what it made is kept.
+fn tell_made(answer: &mut Answer, keys: &mut Keys, made: Option<Result<Made, SendError>>) {
     match made {
-        Made::Nothing => Ok(String::from_str(alloc, "done")?),
-        Made::Seat(seat) => put(alloc, &mut keys.seats, seat),
-        Made::Device(device) => put(alloc, &mut keys.devices, device),
+        Some(Ok(made)) => tell_kept(answer, keys, made),
+        Some(Err(error)) => tell_send_error(answer, error),
+        None => answer.put("may not"),
     }
 }
 
-/// Puts it behind the others. It as a text.
-fn put<T: Debug + Drop>(alloc: Global, others: &mut Vec<T>, it: T) -> Result<String, Stop> {
-    let text = format!(in alloc; "{it:?}")?;
-    others.push(it)?;
-    Ok(text)
-}
-
-/// A name that a word says: `-` is none, and `t*9` one of nine letters.
-pub(crate) fn name_of(alloc: Global, word: &str) -> Result<Option<String>, Stop> {
-    if word == "-" {
-        return Ok(None);
-    }
-    Ok(Some(text_of(alloc, word)?))
-}
-
-/// The text as a slice.
-pub(crate) fn slice_of(text: &Option<String>) -> Option<&str> {
-    match text {
-        Some(text) => Some(text.as_str()),
-        None => None,
+/// Tells what was made, which is kept.
+fn tell_kept(answer: &mut Answer, keys: &mut Keys, made: Made) {
+    match made {
+        Made::Nothing => answer.put("done"),
+        Made::Seat(seat) => put(answer, &mut keys.seats, seat),
+        Made::Device(device) => put(answer, &mut keys.devices, device),
     }
 }
 
-/// The seat that was made in that place.
-pub(crate) fn seat_at(keys: &Keys, word: &str) -> Result<Seat, Stop> {
-    Ok(keys.seats.get(count(word)?).ok_or(Stop::Line)?.clone()?)
+/// Tells it, and puts it behind the others.
+fn put<T: Debug + Drop>(answer: &mut Answer, others: &mut Vec<T>, it: T) {
+    answer.show(&it);
+    drop(answer.take(others.push(it)));
 }
 
-/// The device that was made in that place.
-pub(crate) fn device_at(keys: &Keys, word: &str) -> Result<Device, Stop> {
-    Ok(keys.devices.get(count(word)?).ok_or(Stop::Line)?.clone()?)
+/// The seat or the device that was made in that place.
+fn made_at<T: Clone>(answer: &mut Answer, made: &[T], place: usize) -> Option<T> {
+    match made.get(place) {
+        Some(it) => answer.take(it.clone()),
+        None => {
+            answer.stop(Stop::Line);
+            None
+        }
+    }
 }
 
 /// `seat NAME CAPABILITIES`.
 pub(crate) fn add_seat(
     alloc: Global,
+    answer: &mut Answer,
     pair: &mut Pair,
     keys: &mut Keys,
-    rest: &str,
-) -> Result<String, Stop> {
-    let (name, bits) = first(rest);
-    let wanted = capabilities(bits)?;
-    let name = name_of(alloc, name)?;
-    let answer = announce(pair, slice_of(&name), wanted);
-    // Let go by a call: at the end of a scope the drop of each field is proved anew.
-    drop(name);
-    made_text(alloc, keys, answer)
+    mut words: Reader<'_>,
+) {
+    let name = words.word();
+    let wanted = capabilities(&mut words);
+    if is_read(answer, &words) {
+        let made = announce(alloc, answer, pair, name, wanted);
+        tell_made(answer, keys, made);
+    }
 }
 
-/// What the server answers where it is to add a seat; `None` where it may not add it now.
+/// What the server answers where it is to add a seat of the name that a word spells; `None` where it may not add it now.
 pub(crate) fn announce(
+    alloc: Global,
+    answer: &mut Answer,
     pair: &mut Pair,
-    name: Option<&str>,
+    name: &str,
     capabilities: DeviceCapabilities,
 ) -> Option<Result<Made, SendError>> {
-    serve(pair, ServerCall::AddSeat { name, capabilities })
+    let text = text_of(alloc, answer, name);
+    let name = name_of(name, text.as_str());
+    let made = serve(pair, ServerCall::AddSeat { name, capabilities });
+    // Let go by a call: at the end of a scope the drop of each field is proved anew.
+    drop(text);
+    made
 }
 
 /// `device SEAT NAME CAPABILITIES`: a physical one, with a description where it is to get a keyboard.
 pub(crate) fn add_device(
     alloc: Global,
+    answer: &mut Answer,
     pair: &mut Pair,
     keys: &mut Keys,
-    rest: &str,
-) -> Result<String, Stop> {
-    let (seat, rest) = first(rest);
-    let (name, bits) = first(rest);
-    let wanted = capabilities(bits)?;
-    let name = name_of(alloc, name)?;
-    let seat = seat_at(keys, seat)?;
-    let answer = describe(alloc, pair, seat, slice_of(&name), wanted);
-    drop(name);
-    made_text(alloc, keys, answer?)
-}
-
-/// `remove-seat PLACE` and `remove PLACE`: a seat, or a device, is taken away.
-pub(crate) fn remove(
-    alloc: Global,
-    pair: &mut Pair,
-    keys: &mut Keys,
-    name: &str,
-    place: &str,
-) -> Result<String, Stop> {
-    let call = if name == "remove" {
-        ServerCall::RemoveDevice(device_at(keys, place)?)
-    } else {
-        ServerCall::RemoveSeat(seat_at(keys, place)?)
-    };
-    made_text(alloc, keys, serve(pair, call))
-}
-
-/// An event that a device bears.
-#[derive(Clone, Copy)]
-enum Borne {
-    Resumed,
-    Paused,
-    Start(u32),
-    Stop,
-    Frame(u64),
-}
-
-/// The event of that name, with its number.
-fn borne_of(name: &str, last: &str) -> Result<Borne, Stop> {
-    Ok(match name {
-        "resumed" => Borne::Resumed,
-        "paused" => Borne::Paused,
-        "start" => Borne::Start(number(last)?),
-        "stop" => Borne::Stop,
-        _ => Borne::Frame(id(last)?),
-    })
-}
-
-/// `resumed PLACE`, `paused PLACE`, `start PLACE SEQUENCE`, `stop PLACE`, `frame PLACE TIME`: an event of a device.
-pub(crate) fn bear(
-    alloc: Global,
-    pair: &mut Pair,
-    keys: &mut Keys,
-    name: &str,
-    rest: &str,
-) -> Result<String, Stop> {
-    let (place, last) = first(rest);
-    let borne = borne_of(name, last)?;
-    let device = device_at(keys, place)?;
-    let call = match borne {
-        Borne::Resumed => ServerCall::Resumed(device),
-        Borne::Paused => ServerCall::Paused(device),
-        Borne::Start(sequence) => ServerCall::StartEmulating(device, sequence),
-        Borne::Stop => ServerCall::StopEmulating(device),
-        Borne::Frame(time) => ServerCall::Frame(device, time),
-    };
-    made_text(alloc, keys, serve(pair, call))
-}
-
-/// `leave REASON TEXT`: the server ends the connection.
-pub(crate) fn leave(alloc: Global, pair: &mut Pair, rest: &str) -> Result<String, Stop> {
-    let (reason, text) = first(rest);
-    let reason = reason_of(reason)?;
-    let text = name_of(alloc, text)?;
-    let call = ServerCall::Disconnected {
-        reason,
-        explanation: slice_of(&text),
-    };
-    let answer = serve(pair, call);
-    drop(text);
-    done_text(alloc, answer)
-}
-
-/// Why the server ends the connection.
-fn reason_of(word: &str) -> Result<DisconnectReason, Stop> {
-    match word {
-        "mode" => Ok(DisconnectReason::Mode),
-        "value" => Ok(DisconnectReason::Value),
-        _ => Err(Stop::Line),
+    mut words: Reader<'_>,
+) {
+    let place = words.count();
+    let name = words.word();
+    let wanted = capabilities(&mut words);
+    if is_read(answer, &words) {
+        let made = announce_device(alloc, answer, pair, keys, place, name, wanted);
+        tell_made(answer, keys, made);
     }
 }
 
-/// What a call of the server that makes nothing answers.
-fn done_text(alloc: Global, answer: Option<Result<Made, SendError>>) -> Result<String, Stop> {
-    let name = match answer {
-        Some(Ok(made)) => done_name(made)?,
-        Some(Err(error)) => send_name(error)?,
-        None => "may not",
+/// What the server answers where it is to add a device of the seat in that place; `None` where it may not add it now.
+pub(crate) fn announce_device(
+    alloc: Global,
+    answer: &mut Answer,
+    pair: &mut Pair,
+    keys: &Keys,
+    place: usize,
+    name: &str,
+    wanted: DeviceCapabilities,
+) -> Option<Result<Made, SendError>> {
+    let Some(seat) = made_at(answer, &keys.seats, place) else {
+        return None;
     };
-    Ok(String::from_str(alloc, name)?)
+    let text = text_of(alloc, answer, name);
+    let made = describe(pair, seat, name_of(name, text.as_str()), wanted);
+    drop(text);
+    made
 }
 
-/// That nothing was made.
-fn done_name(made: Made) -> Result<&'static str, Stop> {
-    let nothing = matches!(&made, Made::Nothing);
-    drop(made);
-    if nothing { Ok("done") } else { Err(Stop::Call) }
+/// `remove-seat PLACE`: a seat is taken away.
+pub(crate) fn remove_seat(
+    answer: &mut Answer,
+    pair: &mut Pair,
+    keys: &mut Keys,
+    mut words: Reader<'_>,
+) {
+    let place = words.count();
+    if is_read(answer, &words) {
+        if let Some(seat) = made_at(answer, &keys.seats, place) {
+            tell_made(answer, keys, serve(pair, ServerCall::RemoveSeat(seat)));
+        }
+    }
+}
+
+/// `remove PLACE`, `resumed PLACE`, `paused PLACE`, `start PLACE SEQUENCE`, `stop PLACE`, `frame PLACE TIME`: a device is taken
+/// away, or an event of it.
+pub(crate) fn bear(
+    answer: &mut Answer,
+    pair: &mut Pair,
+    keys: &mut Keys,
+    name: &str,
+    mut words: Reader<'_>,
+) {
+    let place = words.count();
+    if let Some(device) = made_at(answer, &keys.devices, place) {
+        let call = call_of(device, name, &mut words);
+        if is_read(answer, &words) {
+            tell_made(answer, keys, serve(pair, call));
+        } else {
+            drop(call);
+        }
+    }
+}
+
+/// The call of that name, with its number.
+fn call_of<'a>(device: Device, name: &str, words: &mut Reader<'_>) -> ServerCall<'a> {
+    match name {
+        "remove" => ServerCall::RemoveDevice(device),
+        "resumed" => ServerCall::Resumed(device),
+        "paused" => ServerCall::Paused(device),
+        "start" => ServerCall::StartEmulating(device, words.number()),
+        "stop" => ServerCall::StopEmulating(device),
+        _ => ServerCall::Frame(device, words.id()),
+    }
+}
+
+/// `leave REASON TEXT`: the server ends the connection.
+pub(crate) fn leave(alloc: Global, answer: &mut Answer, pair: &mut Pair, mut words: Reader<'_>) {
+    let reason = reason_of(&mut words);
+    let word = words.word();
+    if is_read(answer, &words) {
+        let text = text_of(alloc, answer, word);
+        let explanation = name_of(word, text.as_str());
+        let call = ServerCall::Disconnected {
+            reason,
+            explanation,
+        };
+        tell_done(answer, serve(pair, call));
+        drop(text);
+    }
+}
+
+/// Why the server ends the connection.
+fn reason_of(words: &mut Reader<'_>) -> DisconnectReason {
+    match words.word() {
+        "mode" => DisconnectReason::Mode,
+        "value" => DisconnectReason::Value,
+        _ => {
+            words.miss();
+            DisconnectReason::Value
+        }
+    }
+}
+
+/// Tells what a call of the server that makes nothing answers.
+fn tell_done(answer: &mut Answer, made: Option<Result<Made, SendError>>) {
+    match made {
+        Some(Ok(Made::Nothing)) => answer.put("done"),
+        Some(Ok(made)) => {
+            drop(made);
+            answer.stop(Stop::Call);
+        }
+        Some(Err(error)) => tell_send_error(answer, error),
+        None => answer.put("may not"),
+    }
 }
 
 /// The object of that id in the server's table.
@@ -218,15 +214,17 @@ pub(crate) fn server_object(pair: &Pair, at: u64) -> Option<Object> {
 }
 
 /// `hold ID`: keeps that object of the server, for calls when it is gone.
-pub(crate) fn hold(
-    alloc: Global,
-    pair: &mut Pair,
-    keys: &mut Keys,
-    rest: &str,
-) -> Result<String, Stop> {
-    let object = server_object(pair, id_of(rest)?).ok_or(Stop::Line)?;
-    keys.objects.push(object)?;
-    Ok(String::from_str(alloc, "held")?)
+pub(crate) fn hold(answer: &mut Answer, pair: &Pair, keys: &mut Keys, mut words: Reader<'_>) {
+    let at = id_of(&mut words);
+    if is_read(answer, &words) {
+        match server_object(pair, at) {
+            Some(object) => {
+                drop(answer.take(keys.objects.push(object)));
+                answer.put("held");
+            }
+            None => answer.stop(Stop::Line),
+        }
+    }
 }
 
 /// The object of that id among those that were kept.
@@ -242,36 +240,38 @@ fn held_object(keys: &Keys, at: u64) -> Option<Object> {
 /// `input ID OPCODE VALUE ..`: an event to an object that the server has, or that was kept.
 pub(crate) fn input(
     alloc: Global,
+    answer: &mut Answer,
     pair: &mut Pair,
-    keys: &mut Keys,
-    rest: &str,
-) -> Result<String, Stop> {
-    let (target, rest) = first(rest);
-    let (opcode, values) = first(rest);
-    let at = id_of(target)?;
-    let opcode = number(opcode)?;
-    let values = values_of(alloc, values)?;
-    let answer = input_to(alloc, pair, keys, at, opcode, values.as_slice());
+    keys: &Keys,
+    mut words: Reader<'_>,
+) {
+    let at = id_of(&mut words);
+    let opcode = words.number();
+    let values = values_of(alloc, answer, &mut words);
+    if is_read(answer, &words) {
+        input_to(answer, pair, keys, at, opcode, values.as_slice());
+    }
     drop(values);
-    answer
 }
 
 /// An event of these values to the object of that id.
 fn input_to(
-    alloc: Global,
+    answer: &mut Answer,
     pair: &mut Pair,
     keys: &Keys,
     at: u64,
     opcode: u32,
     values: &[Value],
-) -> Result<String, Stop> {
-    let Some(target) = server_object(pair, at).or_else(|| held_object(keys, at)) else {
-        return Ok(String::from_str(alloc, "no object")?);
-    };
-    let call = ServerCall::Input {
-        target,
-        opcode,
-        values,
-    };
-    done_text(alloc, serve(pair, call))
+) {
+    match server_object(pair, at).or_else(|| held_object(keys, at)) {
+        Some(target) => {
+            let call = ServerCall::Input {
+                target,
+                opcode,
+                values,
+            };
+            tell_done(answer, serve(pair, call));
+        }
+        None => answer.put("no object"),
+    }
 }

@@ -16,7 +16,7 @@ use ei_pair::{Made, ServerCall, Side};
 use ei_request::{Connection, DeviceSetup, Seat};
 use ei_types::{DeviceCapabilities, DeviceCapability};
 use ei_wire::SendError;
-use test_table::Stop;
+use test_table::{Answer, Stop};
 
 /// What the server answers to the call; `None` where it may not make it now.
 pub(crate) fn serve(pair: &mut Pair, call: ServerCall<'_>) -> Option<Result<Made, SendError>> {
@@ -43,9 +43,11 @@ pub(crate) fn ask(
 }
 
 /// The call must be made, and not be refused. What it made is let go.
-pub(crate) fn must_go<T: Drop>(answer: Option<Result<T, SendError>>) -> Result<(), Stop> {
-    drop(answer.ok_or(Stop::Call)??);
-    Ok(())
+pub(crate) fn must_go<T: Drop>(answer: &mut Answer, made: Option<Result<T, SendError>>) {
+    match made {
+        Some(made) => drop(answer.take(made)),
+        None => answer.stop(Stop::Call),
+    }
 }
 
 /// Whether the server may make the call now.

@@ -1,11 +1,12 @@
 //! Plain lists of what two sides sent, and of what their converters should hand out for it.
 
-use crate::changing::Pair;
-use crate::told::{bind_text, frame_text, motion_text, start_text};
-use ei_backend::HasBackend;
+use crate::draws::Draws;
+use crate::shown::{keep_text, tell};
+use crate::told::{tell_bind, tell_frame, tell_motion, tell_start};
 use ei_pair::Side;
-use std::alloc::{AllocError, Global};
-use test_table::Stop;
+use ei_request::Device;
+use std::alloc::Global;
+use test_table::{Answer, Stop};
 
 /// An input that waits for its frame.
 #[derive(Clone, Copy)]
@@ -18,6 +19,7 @@ struct Moved {
 /// frame; and what the other side's converter should hand out.
 #[derive(Drop)]
 pub(crate) struct Plain {
+    alloc: Global,
     pub(crate) sent: Vec<String>,
     pub(crate) taken: usize,
     waiting: Vec<Moved>,
@@ -31,13 +33,18 @@ pub(crate) struct Asked {
     pub(crate) by: u64,
 }
 
-/// Both sides, the callbacks that the client asked for, how many of them were answered, and the server's last serial.
+/// The server's device, what is drawn, both sides, whether each message that was taken is the one in its place, the callbacks
+/// that the client asked for, how many of them were answered, its next own id, and the server's last serial.
 #[derive(Drop)]
-pub(crate) struct Lists {
+pub(crate) struct Lists<'a> {
+    pub(crate) alloc: Global,
+    pub(crate) device: &'a Device,
+    pub(crate) draws: Draws,
     pub(crate) client: Plain,
     pub(crate) server: Plain,
+    pub(crate) is_equal: bool,
     pub(crate) asked: Vec<Asked>,
-    pub(crate) answered: usize,
+    answered: usize,
     next: u64,
     serial: u32,
 }
@@ -45,6 +52,7 @@ pub(crate) struct Lists {
 impl Plain {
     fn new(alloc: Global) -> Plain {
         Plain {
+            alloc,
             sent: Vec::new(alloc),
             taken: 0,
             waiting: Vec::new(alloc),
@@ -53,68 +61,84 @@ impl Plain {
     }
 
     /// An input of the pointer.
-    pub(crate) fn moves(&mut self, alloc: Global, dx: u32, dy: u32) -> Result<(), AllocError> {
-        self.sent
-            .push(format!(in alloc; "s3 ei_pointer 1 1 f{dx} f{dy}")?)?;
-        self.waiting.push(Moved { dx, dy })?;
-        Ok(())
+    pub(crate) fn moves(&mut self, answer: &mut Answer, dx: u32, dy: u32) {
+        let mut text = Answer::new(self.alloc);
+        tell(&mut text, "s3 ei_pointer 1 1 f", &dx);
+        tell(&mut text, " f", &dy);
+        keep_text(answer, &mut self.sent, text);
+        drop(answer.take(self.waiting.push(Moved { dx, dy })));
     }
 
     /// A frame by this opcode, which is handed out behind the inputs that waited for it, if there are any.
-    pub(crate) fn frames(
-        &mut self,
-        alloc: Global,
-        opcode: u32,
-        serial: u32,
-        time: u64,
-    ) -> Result<(), AllocError> {
-        self.sent.push(format!(in alloc; "s2 ei_device 3 {opcode} u{serial} #{time}")?)?;
-        self.hand_out(alloc, serial, time)
+    pub(crate) fn frames(&mut self, answer: &mut Answer, opcode: u32, serial: u32, time: u64) {
+        let mut text = Answer::new(self.alloc);
+        tell(&mut text, "s2 ei_device 3 ", &opcode);
+        tell(&mut text, " u", &serial);
+        tell(&mut text, " #", &time);
+        keep_text(answer, &mut self.sent, text);
+        self.hand_out(answer, serial, time);
     }
 
-    /// Hands out the inputs that wait, with this time, and a frame.
-    fn hand_out(&mut self, alloc: Global, serial: u32, time: u64) -> Result<(), AllocError> {
+    /// Hands out the inputs that wait, if there are any, with this time, and a frame.
+    fn hand_out(&mut self, answer: &mut Answer, serial: u32, time: u64) {
         if self.waiting.is_empty() {
-            return Ok(());
+            return;
         }
         for moved in &self.waiting {
-            self.told
-                .push(motion_text(alloc, moved.dx, moved.dy, time)?)?;
+            let mut text = Answer::new(self.alloc);
+            tell_motion(&mut text, moved.dx, moved.dy, time);
+            keep_text(answer, &mut self.told, text);
         }
         self.waiting.clear();
-        self.told.push(frame_text(alloc, serial, time)?)?;
-        Ok(())
+        let mut text = Answer::new(self.alloc);
+        tell_frame(&mut text, serial, time);
+        keep_text(answer, &mut self.told, text);
     }
 
     /// The server's input begins: a frame is made before it, with the time 7, if inputs wait.
-    fn starts(&mut self, alloc: Global, serial: u32, sequence: u32) -> Result<(), AllocError> {
-        self.sent.push(format!(in alloc; "s2 ei_device 3 9 u{serial} u{sequence}")?)?;
-        self.hand_out(alloc, serial, 7)?;
-        self.told.push(start_text(alloc, serial, sequence)?)?;
-        Ok(())
+    fn starts(&mut self, answer: &mut Answer, serial: u32, sequence: u32) {
+        let mut text = Answer::new(self.alloc);
+        tell(&mut text, "s2 ei_device 3 9 u", &serial);
+        tell(&mut text, " u", &sequence);
+        keep_text(answer, &mut self.sent, text);
+        self.hand_out(answer, serial, 7);
+        let mut text = Answer::new(self.alloc);
+        tell_start(&mut text, serial, sequence);
+        keep_text(answer, &mut self.told, text);
     }
 
     /// The client binds.
-    pub(crate) fn binds(&mut self, alloc: Global, mask: u64) -> Result<(), AllocError> {
-        self.sent
-            .push(format!(in alloc; "s1 ei_seat 2 1 #{mask}")?)?;
-        self.told.push(bind_text(alloc, mask)?)?;
-        Ok(())
+    pub(crate) fn binds(&mut self, answer: &mut Answer, mask: u64) {
+        let mut text = Answer::new(self.alloc);
+        tell(&mut text, "s1 ei_seat 2 1 #", &mask);
+        keep_text(answer, &mut self.sent, text);
+        let mut text = Answer::new(self.alloc);
+        tell_bind(&mut text, mask);
+        keep_text(answer, &mut self.told, text);
     }
 }
 
-impl Lists {
-    /// None of what stands in the pair already.
-    pub(crate) fn new(alloc: Global, pair: &Pair) -> Result<Lists, Stop> {
-        let handle = pair.handle().ok_or(Stop::Line)?;
-        Ok(Lists {
+impl<'a> Lists<'a> {
+    /// None of what stands in the pair already: the client's next own id and the server's last serial are these.
+    pub(crate) fn new(
+        alloc: Global,
+        device: &'a Device,
+        draws: Draws,
+        next: u64,
+        serial: u32,
+    ) -> Lists<'a> {
+        Lists {
+            alloc,
+            device,
+            draws,
             client: Plain::new(alloc),
             server: Plain::new(alloc),
+            is_equal: true,
             asked: Vec::new(alloc),
             answered: 0,
-            next: pair.client().backend().next_id(),
-            serial: handle.last_serial(),
-        })
+            next,
+            serial,
+        }
     }
 
     /// What the other side sent.
@@ -126,33 +150,39 @@ impl Lists {
     }
 
     /// The client asks for a callback.
-    pub(crate) fn asks(&mut self, alloc: Global, by: u64) -> Result<(), AllocError> {
+    pub(crate) fn asks(&mut self, answer: &mut Answer, by: u64) {
         let callback = self.next;
         self.next = callback.wrapping_add(1);
-        self.client
-            .sent
-            .push(format!(in alloc; "s0 ei_connection 1 0 #{callback} u1")?)?;
-        self.asked.push(Asked { callback, by })?;
-        Ok(())
+        let mut text = Answer::new(self.alloc);
+        tell(&mut text, "s0 ei_connection 1 0 #", &callback);
+        text.put(" u1");
+        keep_text(answer, &mut self.client.sent, text);
+        drop(answer.take(self.asked.push(Asked { callback, by })));
     }
 
     /// The server takes the next `sync`, and answers it.
-    pub(crate) fn answers(&mut self, alloc: Global) -> Result<(), Stop> {
-        let asked = self.asked.get(self.answered).ok_or(Stop::Call)?;
-        self.server.sent.push(format!(in alloc; "{} ei_callback 1 0 #0", asked.callback)?)?;
-        self.answered = self.answered.saturating_add(1);
-        Ok(())
+    pub(crate) fn answers(&mut self, answer: &mut Answer) {
+        match self.asked.get(self.answered) {
+            Some(asked) => {
+                let mut text = Answer::new(self.alloc);
+                tell(&mut text, "", &asked.callback);
+                text.put(" ei_callback 1 0 #0");
+                keep_text(answer, &mut self.server.sent, text);
+                self.answered = self.answered.saturating_add(1);
+            }
+            None => answer.stop(Stop::Call),
+        }
     }
 
     /// The server's frame, which bears its next serial.
-    pub(crate) fn server_frames(&mut self, alloc: Global, time: u64) -> Result<(), AllocError> {
+    pub(crate) fn server_frames(&mut self, answer: &mut Answer, time: u64) {
         self.serial = self.serial.wrapping_add(1);
-        self.server.frames(alloc, 11, self.serial, time)
+        self.server.frames(answer, 11, self.serial, time);
     }
 
     /// The server's input begins, which bears its next serial.
-    pub(crate) fn server_starts(&mut self, alloc: Global, sequence: u32) -> Result<(), AllocError> {
+    pub(crate) fn server_starts(&mut self, answer: &mut Answer, sequence: u32) {
         self.serial = self.serial.wrapping_add(1);
-        self.server.starts(alloc, self.serial, sequence)
+        self.server.starts(answer, self.serial, sequence);
     }
 }

@@ -3,21 +3,22 @@
 use crate::asking::{ask_sync, client_object};
 use crate::changing::{ClientCall, Pair};
 use crate::draws::Draws;
+use crate::going::deliver_all;
 use crate::keys::Keys;
 use crate::linked::Linked;
 use crate::making::server_object;
 use crate::may::{ask, must_go, serve};
-use crate::model::{Lists, Plain};
+use crate::model::Lists;
 use crate::pair_steps::step_once;
-use crate::shown::{got_text, is_nothing};
-use crate::spelled::{id_of, other};
+use crate::shown::{is_message, is_nothing, is_text};
+use crate::spelled::{other, server_id};
 use crate::told::Told;
-use ei_linked::Side;
+use ei_backend::HasBackend;
+use ei_linked::{Got, Side};
 use ei_pair::ServerCall;
-use ei_request::Device;
 use ei_values::Value;
 use std::alloc::Global;
-use test_table::{Stop, count, first, id};
+use test_table::{Answer, Reader, Stop};
 
 /// `schedule SEED STEPS`: so many steps that the seed draws, in a pair whose sides took all that was sent, with a seat `s1`, and
 /// of it the first device that was made, `s2`, and its pointer `s3`. `equal` where each step answers Ok, each message that is
@@ -25,157 +26,170 @@ use test_table::{Stop, count, first, id};
 /// other plain lists have.
 pub(crate) fn schedule(
     alloc: Global,
+    answer: &mut Answer,
     pair: &mut Pair,
     keys: &Keys,
-    rest: &str,
-) -> Result<String, Stop> {
-    let (seed, steps) = first(rest);
-    let mut draws = Draws::of(id(seed)?);
-    let steps = count(steps)?;
-    let device = keys.devices.get(0).ok_or(Stop::Line)?;
-    let mut lists = Lists::new(alloc, pair)?;
-    let said = play(alloc, pair, device, &mut draws, &mut lists, steps);
-    // Let go by a call: at the end of a scope the drop of each field is proved anew.
-    drop(lists);
-    text_of(alloc, said)
-}
-
-/// What was said, as a text.
-fn text_of(alloc: Global, said: Result<&'static str, Stop>) -> Result<String, Stop> {
-    Ok(String::from_str(alloc, said?)?)
-}
-
-/// Plays so many steps, and looks whether all came as the lists have it.
-fn play(
-    alloc: Global,
-    pair: &mut Pair,
-    device: &Device,
-    draws: &mut Draws,
-    lists: &mut Lists,
-    steps: usize,
-) -> Result<&'static str, Stop> {
-    if !go_on(alloc, pair, device, draws, lists, steps)? {
-        return Ok("not equal");
+    mut words: Reader<'_>,
+) {
+    let draws = Draws::of(words.id());
+    let steps = words.count();
+    match keys.devices.get(0) {
+        Some(device) if words.done().is_ok() => {
+            let next = pair.client().backend().next_id();
+            let serial = pair.handle().map_or(0, |handle| handle.last_serial());
+            let mut lists = Lists::new(alloc, device, draws, next, serial);
+            play(answer, pair, &mut lists, steps);
+            tell_equal(answer, pair, &mut lists);
+            // Let go by a call: at the end of a scope the drop of each field is proved anew.
+            drop(lists);
+        }
+        _ => answer.stop(Stop::Line),
     }
-    let all = take_all(alloc, pair, Side::Server, lists)?
-        && take_all(alloc, pair, Side::Client, lists)?
-        && are_told(alloc, pair, lists)?
-        && are_called(pair, lists);
-    Ok(if all { "equal" } else { "not all" })
 }
 
-/// Does so many steps. Whether each message that was taken is what it should be.
-fn go_on(
-    alloc: Global,
-    pair: &mut Pair,
-    device: &Device,
-    draws: &mut Draws,
-    lists: &mut Lists,
-    steps: usize,
-) -> Result<bool, Stop> {
+/// Plays so many steps.
+fn play(answer: &mut Answer, pair: &mut Pair, lists: &mut Lists<'_>, steps: usize) {
     for _ in 0..steps {
-        let side = if draws.next() % 2 == 0 {
-            Side::Client
+        if lists.draws.next() % 2 == 0 {
+            go(answer, pair, Side::Client, lists);
         } else {
-            Side::Server
-        };
-        if !go(alloc, pair, device, side, draws, lists)? {
-            return Ok(false);
+            go(answer, pair, Side::Server, lists);
         }
     }
-    Ok(true)
 }
 
-/// Does what is drawn at the side. Whether what it took, if anything, is what it should be.
-fn go(
-    alloc: Global,
-    pair: &mut Pair,
-    device: &Device,
-    side: Side,
-    draws: &mut Draws,
-    lists: &mut Lists,
-) -> Result<bool, Stop> {
-    match draws.next() % 5 {
-        0 | 1 => say(alloc, pair, device, side, draws, lists)?,
-        2 => pair.send_all(side)?,
+/// Tells whether all came as the lists have it.
+fn tell_equal(answer: &mut Answer, pair: &mut Pair, lists: &mut Lists<'_>) {
+    if !lists.is_equal {
+        answer.put("not equal");
+        return;
+    }
+    take_all(answer, pair, Side::Server, lists);
+    take_all(answer, pair, Side::Client, lists);
+    let events = are_events(lists.alloc, answer, pair, &lists.server.told);
+    let requests = are_requests(lists.alloc, answer, pair, &lists.client.told);
+    let all = lists.is_equal && events && requests && are_called(pair, lists);
+    answer.put(if all { "equal" } else { "not all" });
+}
+
+/// Does what is drawn at the side.
+fn go(answer: &mut Answer, pair: &mut Pair, side: Side, lists: &mut Lists<'_>) {
+    match lists.draws.next() % 5 {
+        0 | 1 => say(answer, pair, side, lists),
+        2 => pair.send_all(answer, side),
         3 => {
-            let n = 1 + draws.next() as usize % 1536;
-            let _came = pair.hand_over(side, n)??;
+            let came = pair.hand_over(answer, side, 1 + lists.draws.next() as usize % 1536);
+            drop(answer.take(came));
         }
-        _ => return Ok(take(alloc, pair, side, lists)?.unwrap_or(true)),
+        _ => {
+            take(answer, pair, side, lists);
+        }
     }
-    Ok(true)
 }
 
-/// A step of the side. Whether it took the next of the messages that the other side sent; `None` where it took none.
-fn take(
-    alloc: Global,
-    pair: &mut Pair,
-    side: Side,
-    lists: &mut Lists,
-) -> Result<Option<bool>, Stop> {
+/// A step of the side. Whether it took a message: the lists keep whether that is the next that the other side sent.
+fn take(answer: &mut Answer, pair: &mut Pair, side: Side, lists: &mut Lists<'_>) -> bool {
     let after = pair.sent(side).len();
-    if !step_once(alloc, pair, side)?? {
-        return Ok(None);
+    let stepped = step_once(lists.alloc, answer, pair, side);
+    let took = answer.take(stepped).unwrap_or(false);
+    if took {
+        match pair.taken(side).last() {
+            Some(got) => compare(answer, side, got, after as u64, lists),
+            None => answer.stop(Stop::Call),
+        }
     }
-    let got = pair.taken(side).last().ok_or(Stop::Call)?;
-    let text = got_text(alloc, got)?;
-    if side == Side::Server && text.starts_with("s0 ei_connection 1 0 ") {
-        lists.answers(alloc)?;
-    }
-    let theirs = lists.theirs(side);
-    let Some(sent) = theirs.sent.get(theirs.taken) else {
-        return Ok(Some(false));
-    };
-    let wanted = format!(in alloc; "{} @{after}", sent.as_str())?;
-    theirs.taken = theirs.taken.saturating_add(1);
-    Ok(Some(wanted.as_str() == text.as_str()))
+    took
 }
 
-/// Whether the side takes all that the other sent, one by one, once all is flushed and delivered.
-fn take_all(alloc: Global, pair: &mut Pair, side: Side, lists: &mut Lists) -> Result<bool, Stop> {
-    pair.send_all(other(side))?;
+/// Compares what the side took, once it had sent so many messages, with what the other sent.
+fn compare(answer: &mut Answer, side: Side, got: &Got, after: u64, lists: &mut Lists<'_>) {
+    let alloc = lists.alloc;
+    let theirs = lists.theirs(side);
+    let place = theirs.taken;
+    theirs.taken = place.saturating_add(1);
+    let (is_next, is_sync) = match theirs.sent.get(place) {
+        Some(sent) => (
+            is_message(alloc, answer, got, sent.as_str()) && after_of(got) == after,
+            sent.as_str().starts_with("s0 ei_connection 1 0 "),
+        ),
+        None => (false, false),
+    };
+    lists.is_equal = lists.is_equal && is_next;
+    if is_sync && side == Side::Server {
+        lists.answers(answer);
+    }
+}
+
+/// How many messages the side had sent when it took this.
+fn after_of(got: &Got) -> u64 {
+    match got {
+        Got::Message { after, .. } => *after,
+        Got::InvalidObject { after, .. } => *after,
+    }
+}
+
+/// The side takes all that the other sent, one by one, once all is flushed and delivered.
+fn take_all(answer: &mut Answer, pair: &mut Pair, side: Side, lists: &mut Lists<'_>) {
+    pair.send_all(answer, other(side));
+    let mut delivered = Answer::new(lists.alloc);
+    deliver_all(&mut delivered, pair, side);
+    drop(answer.take(delivered.text()));
     for _ in 0..u64::MAX {
-        if pair.hand_over(side, 1536)?? == 0 {
+        if !take(answer, pair, side, lists) {
             break;
         }
     }
-    for _ in 0..u64::MAX {
-        match take(alloc, pair, side, lists)? {
-            Some(true) => {}
-            Some(false) => return Ok(false),
-            None => break,
-        }
-    }
     let theirs = lists.theirs(side);
-    Ok(theirs.taken == theirs.sent.len())
+    if theirs.taken != theirs.sent.len() {
+        lists.is_equal = false;
+    }
 }
 
-/// Whether both converters hand out what the lists have, and no more.
-fn are_told(alloc: Global, pair: &mut Pair, lists: &Lists) -> Result<bool, Stop> {
-    for wanted in &lists.server.told {
-        if !is_told(alloc, pair.next_event(), wanted.as_str())? {
-            return Ok(false);
+/// Whether the client's converter hands out these events, and no more.
+fn are_events(alloc: Global, answer: &mut Answer, pair: &mut Pair, told: &[String]) -> bool {
+    let mut all = true;
+    for wanted in told {
+        if !is_told(alloc, answer, pair.next_event(), wanted.as_str()) {
+            all = false;
         }
     }
-    for wanted in &lists.client.told {
-        if !is_told(alloc, pair.next_request(), wanted.as_str())? {
-            return Ok(false);
+    all && is_nothing(pair.next_event())
+}
+
+/// Whether the server's converter hands out these requests, and no more.
+fn are_requests(alloc: Global, answer: &mut Answer, pair: &mut Pair, told: &[String]) -> bool {
+    let mut all = true;
+    for wanted in told {
+        if !is_told(alloc, answer, pair.next_request(), wanted.as_str()) {
+            all = false;
         }
     }
-    Ok(is_nothing(pair.next_event()) && is_nothing(pair.next_request()))
+    all && is_nothing(pair.next_request())
 }
 
 /// Whether what was handed out is what is wanted.
-fn is_told<T: Told + Drop>(alloc: Global, told: Option<T>, wanted: &str) -> Result<bool, Stop> {
+fn is_told<T: Told + Drop>(
+    alloc: Global,
+    answer: &mut Answer,
+    told: Option<T>,
+    wanted: &str,
+) -> bool {
     match told {
-        Some(told) => Ok(told.text(alloc)?.as_str() == wanted),
-        None => Err(Stop::Call),
+        Some(told) => {
+            let mut found = Answer::new(alloc);
+            told.tell(&mut found);
+            drop(told);
+            is_text(answer, found, wanted)
+        }
+        None => {
+            answer.stop(Stop::Call);
+            false
+        }
     }
 }
 
 /// Whether each handler was called once, in the order of the calls, and no other.
-fn are_called(pair: &Pair, lists: &Lists) -> bool {
+fn are_called(pair: &Pair, lists: &Lists<'_>) -> bool {
     let Some(converter) = pair.converter() else {
         return false;
     };
@@ -189,112 +203,113 @@ fn are_called(pair: &Pair, lists: &Lists) -> bool {
 }
 
 /// The side makes a call that is drawn.
-fn say(
-    alloc: Global,
-    pair: &mut Pair,
-    device: &Device,
-    side: Side,
-    draws: &mut Draws,
-    lists: &mut Lists,
-) -> Result<(), Stop> {
-    match (side, draws.next() % 6) {
-        (Side::Client, 0 | 1 | 2) => move_client(alloc, pair, draws, &mut lists.client),
-        (Side::Client, 3) => frame_client(alloc, pair, draws, &mut lists.client),
-        (Side::Client, 4) => bind(alloc, pair, draws, &mut lists.client),
-        (Side::Client, _) => sync(alloc, pair, draws, lists),
-        (Side::Server, 0 | 1 | 2) => move_server(alloc, pair, draws, &mut lists.server),
-        (Side::Server, 3 | 4) => frame_server(alloc, pair, device, draws, lists),
-        (Side::Server, _) => start(alloc, pair, device, draws, lists),
+fn say(answer: &mut Answer, pair: &mut Pair, side: Side, lists: &mut Lists<'_>) {
+    match side {
+        Side::Client => say_client(answer, pair, lists),
+        Side::Server => say_server(answer, pair, lists),
     }
 }
 
-/// The client's message to the object of that id.
-fn request(pair: &mut Pair, at: &str, opcode: u32, values: &[Value]) -> Result<(), Stop> {
-    let target = client_object(pair, id_of(at)?).ok_or(Stop::Call)?;
-    let call = ClientCall::Call {
-        target,
-        opcode,
-        values,
-    };
-    must_go(ask(pair, call))
+/// The client makes a call that is drawn.
+fn say_client(answer: &mut Answer, pair: &mut Pair, lists: &mut Lists<'_>) {
+    match lists.draws.next() % 6 {
+        0 | 1 | 2 => move_client(answer, pair, lists),
+        3 => frame_client(answer, pair, lists),
+        4 => bind(answer, pair, lists),
+        _ => sync(answer, pair, lists),
+    }
 }
 
-/// The server's call.
-fn tell(pair: &mut Pair, call: ServerCall<'_>) -> Result<(), Stop> {
-    must_go(serve(pair, call))
+/// The server makes a call that is drawn.
+fn say_server(answer: &mut Answer, pair: &mut Pair, lists: &mut Lists<'_>) {
+    match lists.draws.next() % 6 {
+        0 | 1 | 2 => move_server(answer, pair, lists),
+        3 | 4 => frame_server(answer, pair, lists),
+        _ => start(answer, pair, lists),
+    }
 }
 
-fn move_client(
-    alloc: Global,
-    pair: &mut Pair,
-    draws: &mut Draws,
-    own: &mut Plain,
-) -> Result<(), Stop> {
-    let (dx, dy) = (draws.next(), draws.next());
-    request(pair, "s3", 1, &[Value::Float(dx), Value::Float(dy)])?;
-    Ok(own.moves(alloc, dx, dy)?)
+/// The client's message to the object of the server's that has this place.
+fn request(answer: &mut Answer, pair: &mut Pair, place: u64, opcode: u32, values: &[Value]) {
+    match client_object(pair, server_id(place)) {
+        Some(target) => {
+            let call = ClientCall::Call {
+                target,
+                opcode,
+                values,
+            };
+            must_go(answer, ask(pair, call));
+        }
+        None => answer.stop(Stop::Call),
+    }
 }
 
-fn frame_client(
-    alloc: Global,
-    pair: &mut Pair,
-    draws: &mut Draws,
-    own: &mut Plain,
-) -> Result<(), Stop> {
-    let (serial, time) = (draws.next(), u64::from(draws.next()));
-    request(pair, "s2", 3, &[Value::Uint32(serial), Value::Uint64(time)])?;
-    Ok(own.frames(alloc, 3, serial, time)?)
+/// The server's message to its object of this place.
+fn input(answer: &mut Answer, pair: &mut Pair, place: u64, opcode: u32, values: &[Value]) {
+    match server_object(pair, server_id(place)) {
+        Some(target) => {
+            let call = ServerCall::Input {
+                target,
+                opcode,
+                values,
+            };
+            must_go(answer, serve(pair, call));
+        }
+        None => answer.stop(Stop::Call),
+    }
 }
 
-fn bind(alloc: Global, pair: &mut Pair, draws: &mut Draws, own: &mut Plain) -> Result<(), Stop> {
-    let mask = u64::from(draws.next() % 256);
-    request(pair, "s1", 1, &[Value::Uint64(mask)])?;
-    Ok(own.binds(alloc, mask)?)
+fn move_client(answer: &mut Answer, pair: &mut Pair, lists: &mut Lists<'_>) {
+    let (dx, dy) = (lists.draws.next(), lists.draws.next());
+    request(answer, pair, 3, 1, &[Value::Float(dx), Value::Float(dy)]);
+    lists.client.moves(answer, dx, dy);
 }
 
-fn sync(alloc: Global, pair: &mut Pair, draws: &mut Draws, lists: &mut Lists) -> Result<(), Stop> {
-    let by = u64::from(draws.next());
-    must_go(ask_sync(pair, by))?;
-    Ok(lists.asks(alloc, by)?)
+fn frame_client(answer: &mut Answer, pair: &mut Pair, lists: &mut Lists<'_>) {
+    let (serial, time) = (lists.draws.next(), u64::from(lists.draws.next()));
+    request(
+        answer,
+        pair,
+        2,
+        3,
+        &[Value::Uint32(serial), Value::Uint64(time)],
+    );
+    lists.client.frames(answer, 3, serial, time);
 }
 
-fn move_server(
-    alloc: Global,
-    pair: &mut Pair,
-    draws: &mut Draws,
-    own: &mut Plain,
-) -> Result<(), Stop> {
-    let (dx, dy) = (draws.next(), draws.next());
-    let target = server_object(pair, id_of("s3")?).ok_or(Stop::Call)?;
-    let call = ServerCall::Input {
-        target,
-        opcode: 1,
-        values: &[Value::Float(dx), Value::Float(dy)],
-    };
-    tell(pair, call)?;
-    Ok(own.moves(alloc, dx, dy)?)
+fn bind(answer: &mut Answer, pair: &mut Pair, lists: &mut Lists<'_>) {
+    let mask = u64::from(lists.draws.next() % 256);
+    request(answer, pair, 1, 1, &[Value::Uint64(mask)]);
+    lists.client.binds(answer, mask);
 }
 
-fn frame_server(
-    alloc: Global,
-    pair: &mut Pair,
-    device: &Device,
-    draws: &mut Draws,
-    lists: &mut Lists,
-) -> Result<(), Stop> {
-    let time = u64::from(draws.next());
-    tell(pair, ServerCall::Frame(device.clone()?, time))?;
-    Ok(lists.server_frames(alloc, time)?)
+fn sync(answer: &mut Answer, pair: &mut Pair, lists: &mut Lists<'_>) {
+    let by = u64::from(lists.draws.next());
+    must_go(answer, ask_sync(pair, by));
+    lists.asks(answer, by);
 }
 
-fn start(
-    alloc: Global,
-    pair: &mut Pair,
-    device: &Device,
-    draws: &mut Draws,
-    lists: &mut Lists,
-) -> Result<(), Stop> {
-    let sequence = draws.next();
-    tell(pair, ServerCall::StartEmulating(device.clone()?, sequence))?;
-    Ok(lists.server_starts(alloc, sequence)?)
+fn move_server(answer: &mut Answer, pair: &mut Pair, lists: &mut Lists<'_>) {
+    let (dx, dy) = (lists.draws.next(), lists.draws.next());
+    input(answer, pair, 3, 1, &[Value::Float(dx), Value::Float(dy)]);
+    lists.server.moves(answer, dx, dy);
+}
+
+fn frame_server(answer: &mut Answer, pair: &mut Pair, lists: &mut Lists<'_>) {
+    let time = u64::from(lists.draws.next());
+    if let Some(device) = answer.take(lists.device.clone()) {
+        must_go(answer, serve(pair, ServerCall::Frame(device, time)));
+    }
+    lists.server_frames(answer, time);
+}
+
+fn start(answer: &mut Answer, pair: &mut Pair, lists: &mut Lists<'_>) {
+    let sequence = lists.draws.next();
+    if let Some(device) = answer.take(lists.device.clone()) {
+        must_go(
+            answer,
+            serve(pair, ServerCall::StartEmulating(device, sequence)),
+        );
+    }
+    lists.server_starts(answer, sequence);
 }

@@ -5,33 +5,31 @@ ghost use Rattle.std.specs.Prelude.{◌≡◌, false};
 use crate::asking::ask_sync;
 use crate::changing::Pair;
 use crate::counted::{Counts, counts_of, lists_as_before};
-use crate::describing::describe;
 use crate::keys::Keys;
 use crate::linked::Linked;
-use crate::making::{announce, name_of, seat_at, slice_of};
+use crate::making::{announce, announce_device};
 use crate::pair_steps::step_once;
-use crate::spelled::{capabilities, side_of};
+use crate::spelled::{capabilities, is_read, side_of};
 use ei_linked::Side;
 use ei_pair::Made;
-use ei_request::Seat;
 use ei_types::{DeviceCapabilities, Error};
-use ei_wire::{ReadError, SendError};
+use ei_wire::{NoMemory, ReadError, SendError};
 use std::alloc::Global;
-use test_table::{Stop, count, first, id};
+use test_table::{Answer, Reader, Stop};
 
-/// A call, to be made once or twice.
-#[derive(Drop)]
-enum Deed {
+/// A call, to be made once or twice: a seat has a name, and a device the place of its seat and a name.
+#[derive(Clone, Copy)]
+enum Deed<'a> {
     Flush(Side),
     Deliver(Side, usize),
     Step(Side),
     Sync(u64),
-    Seat(Option<String>, DeviceCapabilities),
-    Device(Seat, Option<String>, DeviceCapabilities),
+    Seat(&'a str, DeviceCapabilities),
+    Device(usize, &'a str, DeviceCapabilities),
 }
 
 /// What a call came to.
-#[derive(Clone, Copy, PartialEq, Eq)]
+#[derive(Clone, Copy)]
 enum Came {
     Made,
     Nothing,
@@ -63,79 +61,74 @@ impl Seen {
     }
 }
 
-/// The call that a line spells.
-fn deed_of(alloc: Global, keys: &Keys, line: &str) -> Result<Deed, Stop> {
-    let (name, rest) = first(line);
-    match name {
-        "flush" => Ok(Deed::Flush(side_of(rest)?)),
-        "deliver" => {
-            let (side, n) = first(rest);
-            Ok(Deed::Deliver(side_of(side)?, count(n)?))
+/// The call that the words spell.
+fn deed_of<'a>(words: &mut Reader<'a>) -> Deed<'a> {
+    match words.word() {
+        "flush" => Deed::Flush(side_of(words)),
+        "deliver" => Deed::Deliver(side_of(words), words.count()),
+        "step" => Deed::Step(side_of(words)),
+        "sync" => Deed::Sync(words.id()),
+        "seat" => Deed::Seat(words.word(), capabilities(words)),
+        "device" => Deed::Device(words.count(), words.word(), capabilities(words)),
+        _ => {
+            words.miss();
+            Deed::Sync(0)
         }
-        "step" => Ok(Deed::Step(side_of(rest)?)),
-        "sync" => Ok(Deed::Sync(id(rest)?)),
-        "seat" => {
-            let (name, bits) = first(rest);
-            let wanted = capabilities(bits)?;
-            Ok(Deed::Seat(name_of(alloc, name)?, wanted))
-        }
-        "device" => device_deed(alloc, keys, rest),
-        _ => Err(Stop::Line),
     }
-}
-
-/// `device SEAT NAME CAPABILITIES`.
-fn device_deed(alloc: Global, keys: &Keys, rest: &str) -> Result<Deed, Stop> {
-    let (seat, rest) = first(rest);
-    let (name, bits) = first(rest);
-    let wanted = capabilities(bits)?;
-    let name = name_of(alloc, name)?;
-    let seat = seat_at(keys, seat)?;
-    Ok(Deed::Device(seat, name, wanted))
 }
 
 /// Makes the call.
-fn make(alloc: Global, pair: &mut Pair, keys: &mut Keys, deed: &Deed) -> Result<Came, Stop> {
+fn make(
+    alloc: Global,
+    answer: &mut Answer,
+    pair: &mut Pair,
+    keys: &mut Keys,
+    deed: Deed<'_>,
+) -> Came {
     match deed {
-        Deed::Flush(side) => flush(pair, *side),
-        Deed::Deliver(side, n) => deliver(pair, *side, *n),
-        Deed::Step(side) => step(alloc, pair, *side),
-        Deed::Sync(by) => Ok(sync(pair, *by)),
-        Deed::Seat(name, wanted) => kept(keys, announce(pair, slice_of(name), *wanted)),
-        Deed::Device(seat, name, wanted) => {
-            let seat = seat.clone()?;
-            let answer = describe(alloc, pair, seat, slice_of(name), *wanted)?;
-            kept(keys, answer)
+        Deed::Flush(side) => flush(pair, side),
+        Deed::Deliver(side, n) => delivered(pair.hand_over(answer, side, n)),
+        Deed::Step(side) => stepped(step_once(alloc, answer, pair, side)),
+        Deed::Sync(by) => sync(pair, by),
+        Deed::Seat(name, wanted) => {
+            let made = announce(alloc, answer, pair, name, wanted);
+            kept(answer, keys, made)
+        }
+        Deed::Device(place, name, wanted) => {
+            let made = announce_device(alloc, answer, pair, keys, place, name, wanted);
+            kept(answer, keys, made)
         }
     }
 }
 
-fn flush(pair: &mut Pair, side: Side) -> Result<Came, Stop> {
+fn flush(pair: &mut Pair, side: Side) -> Came {
     if pair.is_spent() {
-        return Ok(Came::MayNot);
+        return Came::MayNot;
     }
-    Ok(match pair.flush(side) {
+    match pair.flush(side) {
         Ok(()) => Came::Made,
-        Err(_) => Came::WantsMemory,
-    })
+        Err(NoMemory) => Came::WantsMemory,
+    }
 }
 
-fn step(alloc: Global, pair: &mut Pair, side: Side) -> Result<Came, Stop> {
-    Ok(match step_once(alloc, pair, side)? {
-        Ok(true) => Came::Made,
-        Ok(false) => Came::Nothing,
-        Err(Error::NoMemory) => Came::WantsMemory,
-        Err(_) => Came::Refused,
-    })
-}
-
-fn deliver(pair: &mut Pair, side: Side, n: usize) -> Result<Came, Stop> {
-    Ok(match pair.hand_over(side, n)? {
+/// What a delivery came to.
+fn delivered(came: Result<usize, ReadError>) -> Came {
+    match came {
         Ok(0) => Came::Nothing,
         Ok(_) => Came::Made,
         Err(ReadError::NoMemory) => Came::WantsMemory,
         Err(_) => Came::Refused,
-    })
+    }
+}
+
+/// What a step came to.
+fn stepped(came: Result<bool, Error>) -> Came {
+    match came {
+        Ok(true) => Came::Made,
+        Ok(false) => Came::Nothing,
+        Err(Error::NoMemory) => Came::WantsMemory,
+        Err(_) => Came::Refused,
+    }
 }
 
 fn sync(pair: &mut Pair, by: u64) -> Came {
@@ -159,72 +152,79 @@ fn refused(error: SendError) -> Came {
 }
 
 /// What a call of the server came to. What it made is kept.
-fn kept(keys: &mut Keys, answer: Option<Result<Made, SendError>>) -> Result<Came, Stop> {
-    match answer {
-        Some(Ok(made)) => keep(keys, made),
-        Some(Err(error)) => Ok(refused(error)),
-        None => Ok(Came::MayNot),
+fn kept(answer: &mut Answer, keys: &mut Keys, made: Option<Result<Made, SendError>>) -> Came {
+    match made {
+        Some(Ok(made)) => {
+            keep(answer, keys, made);
+            Came::Made
+        }
+        Some(Err(error)) => refused(error),
+        None => Came::MayNot,
     }
 }
 
 /// Keeps what was made.
-fn keep(keys: &mut Keys, made: Made) -> Result<Came, Stop> {
+fn keep(answer: &mut Answer, keys: &mut Keys, made: Made) {
     match made {
-        Made::Seat(seat) => keys.seats.push(seat)?,
-        Made::Device(device) => keys.devices.push(device)?,
+        Made::Seat(seat) => drop(answer.take(keys.seats.push(seat))),
+        Made::Device(device) => drop(answer.take(keys.devices.push(device))),
         Made::Nothing => {}
     }
-    Ok(Came::Made)
 }
 
 /// `firm CALL`: makes the call, and once more where it wants memory and left all as it was. By a step that wants memory its
 /// message may be gone; and a pair that is spent has the lists that it had.
 pub(crate) fn firm(
     alloc: Global,
+    answer: &mut Answer,
     pair: &mut Pair,
     keys: &mut Keys,
-    line: &str,
-) -> Result<String, Stop> {
+    mut words: Reader<'_>,
+) {
+    let deed = deed_of(&mut words);
     if pair.is_spent() {
-        return Ok(String::from_str(alloc, "spent before")?);
+        answer.put("spent before");
+    } else if is_read(answer, &words) {
+        make_twice(alloc, answer, pair, keys, deed);
     }
-    let answer = tried(alloc, pair, keys, line)?;
-    Ok(String::from_str(alloc, answer)?)
 }
 
-/// What the call that a line spells comes to.
-fn tried(
+/// Makes the call, and once more where it wants memory and left all as it was. Tells what it came to.
+fn make_twice(
     alloc: Global,
+    answer: &mut Answer,
     pair: &mut Pair,
     keys: &mut Keys,
-    line: &str,
-) -> Result<&'static str, Stop> {
-    let deed = deed_of(alloc, keys, line)?;
-    let left = tried_twice(alloc, pair, keys, &deed);
-    drop(deed);
-    left
-}
-
-/// What a call comes to; it is made once more where it wants memory and left all as it was.
-fn tried_twice(
-    alloc: Global,
-    pair: &mut Pair,
-    keys: &mut Keys,
-    deed: &Deed,
-) -> Result<&'static str, Stop> {
+    deed: Deed<'_>,
+) {
     let before = Seen::of(pair);
-    let came = make(alloc, pair, keys, deed)?;
-    if came != Came::WantsMemory {
-        return Ok(name_of_came(came));
+    let left = match make(alloc, answer, pair, keys, deed) {
+        Came::WantsMemory => left_by(deed, pair, before),
+        came => Some(name_of_came(came)),
+    };
+    match left {
+        Some(left) => answer.put(left),
+        None => make_again(alloc, answer, pair, keys, deed),
     }
-    match left_by(deed, pair, before) {
-        Some(left) => Ok(left),
-        None => again(make(alloc, pair, keys, deed)?),
+}
+
+/// Makes a call again. Tells what it came to.
+fn make_again(
+    alloc: Global,
+    answer: &mut Answer,
+    pair: &mut Pair,
+    keys: &mut Keys,
+    deed: Deed<'_>,
+) {
+    match make(alloc, answer, pair, keys, deed) {
+        Came::Made => answer.put("made again"),
+        Came::WantsMemory => answer.stop(Stop::NoMemory),
+        came => answer.put(name_of_came(came)),
     }
 }
 
 /// What a call that wanted memory left of the pair; `None` where all is as it was.
-fn left_by(deed: &Deed, pair: &Pair, before: Seen) -> Option<&'static str> {
+fn left_by(deed: Deed<'_>, pair: &Pair, before: Seen) -> Option<&'static str> {
     let after = Seen::of(pair);
     if after.wanted != wanted_by(deed, before.wanted) {
         return Some("untold");
@@ -243,20 +243,11 @@ fn left_by(deed: &Deed, pair: &Pair, before: Seen) -> Option<&'static str> {
 }
 
 /// Whether a step of the client, and of the server, wanted memory behind the call, which wanted some.
-fn wanted_by(deed: &Deed, before: (bool, bool)) -> (bool, bool) {
+fn wanted_by(deed: Deed<'_>, before: (bool, bool)) -> (bool, bool) {
     match deed {
         Deed::Step(Side::Client) => (true, before.1),
         Deed::Step(Side::Server) => (before.0, true),
         _ => before,
-    }
-}
-
-/// What a call came to that is made again.
-fn again(came: Came) -> Result<&'static str, Stop> {
-    match came {
-        Came::Made => Ok("made again"),
-        Came::WantsMemory => Err(Stop::NoMemory),
-        came => Ok(name_of_came(came)),
     }
 }
 
@@ -271,7 +262,7 @@ fn name_of_came(came: Came) -> &'static str {
 }
 
 /// Whether a step took its message, and all that was sent is as it was.
-fn is_lost(deed: &Deed, after: Counts, before: Counts) -> bool {
+fn is_lost(deed: Deed<'_>, after: Counts, before: Counts) -> bool {
     let (client, server) = match deed {
         Deed::Step(Side::Client) => (1, 0),
         Deed::Step(Side::Server) => (0, 1),

@@ -5,139 +5,150 @@ ghost use Rattle.std.specs.Prelude.{◌≡◌, ◌<◌, ◌≤◌, false};
 use crate::changing::Pair;
 use crate::going::deliver_all;
 use crate::linked::Linked;
+use crate::shown::tell;
 use crate::spelled::other;
 use ei_backend::Readings;
 use ei_linked::Side;
 use ei_types::Error;
 use std::alloc::Global;
-use std::fmt::Display;
-use test_table::Stop;
+use std::mem;
+use test_table::{Answer, Stop};
 
 /// How many messages were handed on, and why no more where one was refused.
 #[derive(Drop)]
-pub(crate) struct Stepped {
-    pub(crate) many: usize,
-    pub(crate) why: Option<Error>,
+struct Stepped {
+    many: usize,
+    why: Option<Error>,
+}
+
+impl Stepped {
+    /// None was handed on.
+    fn new() -> Stepped {
+        Stepped { many: 0, why: None }
+    }
+
+    /// What a step came to. Whether it handed a message on.
+    fn goes_on(&mut self, answer: &mut Answer, stepped: Result<bool, Error>) -> bool {
+        match stepped {
+            Ok(handed_on) => {
+                self.many = self.many.saturating_add(usize::from(handed_on));
+                return handed_on;
+            }
+            Err(Error::NoMemory) => answer.stop(Stop::NoMemory),
+            Err(error) => drop(mem::replace(&mut self.why, Some(error))),
+        }
+        false
+    }
 }
 
 /// A step of the side. A frame that is made has the time 7.
 pub(crate) fn step_once(
     alloc: Global,
+    answer: &mut Answer,
     pair: &mut Pair,
     side: Side,
-) -> Result<Result<bool, Error>, Stop> {
+) -> Result<bool, Error> {
     if pair.is_spent() {
-        return Err(Stop::Call);
+        answer.stop(Stop::Call);
+        return Ok(false);
     }
-    let mut clock = Readings::new(alloc, &[7])?;
-    let stepped = pair.step(side, &mut clock);
-    // Let go by a call: at the end of a scope the drop of each field is proved anew.
-    drop(clock);
-    Ok(stepped)
+    match answer.take(Readings::new(alloc, &[7])) {
+        Some(mut clock) => {
+            let stepped = pair.step(side, &mut clock);
+            // Let go by a call: at the end of a scope the drop of each field is proved anew.
+            drop(clock);
+            stepped
+        }
+        None => Ok(false),
+    }
 }
 
 /// `carry SIDE`: all that waits at the side goes to the other: how many bytes came, and why no more came where it was refused.
-pub(crate) fn carry(alloc: Global, pair: &mut Pair, side: Side) -> Result<String, Stop> {
-    pair.send_all(side)?;
-    deliver_all(alloc, pair, other(side))
+pub(crate) fn carry(answer: &mut Answer, pair: &mut Pair, side: Side) {
+    pair.send_all(answer, side);
+    deliver_all(answer, pair, other(side));
 }
 
 /// `step SIDE`.
-pub(crate) fn step(alloc: Global, pair: &mut Pair, side: Side) -> Result<String, Stop> {
-    match step_once(alloc, pair, side)? {
-        Ok(true) => Ok(String::from_str(alloc, "stepped")?),
-        Ok(false) => Ok(String::from_str(alloc, "nothing")?),
-        Err(Error::NoMemory) => Err(Stop::NoMemory),
-        Err(error) => shown(alloc, error),
+pub(crate) fn step(alloc: Global, answer: &mut Answer, pair: &mut Pair, side: Side) {
+    match step_once(alloc, answer, pair, side) {
+        Ok(true) => answer.put("stepped"),
+        Ok(false) => answer.put("nothing"),
+        Err(Error::NoMemory) => answer.stop(Stop::NoMemory),
+        Err(error) => {
+            answer.display(&error);
+            drop(error);
+        }
     }
-}
-
-/// It as a text; it is let go.
-fn shown<T: Display + Drop>(alloc: Global, it: T) -> Result<String, Stop> {
-    Ok(format!(in alloc; "{it}")?)
 }
 
 /// Steps of the side until no whole message waits, or one is refused.
-pub(crate) fn step_all(alloc: Global, pair: &mut Pair, side: Side) -> Result<Stepped, Stop> {
-    let mut many = 0usize;
+fn step_all(
+    alloc: Global,
+    answer: &mut Answer,
+    pair: &mut Pair,
+    side: Side,
+    stepped: &mut Stepped,
+) {
     for _ in 0..u64::MAX {
-        match step_once(alloc, pair, side)? {
-            Ok(true) => many = many.saturating_add(1),
-            Ok(false) => break,
-            Err(Error::NoMemory) => return Err(Stop::NoMemory),
-            Err(error) => {
-                return Ok(Stepped {
-                    many,
-                    why: Some(error),
-                });
-            }
+        let one = step_once(alloc, answer, pair, side);
+        if !stepped.goes_on(answer, one) {
+            break;
         }
     }
-    Ok(Stepped { many, why: None })
 }
 
 /// `steps SIDE`: how many messages were handed on, and why no more where one was refused.
-pub(crate) fn steps(alloc: Global, pair: &mut Pair, side: Side) -> Result<String, Stop> {
-    let stepped = step_all(alloc, pair, side)?;
-    let text = stepped_text(alloc, &stepped);
-    drop(stepped);
-    text
-}
-
-/// How many messages were handed on, and why no more.
-fn stepped_text(alloc: Global, stepped: &Stepped) -> Result<String, Stop> {
-    let many = stepped.many;
-    Ok(match &stepped.why {
-        Some(error) => format!(in alloc; "{many} {error}")?,
-        None => format!(in alloc; "{many}")?,
-    })
-}
-
-/// These steps behind so many others.
-fn behind(many: usize, stepped: Stepped) -> Stepped {
-    Stepped {
-        many: many.saturating_add(stepped.many),
-        why: stepped.why,
+pub(crate) fn steps(alloc: Global, answer: &mut Answer, pair: &mut Pair, side: Side) {
+    let mut stepped = Stepped::new();
+    step_all(alloc, answer, pair, side, &mut stepped);
+    answer.display(&stepped.many);
+    if let Some(error) = &stepped.why {
+        tell(answer, " ", error);
     }
+    drop(stepped);
 }
 
 /// Flushes the side, and hands all of it to the other in pieces of so many bytes, with all its steps behind each.
-fn pass(alloc: Global, pair: &mut Pair, from: Side, n: usize) -> Result<Stepped, Stop> {
-    pair.send_all(from)?;
-    let to = other(from);
-    let mut many = 0usize;
+fn pass(
+    alloc: Global,
+    answer: &mut Answer,
+    pair: &mut Pair,
+    from: Side,
+    n: usize,
+    stepped: &mut Stepped,
+) {
+    pair.send_all(answer, from);
     for _ in 0..u64::MAX {
-        let came = pair.hand_over(to, n)?.unwrap_or(0);
-        let stepped = behind(many, step_all(alloc, pair, to)?);
+        let came = pair.hand_over(answer, other(from), n).unwrap_or(0);
+        step_all(alloc, answer, pair, other(from), stepped);
         if came == 0 || stepped.why.is_some() {
-            return Ok(stepped);
+            break;
         }
-        many = stepped.many;
-        drop(stepped);
     }
-    Ok(Stepped { many, why: None })
+}
+
+/// There, and where no step was refused back.
+fn turn(alloc: Global, answer: &mut Answer, pair: &mut Pair, n: usize, stepped: &mut Stepped) {
+    pass(alloc, answer, pair, Side::Server, n, stepped);
+    if stepped.why.is_none() {
+        pass(alloc, answer, pair, Side::Client, n, stepped);
+    }
 }
 
 /// `settle`: both ways, in pieces of so many bytes, until nothing waits: `settled`, or why a step was refused.
-pub(crate) fn settle(alloc: Global, pair: &mut Pair, n: usize) -> Result<String, Stop> {
+pub(crate) fn settle(alloc: Global, answer: &mut Answer, pair: &mut Pair, n: usize) {
+    let mut stepped = Stepped::new();
     for _ in 0..u64::MAX {
-        let stepped = turn(alloc, pair, n)?;
-        match stepped.why {
-            Some(error) => return shown(alloc, error),
-            None if stepped.many == 0 => break,
-            None => {}
+        let before = stepped.many;
+        turn(alloc, answer, pair, n, &mut stepped);
+        if stepped.many == before || stepped.why.is_some() {
+            break;
         }
     }
-    Ok(String::from_str(alloc, "settled")?)
-}
-
-/// There, and where no step was refused back: how many messages were handed on.
-fn turn(alloc: Global, pair: &mut Pair, n: usize) -> Result<Stepped, Stop> {
-    let there = pass(alloc, pair, Side::Server, n)?;
-    if there.why.is_some() {
-        return Ok(there);
+    match &stepped.why {
+        Some(error) => answer.display(error),
+        None => answer.put("settled"),
     }
-    let many = there.many;
-    drop(there);
-    Ok(behind(many, pass(alloc, pair, Side::Client, n)?))
+    drop(stepped);
 }

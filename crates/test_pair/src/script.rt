@@ -1,127 +1,135 @@
 //! A script, as a line spells it.
 
-use crate::shown::filled;
-use crate::spelled::{capabilities, values_of};
+use crate::spelled::{capabilities, interface_of, is_read, values_of};
 use ei_backend::Readings;
 use ei_emit::{EmitStep, emit};
-use ei_spec::KnownInterface;
 use std::alloc::Global;
-use std::fmt::{Debug, Display, Write};
-use test_table::{Stop, first, id, number};
+use std::fmt::Debug;
+use test_table::{Answer, Reader, Stop};
 
 /// A script has fewer steps.
 const TOO_MANY_STEPS: usize = 4_294_967_295;
 
 /// `emit SERIAL READINGS STEP / STEP ..`: the events that the client reports, and why the script ended.
-pub(crate) fn script(alloc: Global, words: &str) -> Result<String, Stop> {
-    let (serial, rest) = first(words);
-    let (readings, steps) = first(rest);
-    let readings = readings_of(alloc, readings)?;
-    let steps = steps_of(alloc, steps)?;
-    let told = told(alloc, serial, &readings, &steps);
+pub(crate) fn script(alloc: Global, answer: &mut Answer, mut words: Reader<'_>) {
+    let serial = words.number();
+    let readings = readings_of(alloc, answer, &mut words);
+    let steps = steps_of(alloc, answer, &mut words);
+    if is_read(answer, &words) {
+        play(alloc, answer, serial, &readings, &steps);
+    }
     // Let go by a call: at the end of a scope the drop of each field is proved anew.
     drop(steps);
-    told
+    drop(readings);
 }
 
-/// What the client reports of the steps, and why they ended.
-fn told(alloc: Global, serial: &str, readings: &[u64], steps: &[EmitStep]) -> Result<String, Stop> {
-    if steps.len() >= TOO_MANY_STEPS {
-        return Err(Stop::Line);
+/// Plays the steps with a clock of these readings.
+fn play(alloc: Global, answer: &mut Answer, serial: u32, readings: &[u64], steps: &[EmitStep]) {
+    if let Some(mut clock) = answer.take(Readings::new(alloc, readings)) {
+        tell_reports(alloc, answer, serial, &mut clock, steps);
+        drop(clock);
     }
-    let mut clock = Readings::new(alloc, &readings)?;
-    let mut out = Vec::new(alloc);
-    let ended = match emit(alloc, "emit", number(serial)?, &mut clock, &steps, &mut out) {
-        Ok(_) => None,
-        Err(error) => Some(error),
-    };
-    drop(clock);
-    let text = shown(alloc, &out, ended);
-    drop(out);
-    text
 }
 
-/// The events, and why the script ended.
-fn shown<T: Debug, E: Display + Drop>(
+/// Tells what the client reports of the steps, and why they ended.
+fn tell_reports(
     alloc: Global,
-    out: &[T],
-    ended: Option<E>,
-) -> Result<String, Stop> {
-    let mut text = String::new(alloc);
-    for event in out {
-        write!(text, "{event:?} / ")?;
+    answer: &mut Answer,
+    serial: u32,
+    clock: &mut Readings,
+    steps: &[EmitStep],
+) {
+    if steps.len() >= TOO_MANY_STEPS {
+        answer.stop(Stop::Line);
+        return;
     }
+    let mut out = Vec::new(alloc);
+    let ended = emit(alloc, "emit", serial, clock, steps, &mut out).err();
+    tell_all(answer, &out);
+    drop(out);
     if let Some(error) = ended {
-        write!(text, "{error}")?;
+        answer.display(&error);
     }
-    Ok(text)
+}
+
+/// Tells the events.
+fn tell_all<T: Debug>(answer: &mut Answer, events: &[T]) {
+    for event in events {
+        answer.show(event);
+        answer.put(" / ");
+    }
 }
 
 /// The readings of the clock: numbers between commas, or `-` for none.
-fn readings_of(alloc: Global, word: &str) -> Result<Vec<u64>, Stop> {
+fn readings_of(alloc: Global, answer: &mut Answer, words: &mut Reader<'_>) -> Vec<u64> {
     let mut readings = Vec::new(alloc);
-    if word == "-" {
-        return Ok(readings);
-    }
-    for digits in word.split(',') {
-        readings.push(id(digits)?)?;
-    }
-    Ok(readings)
-}
-
-/// The steps that a line spells.
-fn steps_of(alloc: Global, words: &str) -> Result<Vec<EmitStep>, Stop> {
-    let mut steps = Vec::new(alloc);
-    let done = push_steps(alloc, &mut steps, words);
-    filled(steps, done)
-}
-
-/// Adds the steps that a line spells.
-fn push_steps(alloc: Global, steps: &mut Vec<EmitStep>, words: &str) -> Result<(), Stop> {
-    for step in words.split('/') {
-        let step = step.trim();
-        if !step.is_empty() {
-            steps.push(step_of(alloc, step)?)?;
+    let word = words.word();
+    if word != "-" {
+        for digits in word.split(',') {
+            let reading = words.or(digits.parse::<u64>(), 0);
+            drop(answer.take(readings.push(reading)));
         }
     }
-    Ok(())
+    readings
+}
+
+/// The steps that the words not yet read spell.
+fn steps_of(alloc: Global, answer: &mut Answer, words: &mut Reader<'_>) -> Vec<EmitStep> {
+    let mut steps = Vec::new(alloc);
+    for spelled in words.rest().split('/') {
+        if !spelled.trim().is_empty() {
+            let mut step = Reader::new(spelled.trim());
+            let made = step_of(alloc, answer, &mut step);
+            drop(answer.take(steps.push(made)));
+            words.or(step.done(), ());
+        }
+    }
+    steps
 }
 
 /// A step: its name, the number of its device, and more.
-fn step_of(alloc: Global, words: &str) -> Result<EmitStep, Stop> {
-    let (name, rest) = first(words);
-    let (device, rest) = first(rest);
+fn step_of(alloc: Global, answer: &mut Answer, words: &mut Reader<'_>) -> EmitStep {
+    let name = words.word();
     if name == "add" {
-        let capabilities = capabilities(device)?;
-        return Ok(EmitStep::Add { capabilities });
+        let capabilities = capabilities(words);
+        return EmitStep::Add { capabilities };
     }
-    let device = number(device)?;
-    Ok(match name {
+    let device = words.number();
+    match name {
+        "input" => input_of(alloc, answer, device, words),
+        _ => plain_step(name, device, words),
+    }
+}
+
+/// A step of that name, which is no input.
+fn plain_step(name: &str, device: u32, words: &mut Reader<'_>) -> EmitStep {
+    match name {
         "remove" => EmitStep::Remove { device },
         "start" => EmitStep::Start {
             device,
-            sequence: number(rest)?,
+            sequence: words.number(),
         },
         "stop" => EmitStep::Stop { device },
         "pause" => EmitStep::Pause { device },
         "resume" => EmitStep::Resume { device },
         "frame" => EmitStep::Frame {
             device,
-            time: id(rest)?,
+            time: words.id(),
         },
-        "input" => input_of(alloc, device, rest)?,
-        _ => return Err(Stop::Line),
-    })
+        _ => {
+            words.miss();
+            EmitStep::Stop { device }
+        }
+    }
 }
 
 /// An input: its interface, its opcode and its values.
-fn input_of(alloc: Global, device: u32, words: &str) -> Result<EmitStep, Stop> {
-    let (interface, rest) = first(words);
-    let (opcode, rest) = first(rest);
-    Ok(EmitStep::Input {
+fn input_of(alloc: Global, answer: &mut Answer, device: u32, words: &mut Reader<'_>) -> EmitStep {
+    let name = words.word();
+    EmitStep::Input {
         device,
-        interface: KnownInterface::from_name(interface).ok_or(Stop::Line)?,
-        opcode: number(opcode)?,
-        values: values_of(alloc, rest)?,
-    })
+        interface: interface_of(words, name),
+        opcode: words.number(),
+        values: values_of(alloc, answer, words),
+    }
 }

@@ -1,133 +1,137 @@
-//! What is shown of messages and answers.
+//! What is told of messages and answers.
 
 use ei_backend::Object;
 use ei_linked::{Got, Record};
 use ei_spec::limits::FIRST_SERVER_ID;
-use ei_wire::{Arg, NoMemory, ReadError, SendError};
-use std::alloc::{AllocError, Global};
-use std::fmt::{Display, Write};
-use test_table::Stop;
+use ei_wire::{Arg, ReadError, SendError};
+use std::alloc::Global;
+use std::fmt::Display;
+use test_table::{Answer, Stop};
 
-/// An id; one of the server's by its place among these.
-pub(crate) fn id_text(alloc: Global, id: u64) -> Result<String, AllocError> {
+/// Tells letters and a value behind them.
+pub(crate) fn tell<T: Display>(answer: &mut Answer, letters: &str, value: &T) {
+    answer.put(letters);
+    answer.display(value);
+}
+
+/// Tells letters and an id behind them; one of the server's by its place among these.
+pub(crate) fn tell_id(answer: &mut Answer, letters: &str, id: u64) {
+    answer.put(letters);
     match id.checked_sub(FIRST_SERVER_ID) {
-        Some(place) => format!(in alloc; "s{place}"),
-        None => format!(in alloc; "{id}"),
+        Some(place) => tell(answer, "s", &place),
+        None => answer.display(&id),
     }
 }
 
-/// Adds a value with the letter of its kind in front, and a blank before it.
-pub(crate) fn push_arg(alloc: Global, text: &mut String, arg: &Arg<'_>) -> Result<(), Stop> {
+/// Tells a value with the letter of its kind in front, and a blank before it.
+pub(crate) fn tell_arg(answer: &mut Answer, arg: &Arg<'_>) {
     match arg {
-        Arg::Uint32(number) => push_word(text, "u", number),
-        Arg::Int32(number) => push_word(text, "i", number),
-        Arg::Uint64(id) | Arg::NewId(id) | Arg::Id(id) => push_id(alloc, text, *id),
-        Arg::Float(word) => push_word(text, "f", word),
-        Arg::String(letters) => push_letters(text, *letters),
-        Arg::Fd(handle) => push_word(text, "h", &handle.0),
-        Arg::Int64(_) => Err(Stop::Call),
+        Arg::Uint32(number) => tell(answer, " u", number),
+        Arg::Int32(number) => tell(answer, " i", number),
+        Arg::Uint64(id) | Arg::NewId(id) | Arg::Id(id) => tell_id(answer, " #", *id),
+        Arg::Float(word) => tell(answer, " f", word),
+        Arg::String(letters) => tell_letters(answer, *letters),
+        Arg::Fd(handle) => tell(answer, " h", &handle.0),
+        Arg::Int64(_) => answer.stop(Stop::Call),
     }
 }
 
-/// Adds a blank, the letter of a kind, and a value.
-fn push_word<T: Display>(text: &mut String, kind: &str, value: &T) -> Result<(), Stop> {
-    Ok(write!(text, " {kind}{value}")?)
-}
-
-/// Adds an id.
-fn push_id(alloc: Global, text: &mut String, id: u64) -> Result<(), Stop> {
-    let id = id_text(alloc, id)?;
-    push_word(text, "#", &id)
-}
-
-/// Adds a text; one of many letters by their number.
-fn push_letters(text: &mut String, letters: Option<&str>) -> Result<(), Stop> {
+/// Tells a text; one of many letters by their number.
+fn tell_letters(answer: &mut Answer, letters: Option<&str>) {
     match letters {
-        Some(letters) if letters.len() > 64 => push_word(text, "t*", &letters.len()),
-        Some(letters) => push_word(text, "t", &letters),
-        None => Ok(text.push_str(" n")?),
+        Some(letters) if letters.len() > 64 => tell(answer, " t*", &letters.len()),
+        Some(letters) => tell(answer, " t", &letters),
+        None => answer.put(" n"),
     }
 }
 
-/// A message that was sent, or taken, as it is stored.
-pub(crate) fn record_text(alloc: Global, record: &Record) -> Result<String, Stop> {
-    let target = id_text(alloc, record.target)?;
-    let name = record.interface.name();
-    let mut text = format!(in alloc; "{target} {name} {} {}", record.version, record.opcode)?;
+/// Tells a message that was sent, or taken, as it is stored.
+pub(crate) fn tell_record(answer: &mut Answer, record: &Record) {
+    tell_id(answer, "", record.target);
+    tell(answer, " ", &record.interface.name());
+    tell(answer, " ", &record.version);
+    tell(answer, " ", &record.opcode);
     for value in record.values.as_slice() {
-        push_arg(alloc, &mut text, &value.as_arg())?;
+        tell_arg(answer, &value.as_arg());
     }
-    Ok(text)
 }
 
-/// What was taken, with the number of messages that the side had sent by then.
-pub(crate) fn got_text(alloc: Global, got: &Got) -> Result<String, Stop> {
+/// Tells what was taken, with the number of messages that the side had sent by then.
+fn tell_got(answer: &mut Answer, got: &Got) {
     match got {
         Got::Message { message, after } => {
-            let text = record_text(alloc, message)?;
-            Ok(format!(in alloc; "{text} @{after}")?)
+            tell_record(answer, message);
+            tell(answer, " @", after);
         }
         Got::InvalidObject { id, after } => {
-            let id = id_text(alloc, *id)?;
-            Ok(format!(in alloc; "gone {id} @{after}")?)
+            tell_id(answer, "gone ", *id);
+            tell(answer, " @", after);
         }
     }
 }
 
-/// The messages behind the first so many.
-pub(crate) fn records_text(alloc: Global, records: &[Record], past: usize) -> Result<String, Stop> {
-    let mut text = String::new(alloc);
+/// Tells the messages behind the first so many.
+pub(crate) fn tell_records(answer: &mut Answer, records: &[Record], past: usize) {
     for record in records.iter().skip(past) {
-        text.push_str(record_text(alloc, record)?.as_str())?;
-        text.push_str(" / ")?;
+        tell_record(answer, record);
+        answer.put(" / ");
     }
-    Ok(text)
 }
 
-/// What was taken behind the first so many.
-pub(crate) fn taken_text(alloc: Global, taken: &[Got], past: usize) -> Result<String, Stop> {
-    let mut text = String::new(alloc);
+/// Tells what was taken behind the first so many.
+pub(crate) fn tell_taken(answer: &mut Answer, taken: &[Got], past: usize) {
     for got in taken.iter().skip(past) {
-        text.push_str(got_text(alloc, got)?.as_str())?;
-        text.push_str(" / ")?;
-    }
-    Ok(text)
-}
-
-/// An object, by its id, its interface and version.
-pub(crate) fn object_text(alloc: Global, object: &Object) -> Result<String, AllocError> {
-    let id = id_text(alloc, object.id())?;
-    format!(in alloc; "{id} {} {}", object.interface(), object.version())
-}
-
-/// What a call answers.
-pub(crate) fn sent_text(
-    alloc: Global,
-    answer: Result<Option<Object>, SendError>,
-) -> Result<String, Stop> {
-    match answer {
-        Ok(Some(object)) => Ok(let_go(alloc, object)?),
-        Ok(None) => Ok(String::from_str(alloc, "sent")?),
-        Err(error) => Ok(String::from_str(alloc, send_name(error)?)?),
+        tell_got(answer, got);
+        answer.put(" / ");
     }
 }
 
-/// The object as a text; it is let go.
-fn let_go(alloc: Global, object: Object) -> Result<String, AllocError> {
-    let text = object_text(alloc, &object);
-    drop(object);
-    text
+/// Whether what was taken is this message.
+pub(crate) fn is_message(alloc: Global, answer: &mut Answer, got: &Got, wanted: &str) -> bool {
+    let mut found = Answer::new(alloc);
+    match got {
+        Got::Message { message, .. } => tell_record(&mut found, message),
+        Got::InvalidObject { id, .. } => tell_id(&mut found, "gone ", *id),
+    }
+    is_text(answer, found, wanted)
 }
 
-/// It, where what fills it came to its end; where it didn't, it is let go by a call, since at the end of a scope the drop of
-/// each field is proved anew.
-pub(crate) fn filled<T: Drop>(it: T, done: Result<(), Stop>) -> Result<T, Stop> {
-    match done {
-        Ok(()) => Ok(it),
-        Err(stop) => {
-            drop(it);
-            Err(stop)
+/// Whether this is the text that was put together.
+pub(crate) fn is_text(answer: &mut Answer, found: Answer, wanted: &str) -> bool {
+    match answer.take(found.text()) {
+        Some(found) => {
+            let is_wanted = found.as_str() == wanted;
+            drop(found);
+            is_wanted
         }
+        None => false,
+    }
+}
+
+/// Puts the text that was put together behind the others.
+pub(crate) fn keep_text(answer: &mut Answer, others: &mut Vec<String>, text: Answer) {
+    if let Some(text) = answer.take(text.text()) {
+        drop(answer.take(others.push(text)));
+    }
+}
+
+/// Tells an object, by its id, its interface and version.
+pub(crate) fn tell_object(answer: &mut Answer, object: &Object) {
+    tell_id(answer, "", object.id());
+    tell(answer, " ", &object.interface());
+    tell(answer, " ", &object.version());
+}
+
+/// Tells what a call answers.
+pub(crate) fn tell_sent(answer: &mut Answer, sent: Result<Option<Object>, SendError>) {
+    match sent {
+        Ok(Some(object)) => {
+            tell_object(answer, &object);
+            // Let go by a call: at the end of a scope the drop of each field is proved anew.
+            drop(object);
+        }
+        Ok(None) => answer.put("sent"),
+        Err(error) => tell_send_error(answer, error),
     }
 }
 
@@ -136,19 +140,21 @@ pub(crate) fn is_nothing<T: Drop>(it: Option<T>) -> bool {
     it.is_none()
 }
 
-pub(crate) fn send_name(error: SendError) -> Result<&'static str, NoMemory> {
+/// Tells why nothing was sent; the program stops where memory ran out.
+pub(crate) fn tell_send_error(answer: &mut Answer, error: SendError) {
     match error {
-        SendError::MessageTooLong => Ok("too long"),
-        SendError::IdsExhausted => Ok("no id"),
-        SendError::NoMemory => Err(NoMemory),
+        SendError::MessageTooLong => answer.put("too long"),
+        SendError::IdsExhausted => answer.put("no id"),
+        SendError::NoMemory => answer.stop(Stop::NoMemory),
     }
 }
 
-pub(crate) fn read_name(error: ReadError) -> Result<&'static str, Stop> {
+/// Tells why nothing was read; the program stops where memory ran out, or the source failed.
+pub(crate) fn tell_read_error(answer: &mut Answer, error: ReadError) {
     match error {
-        ReadError::UnexpectedEof => Ok("closed"),
-        ReadError::HandleLimit => Ok("too many handles"),
-        ReadError::NoMemory => Err(Stop::NoMemory),
-        ReadError::ReadFault => Err(Stop::Call),
+        ReadError::UnexpectedEof => answer.put("closed"),
+        ReadError::HandleLimit => answer.put("too many handles"),
+        ReadError::NoMemory => answer.stop(Stop::NoMemory),
+        ReadError::ReadFault => answer.stop(Stop::Call),
     }
 }

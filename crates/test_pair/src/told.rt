@@ -1,58 +1,58 @@
 //! What the converters hand out, as texts.
 
+use crate::shown::tell;
 use ei_event::EiEvent;
 use ei_request::EisRequest;
-use std::alloc::{AllocError, Global};
+use test_table::Answer;
 
-/// An input of two floats, with the time of its frame.
-pub(crate) fn motion_text(
-    alloc: Global,
-    dx: u32,
-    dy: u32,
-    time: u64,
-) -> Result<String, AllocError> {
-    format!(in alloc; "motion {dx} {dy} at {time}")
+/// Tells an input of two floats, with the time of its frame.
+pub(crate) fn tell_motion(answer: &mut Answer, dx: u32, dy: u32, time: u64) {
+    tell(answer, "motion ", &dx);
+    tell(answer, " ", &dy);
+    tell(answer, " at ", &time);
 }
 
-/// A frame.
-pub(crate) fn frame_text(alloc: Global, serial: u32, time: u64) -> Result<String, AllocError> {
-    format!(in alloc; "frame {serial} at {time}")
+/// Tells a frame.
+pub(crate) fn tell_frame(answer: &mut Answer, serial: u32, time: u64) {
+    tell(answer, "frame ", &serial);
+    tell(answer, " at ", &time);
 }
 
-/// Input begins.
-pub(crate) fn start_text(alloc: Global, serial: u32, sequence: u32) -> Result<String, AllocError> {
-    format!(in alloc; "start {serial} by {sequence}")
+/// Tells that input begins.
+pub(crate) fn tell_start(answer: &mut Answer, serial: u32, sequence: u32) {
+    tell(answer, "start ", &serial);
+    tell(answer, " by ", &sequence);
 }
 
-/// What a client asks of a seat.
-pub(crate) fn bind_text(alloc: Global, mask: u64) -> Result<String, AllocError> {
-    format!(in alloc; "bind {mask}")
+/// Tells what a client asks of a seat.
+pub(crate) fn tell_bind(answer: &mut Answer, mask: u64) {
+    tell(answer, "bind ", &mask);
 }
 
 /// What a converter hands out.
 pub(crate) trait Told {
-    /// It as a text.
-    fn text(&self, alloc: Global) -> Result<String, AllocError>;
+    /// Tells what it is.
+    fn tell(&self, answer: &mut Answer);
 }
 
 impl Told for EiEvent {
-    fn text(&self, alloc: Global) -> Result<String, AllocError> {
+    fn tell(&self, answer: &mut Answer) {
         match self {
-            EiEvent::PointerMotion(it) => motion_text(alloc, it.dx.0, it.dy.0, it.time),
-            EiEvent::Frame(it) => frame_text(alloc, it.serial, it.time),
-            EiEvent::DeviceStartEmulating(it) => start_text(alloc, it.serial, it.sequence),
-            _ => String::from_str(alloc, "another"),
+            EiEvent::PointerMotion(it) => tell_motion(answer, it.dx.0, it.dy.0, it.time),
+            EiEvent::Frame(it) => tell_frame(answer, it.serial, it.time),
+            EiEvent::DeviceStartEmulating(it) => tell_start(answer, it.serial, it.sequence),
+            _ => answer.put("another"),
         }
     }
 }
 
 impl Told for EisRequest {
-    fn text(&self, alloc: Global) -> Result<String, AllocError> {
+    fn tell(&self, answer: &mut Answer) {
         match self {
-            EisRequest::PointerMotion(it) => motion_text(alloc, it.dx.0, it.dy.0, it.time),
-            EisRequest::Frame(it) => frame_text(alloc, it.last_serial, it.time),
-            EisRequest::Bind(it) => bind_text(alloc, it.capabilities.bits()),
-            _ => String::from_str(alloc, "another"),
+            EisRequest::PointerMotion(it) => tell_motion(answer, it.dx.0, it.dy.0, it.time),
+            EisRequest::Frame(it) => tell_frame(answer, it.last_serial, it.time),
+            EisRequest::Bind(it) => tell_bind(answer, it.capabilities.bits()),
+            _ => answer.put("another"),
         }
     }
 }

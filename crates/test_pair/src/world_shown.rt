@@ -1,70 +1,58 @@
-//! What is shown of a world's reads and runs.
+//! What is told of a world's reads and runs.
 
-use crate::shown::{id_text, object_text, push_arg, read_name, send_name};
+use crate::shown::{tell, tell_arg, tell_id, tell_object, tell_read_error, tell_send_error};
 use ei_backend::{MessageEnum, PendingRequestResult};
 use ei_wire::Arg;
 use ei_world::{Received, WorldEnd};
 use std::alloc::Global;
-use test_table::Stop;
+use test_table::{Answer, Stop};
 
-/// A message that was read.
-fn message_text<T: MessageEnum>(alloc: Global, message: &T) -> Result<String, Stop> {
-    let object = object_text(alloc, message.object())?;
-    let mut text = format!(in alloc; "{object} {}", message.opcode())?;
-    push_arguments(alloc, &mut text, message)?;
-    Ok(text)
+/// Tells a message that was read.
+fn tell_message<T: MessageEnum>(alloc: Global, answer: &mut Answer, message: &T) {
+    tell_object(answer, message.object());
+    tell(answer, " ", &message.opcode());
+    if let Some(args) = answer.take(message.arguments(alloc)) {
+        tell_args(answer, &args);
+        // Let go by a call: at the end of a scope the drop of each field is proved anew.
+        drop(args);
+    }
 }
 
-/// Adds the values of a message.
-fn push_arguments<T: MessageEnum>(
-    alloc: Global,
-    text: &mut String,
-    message: &T,
-) -> Result<(), Stop> {
-    let args = message.arguments(alloc)?;
-    let done = push_args(alloc, text, &args);
-    drop(args);
-    done
-}
-
-/// Adds values, one behind another.
-fn push_args(alloc: Global, text: &mut String, args: &[Arg<'_>]) -> Result<(), Stop> {
+/// Tells values, one behind another.
+fn tell_args(answer: &mut Answer, args: &[Arg<'_>]) {
     for arg in args {
-        push_arg(alloc, text, arg)?;
+        tell_arg(answer, arg);
     }
-    Ok(())
 }
 
-fn pending_text<T: MessageEnum>(
+fn tell_pending<T: MessageEnum>(
     alloc: Global,
+    answer: &mut Answer,
     pending: &PendingRequestResult<T>,
-) -> Result<String, Stop> {
+) {
     match pending {
-        PendingRequestResult::Request(message) => message_text(alloc, message),
-        PendingRequestResult::InvalidObject(id) => {
-            let id = id_text(alloc, *id)?;
-            Ok(format!(in alloc; "gone {id}")?)
-        }
-        PendingRequestResult::ParseError(_) => Err(Stop::Call),
+        PendingRequestResult::Request(message) => tell_message(alloc, answer, message),
+        PendingRequestResult::InvalidObject(id) => tell_id(answer, "gone ", *id),
+        PendingRequestResult::ParseError(_) => answer.stop(Stop::Call),
     }
 }
 
-/// What a read answers.
-pub(crate) fn received_text(alloc: Global, received: &Option<Received>) -> Result<String, Stop> {
+/// Tells what a read answers.
+pub(crate) fn tell_received(alloc: Global, answer: &mut Answer, received: &Option<Received>) {
     match received {
-        None => Ok(String::from_str(alloc, "nothing")?),
-        Some(Received::Client(pending)) => pending_text(alloc, pending),
-        Some(Received::Server(pending)) => pending_text(alloc, pending),
+        None => answer.put("nothing"),
+        Some(Received::Client(pending)) => tell_pending(alloc, answer, pending),
+        Some(Received::Server(pending)) => tell_pending(alloc, answer, pending),
     }
 }
 
-/// How a run ended.
-pub(crate) fn end_text(alloc: Global, end: Result<(), WorldEnd>) -> Result<String, Stop> {
+/// Tells how a run ended.
+pub(crate) fn tell_end(answer: &mut Answer, end: Result<(), WorldEnd>) {
     match end {
-        Ok(()) => Ok(String::from_str(alloc, "made")?),
-        Err(WorldEnd::BadStep(place)) => Ok(format!(in alloc; "bad {place}")?),
-        Err(WorldEnd::Send(error)) => Ok(String::from_str(alloc, send_name(error)?)?),
-        Err(WorldEnd::Read(error)) => Ok(String::from_str(alloc, read_name(error)?)?),
-        Err(WorldEnd::NoMemory) => Err(Stop::NoMemory),
+        Ok(()) => answer.put("made"),
+        Err(WorldEnd::BadStep(place)) => tell(answer, "bad ", &place),
+        Err(WorldEnd::Send(error)) => tell_send_error(answer, error),
+        Err(WorldEnd::Read(error)) => tell_read_error(answer, error),
+        Err(WorldEnd::NoMemory) => answer.stop(Stop::NoMemory),
     }
 }

@@ -2,85 +2,83 @@
 
 ghost use Rattle.std.specs.Prelude.{◌≡◌, ◌<◌, false, IfOk, length};
 
-use crate::shown::{filled, is_nothing};
+use crate::shown::is_nothing;
 use crate::spelled::{id_of, side_of, values_of};
-use crate::world_shown::received_text;
+use crate::world_shown::tell_received;
 use ei_linked::Side;
-use ei_world::{Step, World};
+use ei_world::{Received, Step, World};
 use std::alloc::Global;
-use test_table::{Stop, count, first, number};
+use test_table::{Answer, Reader, Stop};
 
-/// The steps that a line spells, with `;` between them.
-pub(crate) fn steps_of(alloc: Global, line: &str) -> Result<Vec<Step>, Stop> {
+/// The steps that the words not yet read spell, with `;` between them.
+pub(crate) fn steps_of(alloc: Global, answer: &mut Answer, words: &mut Reader<'_>) -> Vec<Step> {
     let mut steps = Vec::new(alloc);
-    let done = push_steps(alloc, &mut steps, line);
-    filled(steps, done)
-}
-
-/// Adds the steps that a line spells.
-fn push_steps(alloc: Global, steps: &mut Vec<Step>, line: &str) -> Result<(), Stop> {
-    for words in line.split(';') {
-        let words = words.trim();
-        if !words.is_empty() {
-            steps.push(step_of(alloc, words)?)?;
+    for spelled in words.rest().split(';') {
+        if !spelled.trim().is_empty() {
+            let mut step = Reader::new(spelled.trim());
+            let made = step_of(alloc, answer, &mut step);
+            drop(answer.take(steps.push(made)));
+            words.or(step.done(), ());
         }
     }
-    Ok(())
+    steps
 }
 
-fn step_of(alloc: Global, words: &str) -> Result<Step, Stop> {
-    let (name, rest) = first(words);
-    let (side, rest) = first(rest);
-    let side = side_of(side)?;
+fn step_of(alloc: Global, answer: &mut Answer, words: &mut Reader<'_>) -> Step {
+    let name = words.word();
+    let side = side_of(words);
     match name {
-        "call" => call_of(alloc, side, rest),
-        "flush" => Ok(Step::Flush(side)),
-        "deliver" => Ok(Step::Deliver(side, count(rest)?)),
-        "read" => Ok(Step::Read(side)),
-        _ => Err(Stop::Line),
+        "call" => call_of(alloc, answer, side, words),
+        "flush" => Step::Flush(side),
+        "deliver" => Step::Deliver(side, words.count()),
+        "read" => Step::Read(side),
+        _ => {
+            words.miss();
+            Step::Read(side)
+        }
     }
 }
 
 /// `TARGET OPCODE VALUE ..`: a call.
-pub(crate) fn call_of(alloc: Global, side: Side, words: &str) -> Result<Step, Stop> {
-    let (target, rest) = first(words);
-    let (opcode, values) = first(rest);
-    Ok(Step::Call {
+pub(crate) fn call_of(
+    alloc: Global,
+    answer: &mut Answer,
+    side: Side,
+    words: &mut Reader<'_>,
+) -> Step {
+    Step::Call {
         side,
-        target: id_of(target)?,
-        opcode: number(opcode)?,
-        values: values_of(alloc, values)?,
-    })
+        target: id_of(words),
+        opcode: words.number(),
+        values: values_of(alloc, answer, words),
+    }
 }
 
-/// Reads the next message of the side: as a text, or `nothing`.
-pub(crate) fn read(alloc: Global, world: &mut World, side: Side) -> Result<String, Stop> {
+/// The next message of the side, where there is one.
+fn next(answer: &mut Answer, world: &mut World, side: Side) -> Option<Received> {
     if world.is_spent() {
-        return Err(Stop::Call);
+        answer.stop(Stop::Call);
+        return None;
     }
-    let received = world.read(side)?;
-    let text = received_text(alloc, &received);
+    answer.take(world.read(side)).unwrap_or(None)
+}
+
+/// Reads the next message of the side, and tells it, or `nothing`.
+pub(crate) fn read(alloc: Global, answer: &mut Answer, world: &mut World, side: Side) {
+    let received = next(answer, world, side);
+    tell_received(alloc, answer, &received);
     // Let go by a call: at the end of a scope the drop of each field is proved anew.
     drop(received);
-    text
-}
-
-/// Reads the next message of the side. Whether there was one.
-fn reads_one(world: &mut World, side: Side) -> Result<bool, Stop> {
-    if world.is_spent() {
-        return Err(Stop::Call);
-    }
-    Ok(!is_nothing(world.read(side)?))
 }
 
 /// Reads all that is whole at the side: how many messages these are.
-pub(crate) fn read_all(world: &mut World, side: Side) -> Result<usize, Stop> {
+pub(crate) fn read_all(answer: &mut Answer, world: &mut World, side: Side) -> usize {
     let mut many = 0usize;
     for _ in 0..u64::MAX {
-        if !reads_one(world, side)? {
+        if is_nothing(next(answer, world, side)) {
             break;
         }
         many = many.saturating_add(1);
     }
-    Ok(many)
+    many
 }
