@@ -4,14 +4,14 @@ mod joining;
 mod serving;
 
 use self::joining::{fails, join, joins};
-use self::serving::{serve, told, turn};
-use crate::kept::stand;
+use self::serving::{put_told, serve, turn};
+use crate::kept::set;
 use crate::setups::setup_with;
-use crate::texts::word;
+use crate::tables::Calls;
 use ei_backend::{Pieces, Tray};
 use ei_hub::Hub;
 use std::alloc::Global;
-use test_table::{Answers, Stop, first};
+use test_table::{Answer, Reader};
 
 /// A hub over sources and sinks in memory.
 pub(crate) type Clients = Hub<Pieces, Tray>;
@@ -29,45 +29,41 @@ impl Hubs {
     }
 }
 
-impl Answers for Hubs {
-    fn answer(&mut self, alloc: Global, call: &str) -> Result<String, Stop> {
-        let (name, rest) = first(call);
-        answer(alloc, &mut self.hub, name, rest)
-    }
-}
-
 /// What a call answers: `new CAPABILITIES`: a hub in place of that of the lines before; and the calls of the hub.
-fn answer(
-    alloc: Global,
-    hub: &mut Option<Clients>,
-    name: &str,
-    rest: &str,
-) -> Result<String, Stop> {
-    if name == "new" {
-        return make(alloc, hub, rest);
-    }
-    match hub {
-        Some(hub) => called(alloc, hub, name, rest),
-        None => Err(Stop::Line),
+impl Calls for Hubs {
+    fn call(&mut self, alloc: Global, _table: &str, words: &mut Reader<'_>, answer: &mut Answer) {
+        match words.word() {
+            "new" => make(alloc, &mut self.hub, words, answer),
+            name => match &mut self.hub {
+                Some(hub) => called(alloc, hub, name, words, answer),
+                None => words.miss(),
+            },
+        }
     }
 }
 
 /// `new CAPABILITIES`: a hub without clients.
-fn make(alloc: Global, hub: &mut Option<Clients>, rest: &str) -> Result<String, Stop> {
-    let setup = setup_with(rest)?;
-    stand(hub, Hub::new(alloc, setup));
-    word(alloc, "made")
+fn make(alloc: Global, hub: &mut Option<Clients>, words: &mut Reader<'_>, answer: &mut Answer) {
+    let setup = setup_with(words);
+    set(hub, Some(Hub::new(alloc, setup)));
+    answer.put("made");
 }
 
-fn called(alloc: Global, hub: &mut Clients, name: &str, rest: &str) -> Result<String, Stop> {
+fn called(
+    alloc: Global,
+    hub: &mut Clients,
+    name: &str,
+    words: &mut Reader<'_>,
+    answer: &mut Answer,
+) {
     match name {
-        "join" => join(alloc, hub, rest),
-        "fails" => fails(alloc, hub, rest),
-        "joins" => joins(alloc, hub, rest),
-        "count" => Ok(format!(in alloc; "{}", hub.count())?),
-        "serve" => serve(alloc, hub, rest),
-        "turn" => turn(alloc, hub, rest),
-        "told" => told(alloc, hub, rest),
-        _ => Err(Stop::Line),
+        "join" => join(alloc, hub, words, answer),
+        "fails" => fails(alloc, hub, words, answer),
+        "joins" => joins(alloc, hub, words, answer),
+        "count" => answer.display(&hub.count()),
+        "serve" => serve(alloc, hub, words, answer),
+        "turn" => turn(alloc, hub, words, answer),
+        "told" => put_told(alloc, hub, words, answer),
+        _ => words.miss(),
     }
 }

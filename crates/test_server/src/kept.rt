@@ -1,81 +1,69 @@
-//! What is kept of what calls make, and what is let go.
-//!
-//! A large value is let go by a call here, or by `drop`: at the end of a scope the drop of each of its fields is proved anew.
+//! What is kept of what calls make.
 
-use crate::texts::shown;
-use ei_wire::NoMemory;
-use std::alloc::Global;
 use std::fmt::Debug;
-use test_table::Stop;
+use test_table::{Answer, Reader, Stop};
 
 /// Keeps what is there. Whether it was.
-pub(crate) fn keep<T: Drop>(items: &mut Vec<T>, item: Option<T>) -> Result<bool, Stop> {
+pub(crate) fn keep<T: Drop>(items: &mut Vec<T>, item: Option<T>, answer: &mut Answer) -> bool {
     match item {
         Some(item) => {
-            items.push(item)?;
-            Ok(true)
+            answer.take(items.push(item));
+            true
         }
-        None => Ok(false),
+        None => false,
     }
 }
 
-/// Keeps what was made, if it was, and shows it, or why it wasn't.
+/// Shows what was made, or why it wasn't, and keeps it, if it was.
 pub(crate) fn keep_made<T: Debug + Drop, E: Debug + Drop>(
-    alloc: Global,
     items: &mut Vec<T>,
     made: Result<T, E>,
-) -> Result<String, Stop> {
-    let answer = shown(alloc, &made)?;
-    keep(items, made.ok())?;
-    Ok(answer)
-}
-
-/// Puts what was made into its place. Only want of memory keeps it from being made.
-pub(crate) fn put<T: Drop, E: Drop>(place: &mut Option<T>, made: Result<T, E>) -> Result<(), Stop> {
-    match made {
-        Ok(made) => {
-            stand(place, made);
-            Ok(())
-        }
-        Err(_) => Err(Stop::NoMemory),
-    }
+    answer: &mut Answer,
+) {
+    answer.show(&made);
+    keep(items, made.ok(), answer);
 }
 
 /// Lets the value stand in the place.
-pub(crate) fn stand<T: Drop>(place: &mut Option<T>, value: T) {
-    *place = Some(value);
+pub(crate) fn set<T: Drop>(place: &mut T, value: T) {
+    *place = value;
 }
 
-/// Lets what was made stand in place of what is there.
-pub(crate) fn set<T: Drop>(place: &mut T, made: Result<T, Stop>) -> Result<(), Stop> {
-    *place = made?;
-    Ok(())
-}
-
-/// The value, where that was done.
-pub(crate) fn kept_if<T: Drop>(value: T, done: Result<(), Stop>) -> Result<T, Stop> {
-    match done {
-        Ok(()) => Ok(value),
-        Err(stop) => Err(stop),
+/// Lets what is there stand in the place.
+pub(crate) fn set_if<T: Drop>(place: &mut T, value: Option<T>) {
+    if let Some(value) = value {
+        *place = value;
     }
 }
 
-/// Both values, where there are both.
-pub(crate) fn both<A: Drop, B: Drop>(one: A, other: Result<B, Stop>) -> Result<(A, B), Stop> {
-    match other {
-        Ok(other) => Ok((one, other)),
-        Err(stop) => Err(stop),
+/// The value, where there is one; else another, and the program stops.
+pub(crate) fn or<T: Drop, E: Drop>(answer: &mut Answer, made: Result<T, E>, other: T) -> T
+where
+    Stop: From<E>,
+{
+    match made {
+        Ok(value) => {
+            drop(other);
+            value
+        }
+        Err(error) => {
+            answer.stop(Stop::from(error));
+            other
+        }
     }
 }
 
-/// Whether there was memory for it.
-pub(crate) fn or_want(done: Result<(), NoMemory>) -> Result<(), Stop> {
-    Ok(done?)
-}
-
-/// Lets what was made, if it was, stand in the place.
-pub(crate) fn replace<T: Drop, E: Drop>(place: &mut Option<T>, made: Result<T, E>) {
-    if let Ok(made) = made {
-        stand(place, made);
+/// A copy of the key, where there is one; else the line is wrong.
+pub(crate) fn copied<K: Clone + Drop>(
+    key: Option<&K>,
+    words: &mut Reader<'_>,
+    answer: &mut Answer,
+) -> Option<K> {
+    match key {
+        Some(key) => answer.take(key.clone()),
+        None => {
+            words.miss();
+            None
+        }
     }
 }

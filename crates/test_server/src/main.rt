@@ -10,7 +10,6 @@
 //! Begin with `tables`.
 #![tactic(auto)]
 
-mod capabilities;
 mod handshakes;
 mod hub;
 mod kept;
@@ -37,23 +36,25 @@ use test_table::{Answers, Stop, count_right};
 fn main(rt: HostRuntime) -> Result<(), Stop> {
     let alloc = rt.alloc();
     let clock = Readings::new(alloc, &[])?;
-    let tables = Tables::new(
+    let mut tables = Tables::new(
         Greeting::new(alloc),
         World::new(alloc, clock),
         Servers::new(),
         Hubs::new(),
         Records::new(alloc),
     );
-    tell(&rt, tables)
+    let told = tell(&rt, &mut tables);
+    drop(tables);
+    told
 }
 
 /// Tells how many lines of the tables are as they should be.
-fn tell<R, A>(rt: &R, mut tables: A) -> Result<(), Stop>
+fn tell<R, A>(rt: &R, tables: &mut A) -> Result<(), Stop>
 where
     R: Input + Print + AllocGlobal,
-    A: Answers + Drop,
+    A: Answers,
 {
-    let right = count_right(rt, &mut tables)?;
+    let right = count_right(rt, tables)?;
     println!(rt; "as they should be: {right}")?;
     Ok(())
 }

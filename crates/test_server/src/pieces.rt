@@ -1,10 +1,10 @@
 //! What a client sends, in pieces, and the clock of a server.
 
-use crate::kept::{kept_if, or_want};
+use crate::kept::or;
 use ei_backend::{Pieces, Readings};
 use ei_spec::Handle;
 use std::alloc::Global;
-use test_table::{Stop, bytes, count, id, joined};
+use test_table::{Answer, Stop, bytes, count, id, joined};
 
 /// The most bytes of a piece.
 const MOST_BYTES: usize = 65536;
@@ -13,21 +13,28 @@ const MOST_BYTES: usize = 65536;
 const MOST_HANDLES: usize = 64;
 
 /// The bytes of hexadecimal digits, two for each byte, with blanks between them.
-pub(crate) fn bytes_of(alloc: Global, digits: &str) -> Result<Vec<u8>, Stop> {
-    let digits = joined(alloc, digits)?;
-    bytes(alloc, digits.as_str())
+pub(crate) fn bytes_of(alloc: Global, digits: &str, answer: &mut Answer) -> Vec<u8> {
+    let digits = or(answer, joined(alloc, digits), String::new(alloc));
+    let bytes = or(answer, bytes(alloc, digits.as_str()), Vec::new(alloc));
+    drop(digits);
+    bytes
+}
+
+/// So many handles.
+pub(crate) fn handles_of(alloc: Global, count: usize, answer: &mut Answer) -> Vec<Handle> {
+    or(answer, vec![in alloc; Handle(7); count], Vec::new(alloc))
 }
 
 /// The bytes in pieces.
-pub(crate) fn in_pieces(alloc: Global, bytes: &[u8]) -> Result<Pieces, Stop> {
+pub(crate) fn in_pieces(alloc: Global, bytes: &[u8], answer: &mut Answer) -> Pieces {
     let mut pieces = Pieces::new(alloc);
-    let pushed = push_pieces(alloc, &mut pieces, bytes, MOST_BYTES, 0);
-    kept_if(pieces, pushed)
+    push_pieces(alloc, &mut pieces, bytes, MOST_BYTES, 0, answer);
+    pieces
 }
 
 /// The parts, each a piece.
-pub(crate) fn source_of(alloc: Global, parts: &str) -> Result<Pieces, Stop> {
-    pieces_of(alloc, "each", parts.trim_end(), 0)
+pub(crate) fn source_of(alloc: Global, parts: &str, answer: &mut Answer) -> Pieces {
+    pieces_of(alloc, "each", parts.trim_end(), 0, answer)
 }
 
 /// The parts in pieces of this cut, with so many handles.
@@ -36,41 +43,44 @@ pub(crate) fn pieces_of(
     cut: &str,
     parts: &str,
     handles: usize,
-) -> Result<Pieces, Stop> {
+    answer: &mut Answer,
+) -> Pieces {
     let mut pieces = Pieces::new(alloc);
-    let pushed = match cut {
-        "each" => push_parts(alloc, &mut pieces, parts, handles),
-        _ => push_cut(alloc, &mut pieces, cut, parts, handles),
-    };
-    kept_if(pieces, pushed)
-}
-
-/// The pieces, of which the take of that number fails.
-pub(crate) fn failing_at(mut pieces: Pieces, take: u32) -> Result<Pieces, Stop> {
-    let failing = pieces.fail_at(take);
-    kept_if(pieces, or_want(failing))
+    match cut {
+        "each" => push_parts(alloc, &mut pieces, parts, handles, answer),
+        _ => {
+            let size = or(answer, count(cut), 0);
+            push_part(alloc, &mut pieces, parts, size, handles, answer);
+        }
+    }
+    pieces
 }
 
 /// Adds the parts, each a piece, with so many handles each.
-fn push_parts(alloc: Global, pieces: &mut Pieces, parts: &str, handles: usize) -> Result<(), Stop> {
-    for part in parts.split(' ') {
-        let part = bytes(alloc, part)?;
-        push_pieces(alloc, pieces, &part, MOST_BYTES, handles)?;
-    }
-    Ok(())
-}
-
-/// Adds the parts in pieces of this cut, with so many handles.
-fn push_cut(
+fn push_parts(
     alloc: Global,
     pieces: &mut Pieces,
-    cut: &str,
     parts: &str,
     handles: usize,
-) -> Result<(), Stop> {
-    let size = count(cut)?;
-    let whole = bytes_of(alloc, parts)?;
-    push_pieces(alloc, pieces, &whole, size, handles)
+    answer: &mut Answer,
+) {
+    for part in parts.split(' ') {
+        push_part(alloc, pieces, part, MOST_BYTES, handles, answer);
+    }
+}
+
+/// Adds the bytes of a part in pieces, each of so many bytes, with so many handles.
+fn push_part(
+    alloc: Global,
+    pieces: &mut Pieces,
+    part: &str,
+    size: usize,
+    handles: usize,
+    answer: &mut Answer,
+) {
+    let bytes = bytes_of(alloc, part, answer);
+    push_pieces(alloc, pieces, &bytes, size, handles, answer);
+    drop(bytes);
 }
 
 /// Adds the bytes in pieces, each of so many bytes, but for the last one, which may have fewer. So many handles come with
@@ -81,14 +91,14 @@ fn push_pieces(
     bytes: &[u8],
     size: usize,
     handles: usize,
-) -> Result<(), Stop> {
+    answer: &mut Answer,
+) {
     let mut left = handles;
     for chunk in bytes.chunks(size.max(1)) {
         let with = left.min(MOST_HANDLES);
         left -= with;
-        push_piece(alloc, pieces, chunk, with)?;
+        push_piece(alloc, pieces, chunk, with, answer);
     }
-    Ok(())
 }
 
 /// Adds a piece of these bytes and so many handles.
@@ -97,22 +107,37 @@ fn push_piece(
     pieces: &mut Pieces,
     bytes: &[u8],
     handles: usize,
-) -> Result<(), Stop> {
-    let handles = vec![in alloc; Handle(7); handles]?;
+    answer: &mut Answer,
+) {
+    let handles = handles_of(alloc, handles, answer);
     if bytes.is_empty() || bytes.len() > MOST_BYTES || handles.len() > MOST_HANDLES {
-        return Err(Stop::Line);
+        answer.stop(Stop::Line);
+    } else {
+        answer.take(pieces.push(bytes, &handles));
     }
-    pieces.push(bytes, &handles)?;
-    Ok(())
+    drop(handles);
 }
 
 /// A clock of these readings, with that sign between them.
-pub(crate) fn clock_of(alloc: Global, text: &str, between: char) -> Result<Readings, Stop> {
+pub(crate) fn clock_of(
+    alloc: Global,
+    text: &str,
+    between: char,
+    answer: &mut Answer,
+) -> Option<Readings> {
     let mut readings = Vec::new(alloc);
-    if !text.is_empty() {
-        for reading in text.split(between) {
-            readings.push(id(reading)?)?;
-        }
+    for reading in text.split(between) {
+        push_reading(&mut readings, reading, answer);
     }
-    Ok(Readings::new(alloc, &readings)?)
+    let clock = answer.take(Readings::new(alloc, &readings));
+    drop(readings);
+    clock
+}
+
+/// Adds the reading of a word, if it has letters.
+fn push_reading(readings: &mut Vec<u64>, word: &str, answer: &mut Answer) {
+    if !word.is_empty() {
+        let reading = or(answer, id(word), 0);
+        answer.take(readings.push(reading));
+    }
 }

@@ -1,65 +1,55 @@
 //! What is told of sessions, in words.
 
+use crate::texts::put_made;
 use ei_request::EisRequest;
 use ei_serve::Ended;
 use ei_types::Error;
-use ei_wire::NoMemory;
 use reis_report::request_line;
-use std::alloc::{AllocError, Global};
+use std::alloc::Global;
+use test_table::Answer;
 
-/// How a session ended.
-pub(crate) fn ended_text(
-    alloc: Global,
-    answer: &Result<Ended, Error>,
-) -> Result<String, AllocError> {
-    match answer {
-        Ok(Ended::Disconnect) => String::from_str(alloc, "disconnect"),
-        Ok(Ended::End) => String::from_str(alloc, "eof"),
-        Err(error) => error_text(alloc, error),
+/// Adds how a session ended.
+pub(crate) fn put_ended(answer: &mut Answer, ended: &Result<Ended, Error>) {
+    match ended {
+        Ok(Ended::Disconnect) => answer.put("disconnect"),
+        Ok(Ended::End) => answer.put("eof"),
+        Err(error) => put_error(answer, error),
     }
 }
 
-/// An error.
-pub(crate) fn error_text(alloc: Global, error: &Error) -> Result<String, AllocError> {
-    format!(in alloc; "error {error}")
+/// Adds an error.
+pub(crate) fn put_error(answer: &mut Answer, error: &Error) {
+    answer.put("error ");
+    answer.display(error);
 }
 
-/// The requests by their lines, with slashes between them; `nothing` where there is none.
-pub(crate) fn asked_text(alloc: Global, requests: &[EisRequest]) -> Result<String, NoMemory> {
-    let mut text = String::new(alloc);
-    match push_requests(alloc, &mut text, requests) {
-        Ok(()) => or_nothing(text),
-        Err(error) => {
-            drop(text);
-            Err(error)
+/// Adds the requests by their lines, with slashes between them; `nothing` where there is none.
+pub(crate) fn put_asked(alloc: Global, requests: &[EisRequest], answer: &mut Answer) {
+    match requests.split_first() {
+        Some((request, others)) => {
+            put_line(alloc, request, answer);
+            for request in others {
+                answer.put(" / ");
+                put_line(alloc, request, answer);
+            }
         }
+        None => answer.put("nothing"),
     }
 }
 
-/// Adds the requests by their lines, with slashes between them.
-fn push_requests(
-    alloc: Global,
-    text: &mut String,
-    requests: &[EisRequest],
-) -> Result<(), NoMemory> {
-    for request in requests {
-        if !text.is_empty() {
-            text.push_str(" / ")?;
-        }
-        text.push_str(request_line(alloc, request)?.as_str())?;
+/// Adds the line of a request.
+pub(crate) fn put_line(alloc: Global, request: &EisRequest, answer: &mut Answer) {
+    if let Some(line) = answer.take(request_line(alloc, request)) {
+        answer.put(line.as_str());
+        drop(line);
     }
-    Ok(())
 }
 
-/// The bytes in hexadecimal digits; `nothing` where there is none.
-pub(crate) fn digits_text(alloc: Global, sent: &[u8]) -> Result<String, NoMemory> {
-    or_nothing(hex::encode(alloc, sent)?)
-}
-
-/// The text; `nothing` where it is empty.
-pub(crate) fn or_nothing(mut text: String) -> Result<String, NoMemory> {
-    if text.is_empty() {
-        text.push_str("nothing")?;
+/// Adds the bytes in hexadecimal digits; `nothing` where there is none.
+pub(crate) fn put_digits(alloc: Global, bytes: &[u8], answer: &mut Answer) {
+    if bytes.is_empty() {
+        answer.put("nothing");
+    } else {
+        put_made(answer, hex::encode(alloc, bytes));
     }
-    Ok(text)
 }

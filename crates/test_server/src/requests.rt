@@ -11,42 +11,47 @@ mod world;
 
 use self::client_requests::{ask, ask_elsewhere};
 pub(crate) use self::connecting::Greeting;
-use self::ends::{disconnect, read, remove_device, remove_seat};
+use self::ends::{disconnect, put_no_object, remove_device, remove_seat, rest_of};
 use self::making::{add_device, add_object, add_seat, bear, leave_ids};
-use self::telling::{connection, device, interface, keys, requests, seat};
+use self::telling::{put_connection, put_device, put_interface, put_keys, put_requests, put_seat};
 use self::world::World;
-use crate::texts::word;
+use crate::tables::Calls;
 use std::alloc::Global;
-use test_table::{Answers, Stop, first, joined};
-
-impl Answers for Greeting {
-    fn answer(&mut self, _alloc: Global, call: &str) -> Result<String, Stop> {
-        let (name, rest) = first(call);
-        answer(self, name, rest)
-    }
-
-    fn is_wanted(&self, alloc: Global, found: &str, wanted: &str) -> Result<bool, Stop> {
-        Ok(joined(alloc, found)? == joined(alloc, wanted)?)
-    }
-}
+use test_table::{Answer, Reader};
 
 /// What a call answers:
 /// - `greet BYTES`: how many bytes the client sends until the connection;
 /// - `forget`: nothing, and the client sends none;
 /// - `connect SERIAL`: what the client told of itself, and how many interfaces both ends have; begins with a fresh
 ///   connection.
-fn answer(greeting: &mut Greeting, name: &str, rest: &str) -> Result<String, Stop> {
-    match name {
-        "greet" => greeting.send(rest),
-        "forget" => {
-            greeting.forget();
-            word(greeting.alloc, "done")
+impl Calls for Greeting {
+    fn call(&mut self, _alloc: Global, _table: &str, words: &mut Reader<'_>, answer: &mut Answer) {
+        match words.word() {
+            "greet" => self.send(words, answer),
+            "forget" => self.forget(answer),
+            "connect" => self.connect(words, answer),
+            name => match &mut self.world {
+                Some(world) => called(world, name, words, answer),
+                None => words.miss(),
+            },
         }
-        "connect" => greeting.connect(rest),
-        _ => match &mut greeting.world {
-            Some(world) => made(world, name, rest),
-            None => Err(Stop::Line),
-        },
+    }
+}
+
+/// What a call answers: what it tells of a connection, a seat, a device, or the last requests.
+fn called(world: &mut World, name: &str, words: &mut Reader<'_>, answer: &mut Answer) {
+    match name {
+        "connection" => put_connection(world, answer),
+        "interface" => put_interface(world, words, answer),
+        "seat" => put_seat(world, words, answer),
+        "device" => put_device(world, words, answer),
+        "seats" | "devices" => put_keys(world, name, words, answer),
+        "requests" => put_requests(world, answer),
+        "read" | "readings" | "next-serial" | "with-serial" => rest_of(world, name, words, answer),
+        _ => {
+            made(world, name, words, answer);
+            world.put_sent(answer);
+        }
     }
 }
 
@@ -56,33 +61,20 @@ fn answer(greeting: &mut Greeting, name: &str, rest: &str) -> Result<String, Sto
 /// - `add-seat`, `add-device`, `add-object`: the key that was made, or why none was;
 /// - `ids-left COUNT`: nothing, and lets so many own ids be left;
 /// - `remove-seat PLACE`, `remove-device PLACE`, `disconnect REASON TEXT`: whether it is done;
+/// - `no-object ID`: whether the client is told that no object has the id;
 /// - the other events of a device.
-fn made(world: &mut World, name: &str, rest: &str) -> Result<String, Stop> {
-    let answer = match name {
-        "ask" => ask(world, rest)?,
-        "ask-elsewhere" => ask_elsewhere(world, rest)?,
-        "add-seat" => add_seat(world, rest)?,
-        "add-device" => add_device(world, rest)?,
-        "add-object" => add_object(world, rest)?,
-        "ids-left" => leave_ids(world, rest)?,
-        "remove-seat" => remove_seat(world, rest)?,
-        "remove-device" => remove_device(world, rest)?,
-        "disconnect" => disconnect(world, rest)?,
-        "resumed" | "paused" | "start" | "stop" | "frame" => bear(world, name, rest)?,
-        _ => return told(world, name, rest),
-    };
-    world.with_sent(answer)
-}
-
-/// What a call answers: what it tells of a connection, a seat, a device, or the last requests.
-fn told(world: &mut World, name: &str, rest: &str) -> Result<String, Stop> {
+fn made(world: &mut World, name: &str, words: &mut Reader<'_>, answer: &mut Answer) {
     match name {
-        "connection" => connection(world),
-        "interface" => interface(world, rest),
-        "seat" => seat(world, rest),
-        "device" => device(world, rest),
-        "seats" | "devices" => keys(world, name, rest),
-        "requests" => requests(world),
-        _ => read(world, name, rest),
+        "ask" => ask(world, words, answer),
+        "ask-elsewhere" => ask_elsewhere(world, words, answer),
+        "add-seat" => add_seat(world, words, answer),
+        "add-device" => add_device(world, words, answer),
+        "add-object" => add_object(world, words, answer),
+        "ids-left" => leave_ids(world, words, answer),
+        "remove-seat" => remove_seat(world, words, answer),
+        "remove-device" => remove_device(world, words, answer),
+        "disconnect" => disconnect(world, words, answer),
+        "no-object" => put_no_object(world, words, answer),
+        _ => bear(world, name, words, answer),
     }
 }

@@ -4,12 +4,13 @@ mod feeding;
 mod starting;
 mod telling;
 
-use self::feeding::{done, feed, feed_cut, sent};
+use self::feeding::{feed, feed_cut, put_done, sent};
 use self::starting::{start, start_unlimited};
-use self::telling::{requests, told};
+use self::telling::{put_requests, put_told};
+use crate::tables::Calls;
 use reis_server::Server;
 use std::alloc::Global;
-use test_table::{Answers, Stop, first};
+use test_table::{Answer, Reader};
 
 /// The server of the lines before.
 #[derive(Drop)]
@@ -24,29 +25,19 @@ impl Servers {
     }
 }
 
-impl Answers for Servers {
-    fn answer(&mut self, alloc: Global, call: &str) -> Result<String, Stop> {
-        let (name, rest) = first(call);
-        answer(alloc, &mut self.server, name, rest)
-    }
-}
-
 /// What a call answers:
 /// - `start SERIAL CAPABILITIES PIECES` and `unlimited SERIAL CAPABILITIES`: whether a server started;
 /// - the calls of the server.
-fn answer(
-    alloc: Global,
-    server: &mut Option<Server>,
-    name: &str,
-    rest: &str,
-) -> Result<String, Stop> {
-    match name {
-        "start" => start(alloc, server, rest),
-        "unlimited" => start_unlimited(alloc, server, rest),
-        _ => match server {
-            Some(server) => called(alloc, server, name, rest),
-            None => Err(Stop::Line),
-        },
+impl Calls for Servers {
+    fn call(&mut self, alloc: Global, _table: &str, words: &mut Reader<'_>, answer: &mut Answer) {
+        match words.word() {
+            "start" => start(alloc, &mut self.server, words, answer),
+            "unlimited" => start_unlimited(alloc, &mut self.server, words, answer),
+            name => match &mut self.server {
+                Some(server) => called(alloc, server, name, words, answer),
+                None => words.miss(),
+            },
+        }
     }
 }
 
@@ -58,14 +49,20 @@ fn answer(
 /// - `next` and `requests`: the next request, and all that wait;
 /// - `unsent`, `unsent-handles`, `answer` and `over`: what waits to be sent, and how the session ended;
 /// - `client`: its context type, and its name where it told one.
-fn called(alloc: Global, server: &mut Server, name: &str, rest: &str) -> Result<String, Stop> {
+fn called(
+    alloc: Global,
+    server: &mut Server,
+    name: &str,
+    words: &mut Reader<'_>,
+    answer: &mut Answer,
+) {
     match name {
-        "feed" => feed(alloc, server, rest),
-        "cut" => feed_cut(alloc, server, rest),
-        "end" => done(alloc, server.end_of_input()),
-        "sent" => sent(alloc, server, rest),
-        "next" => requests(alloc, server, 1),
-        "requests" => requests(alloc, server, 100),
-        _ => told(alloc, server, name),
+        "feed" => feed(alloc, server, words, answer),
+        "cut" => feed_cut(alloc, server, words, answer),
+        "end" => put_done(answer, server.end_of_input()),
+        "sent" => sent(server, words, answer),
+        "next" => put_requests(alloc, server, 1, answer),
+        "requests" => put_requests(alloc, server, 100, answer),
+        _ => put_told(alloc, server, name, answer),
     }
 }

@@ -1,30 +1,44 @@
 //! What a server is started with.
 
-ghost use Rattle.std.specs.Prelude.{◌≤◌, IfOk};
+ghost use Rattle.std.specs.Prelude.{◌≤◌};
 ghost use Rattle.ei_types.specs.Capability.{bits_of, all_bits};
 
-use crate::capabilities::capabilities_of;
 use ei_serve::Setup;
-use test_table::{Stop, number};
+use ei_types::DeviceCapabilities;
+use test_table::Reader;
 
-/// The setup of these words.
-pub(crate) fn setup_of(serial: &str, bits: &str, pieces: &str) -> Result<Setup, Stop>
-    ensures { IfOk result (λ setup. bits_of setup.capabilities ≤ all_bits) }
+/// The capabilities of the bits that the next word says.
+pub(crate) fn capabilities_of(words: &mut Reader<'_>) -> DeviceCapabilities
+    ensures { bits_of result ≤ all_bits }
 {
-    Ok(Setup {
-        initial_serial: number(serial)?,
-        capabilities: capabilities_of(bits)?,
-        pieces: number(pieces)?,
-    })
+    let bits = words.id();
+    match DeviceCapabilities::from_bits(bits) {
+        Some(capabilities) => capabilities,
+        None => {
+            words.miss();
+            DeviceCapabilities::all()
+        }
+    }
 }
 
-/// A setup with serial 5, for 200 pieces.
-pub(crate) fn setup_with(bits: &str) -> Result<Setup, Stop>
-    ensures { IfOk result (λ setup. bits_of setup.capabilities ≤ all_bits) }
+/// The setup of the next words: the serial, the capabilities, and how many pieces are taken.
+pub(crate) fn setup_of(words: &mut Reader<'_>) -> Setup
+    ensures { bits_of result.capabilities ≤ all_bits }
 {
-    Ok(Setup {
+    Setup {
+        initial_serial: words.number(),
+        capabilities: capabilities_of(words),
+        pieces: words.number(),
+    }
+}
+
+/// A setup with serial 5 and the capabilities of the next word, for 200 pieces.
+pub(crate) fn setup_with(words: &mut Reader<'_>) -> Setup
+    ensures { bits_of result.capabilities ≤ all_bits }
+{
+    Setup {
         initial_serial: 5,
-        capabilities: capabilities_of(bits)?,
+        capabilities: capabilities_of(words),
         pieces: 200,
-    })
+    }
 }

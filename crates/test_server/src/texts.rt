@@ -1,22 +1,48 @@
-//! Values and words as texts.
+//! Values as words of an answer.
 
 use std::alloc::{AllocError, Global};
-use std::fmt::Debug;
-use test_table::Stop;
+use std::fmt::{Debug, Display};
+use test_table::{Answer, Stop};
 
-/// A value by its name.
-pub(crate) fn shown<T: Debug>(alloc: Global, value: &T) -> Result<String, Stop> {
-    Ok(format!(in alloc; "{value:?}")?)
+/// Adds a value as it is shown for developers, and a blank.
+pub(crate) fn show<T: Debug>(answer: &mut Answer, value: &T) {
+    answer.show(value);
+    answer.put(" ");
 }
 
-/// The number in decimal digits.
-pub(crate) fn number_text(alloc: Global, number: usize) -> Result<String, Stop> {
-    Ok(format!(in alloc; "{number}")?)
+/// Adds a value as it is displayed, and a blank.
+pub(crate) fn display<T: Display>(answer: &mut Answer, value: &T) {
+    answer.display(value);
+    answer.put(" ");
 }
 
-/// The word.
-pub(crate) fn word(alloc: Global, word: &str) -> Result<String, Stop> {
-    Ok(String::from_str(alloc, word)?)
+/// Adds the text that was made; where none was, the program stops.
+pub(crate) fn put_made<E: Drop>(answer: &mut Answer, made: Result<String, E>)
+where
+    Stop: From<E>,
+{
+    match made {
+        Ok(text) => {
+            answer.put(text.as_str());
+            drop(text);
+        }
+        Err(error) => answer.stop(Stop::from(error)),
+    }
+}
+
+/// Adds what a part of the answer tells; `nothing` where it has no letters.
+pub(crate) fn put_part(answer: &mut Answer, part: Result<String, Stop>) {
+    match part {
+        Ok(text) => {
+            answer.put(if text.is_empty() {
+                "nothing"
+            } else {
+                text.as_str()
+            });
+            drop(text);
+        }
+        Err(stop) => answer.stop(stop),
+    }
 }
 
 /// A text of so many letters.
@@ -26,12 +52,4 @@ pub(crate) fn letters(alloc: Global, count: u32) -> Result<String, AllocError> {
         text.push('a')?;
     }
     Ok(text)
-}
-
-/// Nothing, or that a call answers otherwise than it must.
-pub(crate) fn or_stop<T: Drop, E: Drop>(done: Result<T, E>) -> Result<(), Stop> {
-    match done {
-        Ok(_) => Ok(()),
-        Err(_) => Err(Stop::Call),
-    }
 }

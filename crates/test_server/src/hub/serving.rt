@@ -2,63 +2,57 @@
 
 use super::Clients;
 use crate::pieces::clock_of;
-use crate::reports::ended_text;
-use crate::texts::word;
+use crate::reports::{put_ended, put_line};
+use crate::texts::put_made;
 use ei_request::EisRequest;
-use ei_serve::Ended;
-use ei_types::Error;
-use ei_wire::NoMemory;
-use reis_report::request_line;
-use std::alloc::{AllocError, Global};
-use test_table::{Stop, first, number};
+use std::alloc::Global;
+use test_table::{Answer, Reader};
 
 /// `serve READING,..`: serves all, over a clock of these readings.
-pub(crate) fn serve(alloc: Global, hub: &mut Clients, rest: &str) -> Result<String, Stop> {
-    let mut clock = clock_of(alloc, rest.trim_end(), ',')?;
-    hub.serve_all(&mut clock);
-    drop(clock);
-    word(alloc, "served")
+pub(crate) fn serve(alloc: Global, hub: &mut Clients, words: &mut Reader<'_>, answer: &mut Answer) {
+    if let Some(mut clock) = clock_of(alloc, words.word(), ',', answer) {
+        hub.serve_all(&mut clock);
+        drop(clock);
+        answer.put("served");
+    }
 }
 
 /// `turn CLIENT READING,..`: one turn of the client, over a clock of these readings.
-pub(crate) fn turn(alloc: Global, hub: &mut Clients, rest: &str) -> Result<String, Stop> {
-    let (client, readings) = first(rest);
-    let client = number(client)?;
+pub(crate) fn turn(alloc: Global, hub: &mut Clients, words: &mut Reader<'_>, answer: &mut Answer) {
+    let client = words.number();
+    let Some(mut clock) = clock_of(alloc, words.word(), ',', answer) else {
+        return;
+    };
     if client >= hub.count() || hub.end(client).is_some() {
-        return Err(Stop::Line);
+        words.miss();
+    } else {
+        hub.turn(client, &mut clock);
+        answer.put("turned");
     }
-    let mut clock = clock_of(alloc, readings.trim_end(), ',')?;
-    hub.turn(client, &mut clock);
     drop(clock);
-    word(alloc, "turned")
 }
 
 /// `told CLIENT`: how the client ended, what it asked for, and what it was sent.
-pub(crate) fn told(alloc: Global, hub: &Clients, rest: &str) -> Result<String, Stop> {
-    let client = number(rest.trim_end())?;
+pub(crate) fn put_told(alloc: Global, hub: &Clients, words: &mut Reader<'_>, answer: &mut Answer) {
+    let client = words.number();
     if client >= hub.count() {
-        return Err(Stop::Line);
+        words.miss();
+        return;
     }
-    let ended = end_text(alloc, hub.end(client))?;
-    let asked = requests_text(alloc, hub.requests(client))?;
-    let sent = hex::encode(alloc, hub.sink(client).bytes())?;
-    Ok(format!(in alloc; "{ended} {asked} {sent}")?)
-}
-
-/// How a client ended.
-fn end_text(alloc: Global, end: Option<&Result<Ended, Error>>) -> Result<String, AllocError> {
-    match end {
-        None => String::from_str(alloc, "goes on"),
-        Some(end) => ended_text(alloc, end),
+    match hub.end(client) {
+        Some(ended) => put_ended(answer, ended),
+        None => answer.put("goes on"),
     }
+    answer.put(" ");
+    put_lines(alloc, hub.requests(client), answer);
+    answer.put(" ");
+    put_made(answer, hex::encode(alloc, hub.sink(client).bytes()));
 }
 
 /// The requests by their lines, a slash behind each.
-fn requests_text(alloc: Global, requests: &[EisRequest]) -> Result<String, NoMemory> {
-    let mut text = String::new(alloc);
+fn put_lines(alloc: Global, requests: &[EisRequest], answer: &mut Answer) {
     for request in requests {
-        text.push_str(request_line(alloc, request)?.as_str())?;
-        text.push_str(" / ")?;
+        put_line(alloc, request, answer);
+        answer.put(" / ");
     }
-    Ok(text)
 }

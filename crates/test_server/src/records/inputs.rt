@@ -1,6 +1,6 @@
 //! Inputs and frames, with plain values.
 
-use crate::kept::both;
+use crate::kept::or;
 use crate::texts::letters;
 use ei_request::{
     Button, Device, EisRequest, Frame, GesturePinch, GestureSwipe, PointerMotion, TextUtf8,
@@ -9,10 +9,26 @@ use ei_request::{
 use ei_types::ButtonState;
 use ei_wire::{EiText, RawFloat};
 use std::alloc::Global;
-use test_table::Stop;
+use test_table::Answer;
+
+/// The input of that name and that time, with so many letters, or of that touch, where it has one.
+pub(crate) fn input_of(
+    alloc: Global,
+    name: &str,
+    device: Device,
+    number: u32,
+    time: u64,
+    answer: &mut Answer,
+) -> Option<EisRequest> {
+    match name {
+        "text" => texting(alloc, device, number, time, answer),
+        "down" | "move" | "up" | "cancel" => Some(touching(name, device, number, time)),
+        _ => Some(plain(name, device, time)),
+    }
+}
 
 /// A frame, a button, a swipe, a pinch, or else a motion, of that time.
-pub(crate) fn plain(name: &str, device: Device, time: u64) -> EisRequest {
+fn plain(name: &str, device: Device, time: u64) -> EisRequest {
     match name {
         "frame" => EisRequest::Frame(Frame {
             device,
@@ -46,63 +62,57 @@ pub(crate) fn plain(name: &str, device: Device, time: u64) -> EisRequest {
     }
 }
 
-/// What a touch does, of that time.
-pub(crate) fn touching(
-    name: &str,
-    device: Device,
-    touch_id: u32,
-    time: u64,
-) -> Result<EisRequest, Stop> {
+/// What a touch does, of that time: it begins, moves, ends, or else is cancelled.
+pub(crate) fn touching(name: &str, device: Device, touch_id: u32, time: u64) -> EisRequest {
     match name {
-        "down" => Ok(touch_down(device, touch_id, time)),
-        "move" => Ok(EisRequest::TouchMotion(TouchMotion {
+        "down" => EisRequest::TouchDown(TouchDown {
             device,
             time,
             touch_id,
             x: RawFloat(0),
             y: RawFloat(0),
-        })),
-        "up" => Ok(EisRequest::TouchUp(TouchUp {
+        }),
+        "move" => EisRequest::TouchMotion(TouchMotion {
             device,
             time,
             touch_id,
-        })),
-        "cancel" => Ok(EisRequest::TouchCancel(TouchCancel {
+            x: RawFloat(0),
+            y: RawFloat(0),
+        }),
+        "up" => EisRequest::TouchUp(TouchUp {
             device,
             time,
             touch_id,
-        })),
-        _ => {
-            drop(device);
-            Err(Stop::Line)
-        }
+        }),
+        _ => EisRequest::TouchCancel(TouchCancel {
+            device,
+            time,
+            touch_id,
+        }),
     }
 }
 
-/// The begin of a touch.
-pub(crate) fn touch_down(device: Device, touch_id: u32, time: u64) -> EisRequest {
-    EisRequest::TouchDown(TouchDown {
-        device,
-        time,
-        touch_id,
-        x: RawFloat(0),
-        y: RawFloat(0),
-    })
-}
-
 /// A text of so many bytes.
-pub(crate) fn texting(
+fn texting(
     alloc: Global,
     device: Device,
     many: u32,
     time: u64,
-) -> Result<EisRequest, Stop> {
-    let (device, text) = both(device, text_of(alloc, many))?;
-    Ok(EisRequest::TextUtf8(TextUtf8 { device, time, text }))
+    answer: &mut Answer,
+) -> Option<EisRequest> {
+    match text_of(alloc, many, answer) {
+        Some(text) => Some(EisRequest::TextUtf8(TextUtf8 { device, time, text })),
+        None => {
+            drop(device);
+            None
+        }
+    }
 }
 
 /// So many letters.
-fn text_of(alloc: Global, many: u32) -> Result<EiText, Stop> {
-    let text = letters(alloc, many)?;
-    Ok(EiText::new(alloc, text.as_str())?)
+fn text_of(alloc: Global, many: u32, answer: &mut Answer) -> Option<EiText> {
+    let letters = or(answer, letters(alloc, many), String::new(alloc));
+    let text = answer.take(EiText::new(alloc, letters.as_str()));
+    drop(letters);
+    text
 }

@@ -1,113 +1,113 @@
 //! Items by the words that spell them.
 
-use super::inputs::{plain, texting, touch_down, touching};
+use super::inputs::{input_of, touching};
 use super::keys::Keys;
-use crate::capabilities::capabilities_of;
-use crate::kept::kept_if;
+use crate::kept::{copied, keep};
+use crate::setups::capabilities_of;
 use ei_request::{
     Bind, Device, DeviceClosed, DeviceStartEmulating, DeviceStopEmulating, EisRequest, Ready,
-    RequestDevice, Seat,
+    RequestDevice,
 };
-use ei_types::DeviceCapabilities;
 use std::alloc::Global;
-use test_table::{Stop, count, first, id, number};
+use test_table::{Answer, Reader, count};
 
 /// The items that a line spells, with `;` between them.
-pub(crate) fn items_of(alloc: Global, keys: &Keys, line: &str) -> Result<Vec<EisRequest>, Stop> {
-    let mut items = Vec::new(alloc);
-    let pushed = push_all(alloc, keys, line, &mut items);
-    kept_if(items, pushed)
-}
-
-/// Adds the items that a line spells.
-fn push_all(
+pub(crate) fn items_of(
     alloc: Global,
     keys: &Keys,
     line: &str,
-    items: &mut Vec<EisRequest>,
-) -> Result<(), Stop> {
+    answer: &mut Answer,
+) -> Vec<EisRequest> {
+    let mut items = Vec::new(alloc);
     for words in line.split(';') {
-        let words = words.trim();
-        if !words.is_empty() {
-            push_items(alloc, keys, words, items)?;
-        }
+        push_items(alloc, keys, Reader::new(words.trim()), &mut items, answer);
     }
-    Ok(())
+    items
 }
 
-/// The items of some words: one, or `downs DEVICE COUNT TIME`, so many touches from 0 on.
+/// The items of some words: none, one, or `downs DEVICE COUNT TIME`, so many touches from 0 on.
 fn push_items(
     alloc: Global,
     keys: &Keys,
-    words: &str,
+    mut words: Reader<'_>,
     items: &mut Vec<EisRequest>,
-) -> Result<(), Stop> {
-    let (name, rest) = first(words);
-    if name != "downs" {
-        items.push(item_of(alloc, keys, name, rest)?)?;
-        return Ok(());
+    answer: &mut Answer,
+) {
+    match words.word() {
+        "" => {}
+        "downs" => push_downs(keys, &mut words, items, answer),
+        name => {
+            let item = item_of(alloc, keys, name, &mut words, answer);
+            keep(items, item, answer);
+        }
     }
-    let (place, rest) = first(rest);
-    let (many, time) = first(rest);
-    let time = id(time)?;
-    for touch_id in 0..number(many)? {
-        let device = device_at(keys, place)?;
-        items.push(touch_down(device, touch_id, time))?;
-    }
-    Ok(())
+    answer.take(words.done());
 }
 
-fn item_of(alloc: Global, keys: &Keys, name: &str, rest: &str) -> Result<EisRequest, Stop> {
+/// Adds the begins of so many touches.
+fn push_downs(
+    keys: &Keys,
+    words: &mut Reader<'_>,
+    items: &mut Vec<EisRequest>,
+    answer: &mut Answer,
+) {
+    let key = device_at(keys, words);
+    let (many, time) = (words.number(), words.id());
+    for touch_id in 0..many {
+        if let Some(device) = copied(key, words, answer) {
+            answer.take(items.push(touching("down", device, touch_id, time)));
+        }
+    }
+}
+
+fn item_of(
+    alloc: Global,
+    keys: &Keys,
+    name: &str,
+    words: &mut Reader<'_>,
+    answer: &mut Answer,
+) -> Option<EisRequest> {
     match name {
-        "leave" => Ok(EisRequest::Disconnect),
-        "bind" | "request" | "bind-second" | "request-second" => asking(keys, name, rest),
-        "ready" | "close" | "start" | "stop" => naming(keys, name, rest),
-        _ => timed(alloc, keys, name, rest),
+        "leave" => Some(EisRequest::Disconnect),
+        "bind" | "request" | "bind-second" | "request-second" => asking(keys, name, words, answer),
+        "ready" | "close" | "start" | "stop" => {
+            let device = copied(device_at(keys, words), words, answer)?;
+            Some(naming(name, device))
+        }
+        _ => timed(alloc, keys, name, words, answer),
     }
 }
 
 /// `bind CAPABILITIES` and `request CAPABILITIES`, of the seat or of the second one.
-fn asking(keys: &Keys, name: &str, rest: &str) -> Result<EisRequest, Stop> {
-    let capabilities = capabilities_of(rest)?;
-    match name {
-        "bind" => Ok(bind(copied(&keys.seat)?, capabilities)),
-        "request" => Ok(request(copied(&keys.seat)?, capabilities)),
-        "bind-second" => Ok(bind(copied(&keys.second)?, capabilities)),
-        _ => Ok(request(copied(&keys.second)?, capabilities)),
-    }
-}
-
-fn bind(seat: Seat, capabilities: DeviceCapabilities) -> EisRequest {
-    EisRequest::Bind(Bind { seat, capabilities })
-}
-
-fn request(seat: Seat, capabilities: DeviceCapabilities) -> EisRequest {
-    EisRequest::RequestDevice(RequestDevice { seat, capabilities })
-}
-
-fn copied(seat: &Option<Seat>) -> Result<Seat, Stop> {
-    match seat {
-        Some(seat) => Ok(seat.clone()?),
-        None => Err(Stop::Line),
-    }
-}
-
-/// The device of that place, or that of the second seat.
-fn device_at(keys: &Keys, place: &str) -> Result<Device, Stop> {
-    let device = match place {
-        "second" => keys.second_device.as_ref(),
-        _ => keys.devices.get(count(place)?),
+fn asking(
+    keys: &Keys,
+    name: &str,
+    words: &mut Reader<'_>,
+    answer: &mut Answer,
+) -> Option<EisRequest> {
+    let capabilities = capabilities_of(words);
+    let key = match name {
+        "bind" | "request" => keys.seat.as_ref(),
+        _ => keys.second.as_ref(),
     };
-    match device {
-        Some(device) => Ok(device.clone()?),
-        None => Err(Stop::Line),
+    let seat = copied(key, words, answer)?;
+    Some(match name {
+        "bind" | "bind-second" => EisRequest::Bind(Bind { seat, capabilities }),
+        _ => EisRequest::RequestDevice(RequestDevice { seat, capabilities }),
+    })
+}
+
+/// The device of the place of the next word, or that of the second seat.
+fn device_at<'k>(keys: &'k Keys, words: &mut Reader<'_>) -> Option<&'k Device> {
+    match words.word() {
+        "second" => keys.second_device.as_ref(),
+        place => keys.devices.get(words.or(count(place), 0)),
     }
 }
 
-/// `ready DEVICE`, `close DEVICE`, `start DEVICE`, `stop DEVICE`.
-fn naming(keys: &Keys, name: &str, place: &str) -> Result<EisRequest, Stop> {
-    let device = device_at(keys, place)?;
-    Ok(match name {
+/// `ready DEVICE`, `close DEVICE`, `start DEVICE`, or else `stop DEVICE`.
+fn naming(name: &str, device: Device) -> EisRequest {
+    match name {
         "ready" => EisRequest::Ready(Ready { device }),
         "close" => EisRequest::DeviceClosed(DeviceClosed { device }),
         "start" => EisRequest::DeviceStartEmulating(DeviceStartEmulating {
@@ -119,22 +119,28 @@ fn naming(keys: &Keys, name: &str, place: &str) -> Result<EisRequest, Stop> {
             device,
             last_serial: 6,
         }),
-    })
+    }
 }
 
 /// `frame DEVICE TIME`, `button DEVICE TIME`, `motion DEVICE TIME`, `swipe DEVICE TIME`, `pinch DEVICE TIME`, and with a touch or a
 /// length before the time `down`, `move`, `up`, `cancel` and `text`.
-fn timed(alloc: Global, keys: &Keys, name: &str, rest: &str) -> Result<EisRequest, Stop> {
-    let (place, rest) = first(rest);
-    let (front, time) = first(rest);
-    if let "frame" | "button" | "motion" | "swipe" | "pinch" = name {
-        let time = id(rest)?;
-        return Ok(plain(name, device_at(keys, place)?, time));
-    }
-    let (front, time) = (number(front)?, id(time)?);
-    let device = device_at(keys, place)?;
-    match name {
-        "text" => texting(alloc, device, front, time),
-        _ => touching(name, device, front, time),
-    }
+fn timed(
+    alloc: Global,
+    keys: &Keys,
+    name: &str,
+    words: &mut Reader<'_>,
+    answer: &mut Answer,
+) -> Option<EisRequest> {
+    let key = device_at(keys, words);
+    let front = match name {
+        "frame" | "button" | "motion" | "swipe" | "pinch" => 0,
+        "down" | "move" | "up" | "cancel" | "text" => words.number(),
+        _ => {
+            words.miss();
+            0
+        }
+    };
+    let time = words.id();
+    let device = copied(key, words, answer)?;
+    input_of(alloc, name, device, front, time, answer)
 }

@@ -1,10 +1,10 @@
 //! The keys of seats and devices, which only a connection makes.
 
-use crate::kept::stand;
+use crate::kept::{keep, set};
 use ei_request::{Connection, Device, EisRequest, Seat};
 use ei_types::{DeviceCapabilities, DeviceType};
 use std::alloc::Global;
-use test_table::Stop;
+use test_table::{Answer, Stop};
 
 /// The seat of the requests of a session, its devices in the order in which they became ready, and a second seat with a device.
 #[derive(Drop)]
@@ -27,43 +27,47 @@ impl Keys {
     }
 
     /// Keeps the keys of these requests.
-    pub(crate) fn learn(&mut self, requests: &[EisRequest]) -> Result<(), Stop> {
+    pub(crate) fn learn(&mut self, requests: &[EisRequest], answer: &mut Answer) {
         self.devices.clear();
         for request in requests {
-            match request {
-                EisRequest::Bind(r) => stand(&mut self.seat, r.seat.clone()?),
-                EisRequest::Ready(r) => self.devices.push(r.device.clone()?)?,
-                _ => {}
-            }
+            self.learn_one(request, answer);
         }
-        Ok(())
     }
-}
 
-/// Announces two seats, and keeps the second, with its second device.
-pub(crate) fn second_seat(keys: &mut Keys, handle: &mut Connection) -> Result<(), Stop> {
-    drop(seat_of(handle)?);
-    stand(&mut keys.second, seat_of(handle)?);
-    match &keys.second {
-        Some(seat) => {
-            drop(button_of(handle, seat)?);
-            stand(&mut keys.second_device, button_of(handle, seat)?);
-            Ok(())
+    /// Keeps the seat that is bound, or the device that became ready.
+    fn learn_one(&mut self, request: &EisRequest, answer: &mut Answer) {
+        match request {
+            EisRequest::Bind(bind) => set(&mut self.seat, answer.take(bind.seat.clone())),
+            EisRequest::Ready(ready) => {
+                let device = answer.take(ready.device.clone());
+                keep(&mut self.devices, device, answer);
+            }
+            _ => {}
         }
-        None => Err(Stop::Call),
+    }
+
+    /// Announces two seats, and keeps the second, with its second device.
+    pub(crate) fn learn_second(&mut self, handle: &mut Connection, answer: &mut Answer) {
+        drop(seat_of(handle, answer));
+        set(&mut self.second, seat_of(handle, answer));
+        if let Some(seat) = &self.second {
+            drop(button_of(handle, seat, answer));
+            set(&mut self.second_device, button_of(handle, seat, answer));
+        }
     }
 }
 
 /// Announces a seat with each capability.
-fn seat_of(handle: &mut Connection) -> Result<Seat, Stop> {
-    Ok(handle.add_seat(None, DeviceCapabilities::all())?)
+fn seat_of(handle: &mut Connection, answer: &mut Answer) -> Option<Seat> {
+    answer.take(handle.add_seat(None, DeviceCapabilities::all()))
 }
 
 /// Announces a device of the seat, with a button.
-fn button_of(handle: &mut Connection, seat: &Seat) -> Result<Device, Stop> {
+fn button_of(handle: &mut Connection, seat: &Seat, answer: &mut Answer) -> Option<Device> {
     if handle.seat_capabilities(seat).is_none() {
-        return Err(Stop::Call);
+        answer.stop(Stop::Call);
+        return None;
     }
     let button = DeviceCapabilities::BUTTON;
-    Ok(seat.add_device(handle, None, DeviceType::Virtual, button, &[])?)
+    answer.take(seat.add_device(handle, None, DeviceType::Virtual, button, &[]))
 }

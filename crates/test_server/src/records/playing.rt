@@ -3,114 +3,132 @@
 ghost use Rattle.std.specs.Prelude.{◌≤◌, length};
 ghost use Rattle.ei_types.specs.Capability.{bits_of, all_bits};
 
+use crate::kept::or;
 use crate::pieces::in_pieces;
 use crate::sessions::{Outlet, serve_over};
-use crate::texts::or_stop;
 use ei_backend::{Pieces, Readings};
 use ei_replay::{ReplayError, replay};
 use ei_request::EisRequest;
 use ei_serve::Setup;
 use std::alloc::Global;
-use test_table::Stop;
+use test_table::{Answer, Stop};
 
 /// Plays the items, behind a byte and a request that are there already, and shows what came of it.
-pub(crate) fn play(alloc: Global, setup: &Setup, items: &[EisRequest]) -> Result<String, Stop>
+pub(crate) fn play(alloc: Global, setup: &Setup, items: &[EisRequest], answer: &mut Answer)
     requires lawful { bits_of setup.now.capabilities ≤ all_bits }
 {
     if items.len() > 1000 {
-        return Err(Stop::Line);
+        answer.stop(Stop::Line);
+        return;
     }
+    let mut stream = or(answer, vec![in alloc; 7u8], Vec::new(alloc));
     let mut out = Vec::new(alloc);
-    let came = play_behind(alloc, setup, items, &mut out);
+    answer.take(out.push(EisRequest::Disconnect));
+    let played = replay(alloc, setup, items, &mut stream, &mut out);
+    put_behind(alloc, setup, items, played, &stream, &out, answer);
     drop(out);
-    came
+    drop(stream);
 }
 
-/// Plays the items into a list that has nothing yet.
-fn play_behind(
+/// What came of it, behind what was there already.
+fn put_behind(
     alloc: Global,
     setup: &Setup,
     items: &[EisRequest],
-    out: &mut Vec<EisRequest>,
-) -> Result<String, Stop>
+    played: Result<(), ReplayError>,
+    stream: &[u8],
+    out: &[EisRequest],
+    answer: &mut Answer,
+)
     requires lawful { bits_of setup.now.capabilities ≤ all_bits }
     requires few { length items.now ≤ 1000 }
 {
-    out.push(EisRequest::Disconnect)?;
-    let mut stream = vec![in alloc; 7u8]?;
-    let answer = replay(alloc, setup, items, &mut stream, out);
     match (stream.split_first(), out.split_first()) {
         (Some((7, bytes)), Some((EisRequest::Disconnect, requests))) => {
-            shown(alloc, setup, items, answer, bytes, requests)
+            if !came(alloc, setup, items, played, bytes, requests, answer) {
+                answer.put("not what it should be: ");
+            }
+            put_played(played, bytes.len(), requests.len(), answer);
         }
-        _ => Err(Stop::Call),
+        _ => answer.stop(Stop::Call),
     }
 }
 
-/// How many requests came back, which are the items, and by how many bytes; or which item is wrong, where there are none. Where
-/// memory ran out, how many of the first had come back by then, and by how many of the first bytes.
-fn shown(
+/// How many requests came back, and by how many bytes; or which item is wrong.
+fn put_played(played: Result<(), ReplayError>, bytes: usize, requests: usize, answer: &mut Answer) {
+    match played {
+        Ok(()) => put_counts(requests, bytes, answer),
+        Err(ReplayError::NotReplayable(place)) => {
+            answer.put("wrong ");
+            answer.display(&place);
+        }
+        Err(ReplayError::NoMemory) => {
+            answer.put("out of memory : ");
+            put_counts(requests, bytes, answer);
+        }
+    }
+}
+
+fn put_counts(requests: usize, bytes: usize, answer: &mut Answer) {
+    answer.display(&requests);
+    answer.put(" by ");
+    answer.display(&bytes);
+}
+
+/// Whether what came back is what it should be: the items, and the bytes by which a server hands them out; nothing, where an
+/// item is wrong; where memory ran out, the first of them.
+fn came(
     alloc: Global,
     setup: &Setup,
     items: &[EisRequest],
-    answer: Result<(), ReplayError>,
+    played: Result<(), ReplayError>,
     bytes: &[u8],
     requests: &[EisRequest],
-) -> Result<String, Stop>
+    answer: &mut Answer,
+) -> bool
     requires lawful { bits_of setup.now.capabilities ≤ all_bits }
     requires few { length items.now ≤ 1000 }
 {
-    let came = match answer {
-        Ok(()) => requests == items && serves(alloc, setup, bytes, items)?,
+    match played {
+        Ok(()) => requests == items && serves(alloc, setup, bytes, items, answer),
         Err(ReplayError::NotReplayable(_)) => requests.is_empty() && bytes.is_empty(),
         Err(ReplayError::NoMemory) => {
-            items.starts_with(requests) && begins(alloc, setup, items, bytes)?
+            items.starts_with(requests) && begins(alloc, setup, items, bytes)
         }
-    };
-    if !came {
-        return Ok(String::from_str(alloc, "not what it should be")?);
     }
-    Ok(match answer {
-        Ok(()) => format!(in alloc; "{} by {}", requests.len(), bytes.len())?,
-        Err(ReplayError::NotReplayable(place)) => format!(in alloc; "wrong {place}")?,
-        Err(ReplayError::NoMemory) => {
-            format!(in alloc; "out of memory : {} by {}", requests.len(), bytes.len())?
-        }
-    })
 }
 
 /// Whether the bytes are the first of those by which the items are played.
-fn begins(alloc: Global, setup: &Setup, items: &[EisRequest], bytes: &[u8]) -> Result<bool, Stop>
+fn begins(alloc: Global, setup: &Setup, items: &[EisRequest], bytes: &[u8]) -> bool
     requires lawful { bits_of setup.now.capabilities ≤ all_bits }
     requires few { length items.now ≤ 1000 }
 {
     let mut all = Vec::new(alloc);
     let mut out = Vec::new(alloc);
     let played = replay(alloc, setup, items, &mut all, &mut out);
+    let begins = played.is_ok() && all.starts_with(bytes);
     drop(out);
-    match played {
-        Ok(()) => Ok(all.starts_with(bytes)),
-        Err(_) => Err(Stop::Call),
-    }
+    drop(all);
+    begins
 }
 
 /// Whether a server of this setup hands out these items of these bytes, too.
-fn serves(alloc: Global, setup: &Setup, bytes: &[u8], items: &[EisRequest]) -> Result<bool, Stop>
+fn serves(
+    alloc: Global,
+    setup: &Setup,
+    bytes: &[u8],
+    items: &[EisRequest],
+    answer: &mut Answer,
+) -> bool
     requires lawful { bits_of setup.now.capabilities ≤ all_bits }
 {
-    if bytes.is_empty() || bytes.len() > 65536 {
-        return Err(Stop::Line);
-    }
-    let mut source = in_pieces(alloc, bytes)?;
+    let mut source = in_pieces(alloc, bytes, answer);
     let mut out = Vec::new(alloc);
-    let served = recorded(alloc, setup, &mut source, &mut out);
+    recorded(alloc, setup, &mut source, &mut out, answer);
     let same = items == &*out;
-    drop(source);
     drop(out);
-    match served {
-        Ok(()) => Ok(same),
-        Err(stop) => Err(stop),
-    }
+    drop(source);
+    same
 }
 
 /// Adds the requests of a session over that source.
@@ -119,12 +137,17 @@ pub(crate) fn recorded(
     setup: &Setup,
     source: &mut Pieces,
     out: &mut Vec<EisRequest>,
-) -> Result<(), Stop>
+    answer: &mut Answer,
+)
     requires lawful { bits_of setup.now.capabilities ≤ all_bits }
 {
-    let mut clock = Readings::new(alloc, &[])?;
+    let Some(mut clock) = answer.take(Readings::new(alloc, &[])) else {
+        return;
+    };
     let mut sink = Outlet::new(alloc, usize::MAX, 0);
-    let ended = serve_over(alloc, source, &mut sink, &mut clock, *setup, out);
+    if serve_over(alloc, source, &mut sink, &mut clock, *setup, out).is_err() {
+        answer.stop(Stop::Call);
+    }
     drop(sink);
-    or_stop(ended)
+    drop(clock);
 }

@@ -1,118 +1,138 @@
 //! The items of a record that rules go over, by the words that spell them, and their words.
 
-use super::inputs::{plain, texting, touching};
-use crate::capabilities::capabilities_of;
-use crate::kept::kept_if;
+use super::inputs::input_of;
+use crate::kept::{copied, keep};
+use crate::setups::capabilities_of;
 use ei_request::{Bind, Device, EisRequest, Ready};
 use std::alloc::Global;
-use test_table::{Stop, count, first, id, number};
+use std::fmt::Display;
+use test_table::{Answer, Reader, Stop};
 
 /// The items that a line spells, with `;` between them.
 pub(crate) fn items_of(
     alloc: Global,
     devices: &[Device],
     line: &str,
-) -> Result<Vec<EisRequest>, Stop> {
+    answer: &mut Answer,
+) -> Vec<EisRequest> {
     let mut items = Vec::new(alloc);
-    let pushed = push_items(alloc, devices, line, &mut items);
-    kept_if(items, pushed)
-}
-
-/// Adds the items that a line spells.
-fn push_items(
-    alloc: Global,
-    devices: &[Device],
-    line: &str,
-    items: &mut Vec<EisRequest>,
-) -> Result<(), Stop> {
     for words in line.split(';') {
-        let words = words.trim();
-        if !words.is_empty() {
-            items.push(item_of(alloc, devices, words)?)?;
-        }
+        let item = item_of(alloc, devices, Reader::new(words.trim()), answer);
+        keep(&mut items, item, answer);
     }
-    Ok(())
+    items
 }
 
-/// `bind CAPABILITIES`, `ready DEVICE`;
-/// `frame`, `button`, `text DEVICE TIME`; `down`, `move`, `up`, `cancel DEVICE TIME TOUCH`.
-fn item_of(alloc: Global, devices: &[Device], words: &str) -> Result<EisRequest, Stop> {
-    let (name, rest) = first(words);
-    if name == "bind" {
-        return bind(devices, rest);
-    }
-    let (place, rest) = first(rest);
-    if name == "ready" {
-        let device = device_at(devices, place)?;
-        return Ok(EisRequest::Ready(Ready { device }));
-    }
-    let (time, touch) = first(rest);
-    let time = id(time)?;
-    match name {
-        "frame" | "button" => Ok(plain(name, device_at(devices, place)?, time)),
-        "text" => texting(alloc, device_at(devices, place)?, 1, time),
-        _ => {
-            let touch = number(touch)?;
-            touching(name, device_at(devices, place)?, touch, time)
-        }
-    }
-}
-
-/// The device of that place.
-fn device_at(devices: &[Device], place: &str) -> Result<Device, Stop> {
-    match devices.get(count(place)?) {
-        Some(device) => Ok(device.clone()?),
-        None => Err(Stop::Line),
-    }
-}
-
-fn bind(devices: &[Device], bits: &str) -> Result<EisRequest, Stop> {
-    let capabilities = capabilities_of(bits)?;
-    let Some(device) = devices.first() else {
-        return Err(Stop::Line);
-    };
-    let seat = device.seat().clone()?;
-    Ok(EisRequest::Bind(Bind { seat, capabilities }))
-}
-
-/// The words of items.
-pub(crate) fn words_of(
+/// The item of some words, if there are any.
+fn item_of(
     alloc: Global,
     devices: &[Device],
-    items: &[EisRequest],
-) -> Result<String, Stop> {
-    let mut words = String::new(alloc);
-    for item in items {
-        if !words.is_empty() {
-            words.push_str(" ; ")?;
-        }
-        words.push_str(item_words(alloc, devices, item)?.as_str())?;
-    }
-    Ok(words)
+    mut words: Reader<'_>,
+    answer: &mut Answer,
+) -> Option<EisRequest> {
+    let item = match words.word() {
+        "" => None,
+        "bind" => bind(devices, &mut words, answer),
+        name => of_device(alloc, devices, name, &mut words, answer),
+    };
+    answer.take(words.done());
+    item
 }
 
-fn item_words(alloc: Global, devices: &[Device], item: &EisRequest) -> Result<String, Stop> {
-    if let EisRequest::Bind(r) = item {
-        return Ok(format!(in alloc; "bind {}", r.capabilities.bits())?);
+/// `bind CAPABILITIES`, of the seat of the first device.
+fn bind(devices: &[Device], words: &mut Reader<'_>, answer: &mut Answer) -> Option<EisRequest> {
+    let capabilities = capabilities_of(words);
+    let seat = answer.take(devices.first()?.seat().clone())?;
+    Some(EisRequest::Bind(Bind { seat, capabilities }))
+}
+
+/// `ready DEVICE`; `frame`, `button`, `text DEVICE TIME`; `down`, `move`, `up`, `cancel DEVICE TIME TOUCH`.
+fn of_device(
+    alloc: Global,
+    devices: &[Device],
+    name: &str,
+    words: &mut Reader<'_>,
+    answer: &mut Answer,
+) -> Option<EisRequest> {
+    let device = copied(devices.get(words.count()), words, answer)?;
+    if name == "ready" {
+        return Some(EisRequest::Ready(Ready { device }));
     }
-    let Some(device) = item.device() else {
-        return Err(Stop::Line);
+    let time = words.id();
+    let number = match name {
+        "frame" | "button" | "text" => 1,
+        "down" | "move" | "up" | "cancel" => words.number(),
+        _ => {
+            words.miss();
+            1
+        }
     };
-    let Some(place) = devices.iter().position(|other| other == device) else {
-        return Err(Stop::Line);
-    };
-    Ok(match item {
-        EisRequest::Ready(_) => format!(in alloc; "ready {place}")?,
-        EisRequest::Frame(r) => format!(in alloc; "frame {place} {}", r.time)?,
-        EisRequest::Button(r) => format!(in alloc; "button {place} {}", r.time)?,
-        EisRequest::TextUtf8(r) => format!(in alloc; "text {place} {}", r.time)?,
-        EisRequest::TouchDown(r) => format!(in alloc; "down {place} {} {}", r.time, r.touch_id)?,
-        EisRequest::TouchMotion(r) => format!(in alloc; "move {place} {} {}", r.time, r.touch_id)?,
-        EisRequest::TouchUp(r) => format!(in alloc; "up {place} {} {}", r.time, r.touch_id)?,
-        EisRequest::TouchCancel(r) => format!(in alloc;
-            "cancel {place} {} {}",
-            r.time, r.touch_id
-        )?,
-        _ => return Err(Stop::Line),
-    })
+    input_of(alloc, name, device, number, time, answer)
+}
+
+/// Adds the words of items.
+pub(crate) fn put_items(devices: &[Device], items: &[EisRequest], answer: &mut Answer) {
+    for (place, item) in items.iter().enumerate() {
+        if place > 0 {
+            answer.put(" ; ");
+        }
+        put_item(devices, item, answer);
+    }
+}
+
+/// Adds the words of an item.
+fn put_item(devices: &[Device], item: &EisRequest, answer: &mut Answer) {
+    match item {
+        EisRequest::Bind(r) => {
+            answer.put("bind");
+            put_number(answer, &r.capabilities.bits());
+        }
+        EisRequest::Ready(_) => put_named("ready", devices, item, answer),
+        EisRequest::Frame(r) => put_timed("frame", devices, item, r.time, answer),
+        EisRequest::Button(r) => put_timed("button", devices, item, r.time, answer),
+        EisRequest::TextUtf8(r) => put_timed("text", devices, item, r.time, answer),
+        EisRequest::TouchDown(r) => put_touch("down", devices, item, r.time, r.touch_id, answer),
+        EisRequest::TouchMotion(r) => put_touch("move", devices, item, r.time, r.touch_id, answer),
+        EisRequest::TouchUp(r) => put_touch("up", devices, item, r.time, r.touch_id, answer),
+        EisRequest::TouchCancel(r) => {
+            put_touch("cancel", devices, item, r.time, r.touch_id, answer);
+        }
+        _ => answer.stop(Stop::Line),
+    }
+}
+
+/// Adds the name of an item, and the place of its device.
+fn put_named(name: &str, devices: &[Device], item: &EisRequest, answer: &mut Answer) {
+    answer.put(name);
+    if let Some(device) = item.device() {
+        match devices.iter().position(|other| other == device) {
+            Some(place) => put_number(answer, &place),
+            None => answer.stop(Stop::Line),
+        }
+    }
+}
+
+/// The same with its time.
+fn put_timed(name: &str, devices: &[Device], item: &EisRequest, time: u64, answer: &mut Answer) {
+    put_named(name, devices, item, answer);
+    put_number(answer, &time);
+}
+
+/// The same with its time and its touch.
+fn put_touch(
+    name: &str,
+    devices: &[Device],
+    item: &EisRequest,
+    time: u64,
+    touch: u32,
+    answer: &mut Answer,
+) {
+    put_timed(name, devices, item, time, answer);
+    put_number(answer, &touch);
+}
+
+/// Adds a number behind a blank.
+fn put_number<T: Display>(answer: &mut Answer, number: &T) {
+    answer.put(" ");
+    answer.display(number);
 }

@@ -1,113 +1,114 @@
 //! What a client asks.
 
 use super::world::World;
-use crate::handshakes::{new_context, reach};
+use crate::handshakes::reach;
 use crate::kept::keep;
 use crate::pieces::bytes_of;
+use crate::texts::{put_made, put_part, show};
 use ei_backend::PendingRequestResult;
-use ei_request::{EisRequest, EisRequestConverter};
 use ei_server::{Context, Request};
-use ei_wire::NoMemory;
-use std::alloc::AllocError;
-use std::fmt::{Debug, Write};
-use test_table::Stop;
+use std::fmt::Debug;
+use test_table::{Answer, Reader};
 
-/// Why the converter refuses messages of these bytes, and the requests that it makes of them.
-pub(crate) fn ask(world: &mut World, digits: &str) -> Result<String, Stop> {
-    let bytes = bytes_of(world.alloc, digits)?;
-    let context = world.converter.handle_mut().context_mut();
-    reach(world.alloc, context, &bytes)?;
+/// `ask BYTES`: why the converter refuses messages of these bytes, and the requests that it makes of them.
+pub(crate) fn ask(world: &mut World, words: &mut Reader<'_>, answer: &mut Answer) {
+    let bytes = bytes_of(world.alloc, words.rest(), answer);
+    reach(
+        world.alloc,
+        world.converter.handle_mut().context_mut(),
+        &bytes,
+        answer,
+    );
     world.asked.clear();
-    let mut answer = String::new(world.alloc);
-    for _ in 0..bytes.len() {
-        let Some(pending) = pending(world)? else {
+    let mut told = Answer::new(world.alloc);
+    take_own(world, bytes.len(), &mut told);
+    drop(bytes);
+    put_requests(world, &mut told);
+    put_part(answer, told.text());
+}
+
+/// `ask-elsewhere BYTES`: the same of messages that an endpoint reads before its handshake.
+pub(crate) fn ask_elsewhere(world: &mut World, words: &mut Reader<'_>, answer: &mut Answer) {
+    if let Some(mut context) = answer.take(Context::new(world.alloc)) {
+        read_elsewhere(world, &mut context, words, answer);
+        drop(context);
+    }
+}
+
+/// Lets the bytes come to another context, whose messages the converter is asked.
+fn read_elsewhere(
+    world: &mut World,
+    context: &mut Context,
+    words: &mut Reader<'_>,
+    answer: &mut Answer,
+) {
+    let bytes = bytes_of(world.alloc, words.rest(), answer);
+    reach(world.alloc, context, &bytes, answer);
+    drop(bytes);
+    world.asked.clear();
+    let mut told = Answer::new(world.alloc);
+    take_all(world, context, &mut told);
+    put_requests(world, &mut told);
+    put_part(answer, told.text());
+}
+
+/// Hands each message of the client, so many at most, to the converter.
+fn take_own(world: &mut World, most: usize, told: &mut Answer) {
+    for _ in 0..most {
+        let context = world.converter.handle_mut().context_mut();
+        let Some(Some(pending)) = told.take(context.pending_request()) else {
             break;
         };
-        take(world, &mut answer, pending)?;
+        take(world, pending, told);
     }
-    with_requests(world, answer)
 }
 
-/// The next message of the client.
-fn pending(world: &mut World) -> Result<Option<PendingRequestResult<Request>>, NoMemory> {
-    let context = world.converter.handle_mut().context_mut();
-    context.pending_request()
-}
-
-/// The same of messages that an endpoint reads before its handshake.
-pub(crate) fn ask_elsewhere(world: &mut World, digits: &str) -> Result<String, Stop> {
-    let bytes = bytes_of(world.alloc, digits)?;
-    let mut context = new_context(world.alloc)?;
-    let answer = take_all(world, &mut context, &bytes);
-    drop(context);
-    answer
-}
-
-/// Hands each message of these bytes to the converter, as the endpoint reads it.
-fn take_all(world: &mut World, context: &mut Context, bytes: &[u8]) -> Result<String, Stop> {
-    reach(world.alloc, context, bytes)?;
-    world.asked.clear();
-    let mut answer = String::new(world.alloc);
+/// Hands each message of the context to the converter.
+fn take_all(world: &mut World, context: &mut Context, told: &mut Answer) {
     for _ in 0..context.unread_len() {
-        let Some(pending) = context.pending_request()? else {
+        let Some(Some(pending)) = told.take(context.pending_request()) else {
             break;
         };
-        take(world, &mut answer, pending)?;
+        take(world, pending, told);
     }
-    with_requests(world, answer)
 }
 
 /// Hands a message to the converter, and takes the requests that it makes.
-fn take(
-    world: &mut World,
-    answer: &mut String,
-    pending: PendingRequestResult<Request>,
-) -> Result<(), Stop> {
+fn take(world: &mut World, pending: PendingRequestResult<Request>, told: &mut Answer) {
     match pending {
         PendingRequestResult::Request(request) => {
             let done = world.converter.handle_request(&mut world.clock, request);
-            push_refusal(answer, done)?;
+            put_refusal(told, done);
         }
-        PendingRequestResult::ParseError(error) => push(answer, error)?,
-        PendingRequestResult::InvalidObject(id) => write!(answer, "no object {id:x} ")?,
+        PendingRequestResult::ParseError(error) => show(told, &error),
+        PendingRequestResult::InvalidObject(id) => {
+            put_made(told, format!(in world.alloc; "no object {id:x} "));
+        }
     }
-    take_requests(&mut world.converter, &mut world.asked)
+    take_requests(world, told);
 }
 
 /// Takes the requests that are queued, and asks for one more.
-fn take_requests(
-    converter: &mut EisRequestConverter,
-    asked: &mut Vec<EisRequest>,
-) -> Result<(), Stop> {
-    for _ in 0..=converter.queued_len() {
-        keep(asked, converter.next_request())?;
+fn take_requests(world: &mut World, told: &mut Answer) {
+    for _ in 0..=world.converter.queued_len() {
+        keep(&mut world.asked, world.converter.next_request(), told);
     }
-    Ok(())
 }
 
-/// The answer with the requests that were taken; it says so where there is nothing.
-fn with_requests(world: &World, mut answer: String) -> Result<String, Stop> {
+/// Adds the requests that were taken.
+fn put_requests(world: &World, told: &mut Answer) {
     for request in &world.asked {
-        push(&mut answer, request)?;
+        show(told, request);
     }
-    if answer.is_empty() {
-        answer.push_str("nothing")?;
-    }
-    Ok(answer)
-}
-
-/// Adds a value.
-fn push<T: Debug + Drop>(answer: &mut String, value: T) -> Result<(), AllocError> {
-    write!(answer, "{value:?} ")
 }
 
 /// Adds why it wasn't done, if it wasn't.
-fn push_refusal<T: Drop, E: Debug + Drop>(
-    answer: &mut String,
-    done: Result<T, E>,
-) -> Result<(), AllocError> {
+fn put_refusal<T: Drop, E: Debug + Drop>(told: &mut Answer, done: Result<T, E>) {
     match done {
-        Ok(_) => Ok(()),
-        Err(error) => push(answer, error),
+        Ok(value) => drop(value),
+        Err(error) => {
+            show(told, &error);
+            drop(error);
+        }
     }
 }

@@ -2,17 +2,18 @@
 
 use super::world::World;
 use crate::handshakes::connected;
-use crate::kept::{both, stand};
+use crate::kept::set;
 use crate::pieces::bytes_of;
+use crate::texts::show;
 use ei_backend::{Readings, Tray};
-use ei_request::Connection;
-use std::alloc::{AllocError, Global};
-use test_table::{Stop, number};
+use ei_request::{Connection, EisRequestConverter};
+use std::alloc::Global;
+use test_table::{Answer, Reader};
 
 /// What a client sends until the connection, and the connection that was made last.
 #[derive(Drop)]
 pub(crate) struct Greeting {
-    pub(crate) alloc: Global,
+    alloc: Global,
     sent: Vec<u8>,
     pub(crate) world: Option<World>,
 }
@@ -28,44 +29,46 @@ impl Greeting {
     }
 
     /// The client sends nothing any more.
-    pub(crate) fn forget(&mut self) {
+    pub(crate) fn forget(&mut self, answer: &mut Answer) {
         self.sent.clear();
+        answer.put("done");
     }
 
     /// The client sends these bytes too. It answers how many there are then.
-    pub(crate) fn send(&mut self, digits: &str) -> Result<String, Stop> {
-        self.sent.extend_from_slice(&bytes_of(self.alloc, digits)?)?;
-        Ok(format!(in self.alloc; "{}", self.sent.len())?)
+    pub(crate) fn send(&mut self, words: &mut Reader<'_>, answer: &mut Answer) {
+        let bytes = bytes_of(self.alloc, words.rest(), answer);
+        answer.take(self.sent.extend_from_slice(&bytes));
+        drop(bytes);
+        answer.display(&self.sent.len());
     }
 
-    /// Makes the connection, with that serial, and answers what the client told. The clock of its world has no reading.
-    pub(crate) fn connect(&mut self, serial: &str) -> Result<String, Stop> {
-        let serial = number(serial)?;
-        let clock = Readings::new(self.alloc, &[])?;
-        let (clock, converter) = both(clock, connected(self.alloc, serial, &self.sent))?;
-        stand(&mut self.world, World::new(self.alloc, converter, clock));
-        match &mut self.world {
-            Some(world) => told(self.alloc, world.converter.handle_mut()),
-            None => Err(Stop::Line),
+    /// Makes the connection, with that serial, and answers what the client told.
+    pub(crate) fn connect(&mut self, words: &mut Reader<'_>, answer: &mut Answer) {
+        let serial = words.number();
+        if let Some(converter) = connected(self.alloc, serial, &self.sent, answer) {
+            self.go_on(converter, answer);
+        }
+    }
+
+    /// Goes on with this converter, over a clock that has no reading.
+    fn go_on(&mut self, mut converter: EisRequestConverter, answer: &mut Answer) {
+        put_client(self.alloc, converter.handle_mut(), answer);
+        match answer.take(Readings::new(self.alloc, &[])) {
+            Some(clock) => set(
+                &mut self.world,
+                Some(World::new(self.alloc, converter, clock)),
+            ),
+            None => drop(converter),
         }
     }
 }
 
-/// What the client told of itself. What the handshake sent goes.
-fn told(alloc: Global, handle: &mut Connection) -> Result<String, Stop> {
+/// What the client told of itself, and how many interfaces both ends have. What the handshake sent goes.
+fn put_client(alloc: Global, handle: &mut Connection, answer: &mut Answer) {
     let mut tray = Tray::new(alloc);
-    let flushed = handle.flush(&mut tray);
+    answer.take(handle.flush(&mut tray));
     drop(tray);
-    flushed?;
-    Ok(greeting_text(alloc, handle)?)
-}
-
-/// What the client told of itself, and how many interfaces both ends have.
-fn greeting_text(alloc: Global, handle: &Connection) -> Result<String, AllocError> {
-    format!(in alloc;
-        "{:?} {:?} {}",
-        handle.context_type(),
-        handle.name(),
-        handle.negotiated().len()
-    )
+    show(answer, &handle.context_type());
+    show(answer, &handle.name());
+    answer.display(&handle.negotiated().len());
 }

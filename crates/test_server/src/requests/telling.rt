@@ -1,80 +1,78 @@
 //! What is told of a connection, of seats and devices by their keys, and of requests.
 
 use super::world::World;
-use crate::kept::kept_if;
+use crate::texts::{display, show};
 use ei_backend::{HasBackend, Interface};
 use ei_request::{
     Connection, Device, DeviceEvent, DeviceInterface, EisRequest, EventTime, Seat, SeatEvent,
 };
 use ei_server::{Button, Gesture, Keyboard, Pointer, PointerAbsolute, Scroll, Text, Touchscreen};
 use ei_types::DeviceCapability;
-use ei_wire::NoMemory;
-use std::alloc::{AllocError, Global};
-use std::fmt::{Debug, Write};
+use std::fmt::Debug;
 use std::hash::{FoldHasher, Hash, Hasher};
-use test_table::{Stop, first};
+use test_table::{Answer, Reader, Stop};
 
 /// `connection`: its proxy, the last serial, whether it has ended, and how many bytes are unread.
-pub(crate) fn connection(world: &World) -> Result<String, Stop> {
+pub(crate) fn put_connection(world: &World, answer: &mut Answer) {
     let handle = world.handle();
-    Ok(format!(in world.alloc;
-        "{:?} {} {} {}",
-        handle.connection(),
-        handle.last_serial(),
-        handle.has_sent_disconnected(),
-        handle.context().unread_len()
-    )?)
+    show(answer, &handle.connection());
+    display(answer, &handle.last_serial());
+    display(answer, &handle.has_sent_disconnected());
+    answer.display(&handle.context().unread_len());
 }
 
 /// `interface NAME`: whether both ends have the interface, and its version, twice.
-pub(crate) fn interface(world: &World, name: &str) -> Result<String, Stop> {
-    let handle = world.handle();
-    Ok(format!(in world.alloc;
-        "{} {:?} {:?}",
-        handle.has_interface(name),
-        handle.interface_version(name),
-        handle.negotiated().get(name)
-    )?)
+pub(crate) fn put_interface(world: &World, words: &mut Reader<'_>, answer: &mut Answer) {
+    let (handle, name) = (world.handle(), words.word());
+    display(answer, &handle.has_interface(name));
+    show(answer, &handle.interface_version(name));
+    show(answer, &handle.negotiated().get(name));
 }
 
 /// `seat PLACE`: its proxy, whether it is held, and what it was given.
-pub(crate) fn seat(world: &World, at: &str) -> Result<String, Stop> {
-    let (handle, seat) = (world.handle(), world.seat(at)?);
-    Ok(format!(in world.alloc;
-        "{:?} {} {:?}",
-        seat.eis_seat(),
-        handle.has_seat(seat),
-        handle.seat_capabilities(seat)
-    )?)
+pub(crate) fn put_seat(world: &World, words: &mut Reader<'_>, answer: &mut Answer) {
+    match world.seats.get(words.count()) {
+        Some(seat) => put_seat_at(world.handle(), seat, answer),
+        None => words.miss(),
+    }
+}
+
+fn put_seat_at(handle: &Connection, seat: &Seat, answer: &mut Answer) {
+    show(answer, &seat.eis_seat());
+    display(answer, &handle.has_seat(seat));
+    show(answer, &handle.seat_capabilities(seat));
 }
 
 /// `device PLACE`: its seat, its proxy, whether it is held, its name, the bits of what it can do, and its interfaces with
 /// their versions.
-pub(crate) fn device(world: &World, at: &str) -> Result<String, Stop> {
-    let (handle, device) = (world.handle(), world.device(at)?);
-    let mut text = format!(in world.alloc;
-        "{:?} {:?} {} {:?} {}",
-        device.seat(),
-        device.device(),
-        handle.has_device(device),
-        device.name(handle),
-        bits_of(handle, device)
-    )?;
-    let pushed = push_interfaces(&mut text, handle, device);
-    kept_if(text, pushed)
+pub(crate) fn put_device(world: &World, words: &mut Reader<'_>, answer: &mut Answer) {
+    match world.devices.get(words.count()) {
+        Some(device) => {
+            put_device_at(world.handle(), device, answer);
+            put_interfaces(world.handle(), device, answer);
+        }
+        None => words.miss(),
+    }
+}
+
+fn put_device_at(handle: &Connection, device: &Device, answer: &mut Answer) {
+    show(answer, device.seat());
+    show(answer, &device.device());
+    display(answer, &handle.has_device(device));
+    show(answer, &device.name(handle));
+    display(answer, &bits_of(handle, device));
 }
 
 /// Adds the interfaces of a device.
-fn push_interfaces(text: &mut String, handle: &Connection, device: &Device) -> Result<(), Stop> {
-    push_interface::<Pointer>(text, handle, device)?;
-    push_interface::<PointerAbsolute>(text, handle, device)?;
-    push_interface::<Keyboard>(text, handle, device)?;
-    push_interface::<Touchscreen>(text, handle, device)?;
-    push_interface::<Scroll>(text, handle, device)?;
-    push_interface::<Button>(text, handle, device)?;
-    push_interface::<Text>(text, handle, device)?;
-    push_interface::<Gesture>(text, handle, device)?;
-    Ok(())
+fn put_interfaces(handle: &Connection, device: &Device, answer: &mut Answer) {
+    put_interface_of::<Pointer>(handle, device, answer);
+    put_interface_of::<PointerAbsolute>(handle, device, answer);
+    put_interface_of::<Keyboard>(handle, device, answer);
+    put_interface_of::<Touchscreen>(handle, device, answer);
+    put_interface_of::<Scroll>(handle, device, answer);
+    put_interface_of::<Button>(handle, device, answer);
+    put_interface_of::<Text>(handle, device, answer);
+    put_interface_of::<Gesture>(handle, device, answer);
 }
 
 /// The bits of the capabilities that a device has.
@@ -89,40 +87,52 @@ fn bits_of(handle: &Connection, device: &Device) -> u64 {
 }
 
 /// Adds the interface of a device, if it has it.
-fn push_interface<T: DeviceInterface + Debug + Drop>(
-    text: &mut String,
+fn put_interface_of<T: DeviceInterface + Debug + Drop>(
     handle: &Connection,
     device: &Device,
-) -> Result<(), AllocError> {
-    match device.interface::<T>(handle) {
-        Some(interface) => write!(text, " {interface:?} {}", interface.version()),
-        None => Ok(()),
+    answer: &mut Answer,
+) {
+    if let Some(interface) = device.interface::<T>(handle) {
+        show(answer, &interface);
+        display(answer, &interface.version());
+        drop(interface);
     }
 }
 
 /// `seats PLACE PLACE` and `devices PLACE PLACE`: how the keys stand to each other.
-pub(crate) fn keys(world: &World, name: &str, rest: &str) -> Result<String, Stop> {
-    let (one, other) = first(rest);
+pub(crate) fn put_keys(world: &World, name: &str, words: &mut Reader<'_>, answer: &mut Answer) {
     if name == "seats" {
-        compared(world.alloc, world.seat(one)?, world.seat(other)?)
+        put_compared(&world.seats, words, answer);
     } else {
-        compared(world.alloc, world.device(one)?, world.device(other)?)
+        put_compared(&world.devices, words, answer);
     }
 }
 
-/// Both keys, whether a clone of the first equals it and is hashed like it, and whether the keys are equal.
-fn compared<K: Clone + Debug + Drop + Eq + Hash>(
-    alloc: Global,
-    one: &K,
-    other: &K,
-) -> Result<String, Stop> {
-    let clone = one.clone()?;
-    Ok(format!(in alloc;
-        "{one:?} {other:?} {} {} {}",
-        clone == *one,
-        hash_of(&clone) == hash_of(one),
-        one == other
-    )?)
+/// Adds both keys, whether a clone of the first equals it and is hashed like it, and whether the keys are equal.
+fn put_compared<K: Clone + Debug + Drop + Eq + Hash>(
+    keys: &[K],
+    words: &mut Reader<'_>,
+    answer: &mut Answer,
+) {
+    let (one, other) = (keys.get(words.count()), keys.get(words.count()));
+    match (one, other) {
+        (Some(one), Some(other)) => {
+            show(answer, one);
+            show(answer, other);
+            put_clone(one, answer);
+            answer.display(&(one == other));
+        }
+        _ => words.miss(),
+    }
+}
+
+/// Adds whether a clone of the key equals it, and is hashed like it.
+fn put_clone<K: Clone + Drop + Eq + Hash>(key: &K, answer: &mut Answer) {
+    if let Some(clone) = answer.take(key.clone()) {
+        display(answer, &(clone == *key));
+        display(answer, &(hash_of(&clone) == hash_of(key)));
+        drop(clone);
+    }
 }
 
 /// What the value is hashed to.
@@ -133,69 +143,67 @@ fn hash_of<T: Hash>(value: &T) -> u64 {
 }
 
 /// `requests`: of each of the last requests its device, whether its copy equals it, and what it tells as an event.
-pub(crate) fn requests(world: &World) -> Result<String, Stop> {
-    let mut text = String::new(world.alloc);
+pub(crate) fn put_requests(world: &World, answer: &mut Answer) {
     for request in &world.asked {
-        let same = is_copied(world.alloc, request)?;
-        write!(text, "{:?} {same}", request.device())?;
-        push_event(&mut text, request)?;
-        text.push_str(" / ")?;
+        show(answer, &request.device());
+        put_copied(request.copy(world.alloc), request, answer);
+        put_event(request, answer);
+        answer.put("/ ");
     }
-    Ok(text)
 }
 
-/// Whether the copy of the request equals it.
-fn is_copied(alloc: Global, request: &EisRequest) -> Result<bool, NoMemory> {
-    is_same(request.copy(alloc), request)
-}
-
-/// Whether the copy equals the value.
-fn is_same<T: Drop + PartialEq>(copy: Result<T, NoMemory>, value: &T) -> Result<bool, NoMemory> {
-    let copy = copy?;
-    Ok(copy == *value)
+/// Adds whether the copy equals the value.
+fn put_copied<T: Drop + PartialEq, E: Drop>(copy: Result<T, E>, value: &T, answer: &mut Answer)
+where
+    Stop: From<E>,
+{
+    if let Some(copy) = answer.take(copy) {
+        display(answer, &(copy == *value));
+        drop(copy);
+    }
 }
 
 /// Adds what the request tells as an event.
-fn push_event(text: &mut String, request: &EisRequest) -> Result<(), AllocError> {
+fn put_event(request: &EisRequest, answer: &mut Answer) {
     match request {
-        EisRequest::Disconnect | EisRequest::RequestDevice(_) | EisRequest::Ready(_) => Ok(()),
-        EisRequest::Bind(event) => push_seat(text, event),
-        EisRequest::DeviceClosed(event) => push_device(text, event),
-        EisRequest::DeviceStartEmulating(event) => push_device(text, event),
-        EisRequest::DeviceStopEmulating(event) => push_device(text, event),
-        EisRequest::Frame(event) => push_time(text, event),
-        EisRequest::PointerMotion(event) => push_time(text, event),
-        EisRequest::PointerMotionAbsolute(event) => push_time(text, event),
-        EisRequest::Button(event) => push_time(text, event),
-        EisRequest::ScrollDelta(event) => push_time(text, event),
-        EisRequest::ScrollStop(event) => push_time(text, event),
-        EisRequest::ScrollCancel(event) => push_time(text, event),
-        EisRequest::ScrollDiscrete(event) => push_time(text, event),
-        EisRequest::KeyboardKey(event) => push_time(text, event),
-        EisRequest::TouchDown(event) => push_time(text, event),
-        EisRequest::TouchMotion(event) => push_time(text, event),
-        EisRequest::TouchUp(event) => push_time(text, event),
-        EisRequest::TouchCancel(event) => push_time(text, event),
-        EisRequest::TextKeysym(event) => push_time(text, event),
-        EisRequest::TextUtf8(event) => push_time(text, event),
-        EisRequest::GestureSwipe(event) => push_time(text, event),
-        EisRequest::GesturePinch(event) => push_time(text, event),
+        EisRequest::Disconnect | EisRequest::RequestDevice(_) | EisRequest::Ready(_) => {}
+        EisRequest::Bind(event) => put_seat_of(event, answer),
+        EisRequest::DeviceClosed(event) => put_device_of(event, answer),
+        EisRequest::DeviceStartEmulating(event) => put_device_of(event, answer),
+        EisRequest::DeviceStopEmulating(event) => put_device_of(event, answer),
+        EisRequest::Frame(event) => put_time_of(event, answer),
+        EisRequest::PointerMotion(event) => put_time_of(event, answer),
+        EisRequest::PointerMotionAbsolute(event) => put_time_of(event, answer),
+        EisRequest::Button(event) => put_time_of(event, answer),
+        EisRequest::ScrollDelta(event) => put_time_of(event, answer),
+        EisRequest::ScrollStop(event) => put_time_of(event, answer),
+        EisRequest::ScrollCancel(event) => put_time_of(event, answer),
+        EisRequest::ScrollDiscrete(event) => put_time_of(event, answer),
+        EisRequest::KeyboardKey(event) => put_time_of(event, answer),
+        EisRequest::TouchDown(event) => put_time_of(event, answer),
+        EisRequest::TouchMotion(event) => put_time_of(event, answer),
+        EisRequest::TouchUp(event) => put_time_of(event, answer),
+        EisRequest::TouchCancel(event) => put_time_of(event, answer),
+        EisRequest::TextKeysym(event) => put_time_of(event, answer),
+        EisRequest::TextUtf8(event) => put_time_of(event, answer),
+        EisRequest::GestureSwipe(event) => put_time_of(event, answer),
+        EisRequest::GesturePinch(event) => put_time_of(event, answer),
     }
 }
 
 /// Adds the seat of an event.
-fn push_seat<T: SeatEvent>(text: &mut String, event: &T) -> Result<(), AllocError> {
-    write!(text, " {:?}", event.seat())
+fn put_seat_of<T: SeatEvent>(event: &T, answer: &mut Answer) {
+    show(answer, event.seat());
 }
 
 /// Adds the seat and the device of an event.
-fn push_device<T: DeviceEvent<Device>>(text: &mut String, event: &T) -> Result<(), AllocError> {
-    push_seat(text, event)?;
-    write!(text, " {:?}", event.device())
+fn put_device_of<T: DeviceEvent<Device>>(event: &T, answer: &mut Answer) {
+    put_seat_of(event, answer);
+    show(answer, event.device());
 }
 
 /// Adds the seat, the device and the time of an event.
-fn push_time<T: EventTime<Device>>(text: &mut String, event: &T) -> Result<(), AllocError> {
-    push_device(text, event)?;
-    write!(text, " {}", event.time())
+fn put_time_of<T: EventTime<Device>>(event: &T, answer: &mut Answer) {
+    put_device_of(event, answer);
+    display(answer, &event.time());
 }

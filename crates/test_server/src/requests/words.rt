@@ -1,19 +1,28 @@
-//! The words of a line.
+//! The texts that words spell.
 
-use crate::texts::letters;
+use crate::texts;
 use std::alloc::Global;
-use test_table::{Stop, number};
+use test_table::{Answer, Reader, number};
 
-/// What a word spells: no text of a dash, the rest behind `=`, and so many letters behind `a*`.
-pub(crate) fn text(alloc: Global, word: &str) -> Result<Option<String>, Stop> {
+/// What the next word spells: no text of a dash, the rest behind `=`, and so many letters behind `a*`.
+pub(crate) fn text(alloc: Global, words: &mut Reader<'_>, answer: &mut Answer) -> Option<String> {
+    let word = words.word();
     if let Some(rest) = word.strip_prefix('=') {
-        return Ok(Some(String::from_str(alloc, rest)?));
+        answer.take(String::from_str(alloc, rest))
+    } else if let Some(count) = word.strip_prefix("a*") {
+        answer.take(texts::letters(alloc, words.or(number(count), 0)))
+    } else {
+        if word != "-" {
+            words.miss();
+        }
+        None
     }
-    if let Some(count) = word.strip_prefix("a*") {
-        return Ok(Some(letters(alloc, number(count)?)?));
-    }
-    match word {
-        "-" => Ok(None),
-        _ => Err(Stop::Line),
+}
+
+/// The text as a slice.
+pub(crate) fn letters(text: &Option<String>) -> Option<&str> {
+    match text {
+        Some(text) => Some(text.as_str()),
+        None => None,
     }
 }

@@ -1,12 +1,10 @@
 //! A connection, and what the calls before made of it.
 
-use crate::kept::kept_if;
+use crate::texts::put_made;
 use ei_backend::{HasBackend, Readings, Tray};
 use ei_request::{Connection, Device, EisRequest, EisRequestConverter, Seat};
-use ei_spec::Handle;
-use std::alloc::{AllocError, Global};
-use std::fmt::Write;
-use test_table::{Stop, count, first};
+use std::alloc::Global;
+use test_table::Answer;
 
 /// A converter with its clock, the seats and the devices that were made, in this order, and the requests of the last
 /// call that took some.
@@ -38,49 +36,30 @@ impl World {
         self.converter.handle()
     }
 
-    /// The seat of that place.
-    pub(crate) fn seat(&self, word: &str) -> Result<&Seat, Stop> {
-        self.seats.get(count(word)?).ok_or(Stop::Line)
-    }
-
-    /// The device of that place.
-    pub(crate) fn device(&self, word: &str) -> Result<&Device, Stop> {
-        self.devices.get(count(word)?).ok_or(Stop::Line)
-    }
-
-    /// The answer with what was sent behind it: the bytes, or how many where there are many, and the handles.
-    pub(crate) fn with_sent(&mut self, mut answer: String) -> Result<String, Stop> {
+    /// Adds what was sent: the bytes, or how many where there are many, and the handles.
+    pub(crate) fn put_sent(&mut self, answer: &mut Answer) {
         let mut tray = Tray::new(self.alloc);
-        let flushed = self.push_flushed(&mut tray, &mut answer);
+        answer.take(self.converter.handle_mut().flush(&mut tray));
+        put_bytes(self.alloc, tray.bytes(), answer);
+        if !tray.handles().is_empty() {
+            answer.put(" with ");
+            answer.show(&tray.handles());
+        }
         drop(tray);
-        kept_if(answer, flushed)
-    }
-
-    /// Flushes into the tray, and adds what it took.
-    fn push_flushed(&mut self, tray: &mut Tray, answer: &mut String) -> Result<(), Stop> {
-        self.converter.handle_mut().flush(tray)?;
-        push_sent(self.alloc, answer, tray.bytes(), tray.handles())
     }
 }
 
 /// The most bytes that are shown.
 const MOST_SHOWN: usize = 4096;
 
-/// Adds what was sent.
-fn push_sent(
-    alloc: Global,
-    answer: &mut String,
-    bytes: &[u8],
-    handles: &[Handle],
-) -> Result<(), Stop> {
+/// Adds the bytes that were sent, if any were.
+fn put_bytes(alloc: Global, bytes: &[u8], answer: &mut Answer) {
     if bytes.len() > MOST_SHOWN {
-        write!(answer, " > {} bytes", bytes.len())?;
+        answer.put(" > ");
+        answer.display(&bytes.len());
+        answer.put(" bytes");
     } else if !bytes.is_empty() {
-        let digits = hex::encode(alloc, bytes)?;
-        write!(answer, " > {digits}")?;
+        answer.put(" > ");
+        put_made(answer, hex::encode(alloc, bytes));
     }
-    if !handles.is_empty() {
-        write!(answer, " with {handles:?}")?;
-    }
-    Ok(())
 }

@@ -1,75 +1,53 @@
 //! What a server tells.
 
 use crate::kept::keep;
-use crate::reports::{asked_text, digits_text, or_nothing};
-use crate::texts::{number_text, word};
-use ei_request::EisRequest;
+use crate::reports::{put_asked, put_digits};
+use crate::texts::put_made;
+use ei_request::Connection;
 use ei_types::ContextType;
 use reis_report::answer_text;
 use reis_server::Server;
 use std::alloc::Global;
-use test_table::Stop;
+use test_table::{Answer, Stop};
 
 /// The next requests, so many at most, with slashes between them; they wait no more.
-pub(crate) fn requests(alloc: Global, server: &mut Server, most: usize) -> Result<String, Stop> {
+pub(crate) fn put_requests(alloc: Global, server: &mut Server, most: usize, answer: &mut Answer) {
     let mut taken = Vec::new(alloc);
-    let text = take(alloc, server, most, &mut taken);
-    drop(taken);
-    text
-}
-
-/// Takes the next requests, so many at most, and tells all that were taken.
-fn take(
-    alloc: Global,
-    server: &mut Server,
-    most: usize,
-    taken: &mut Vec<EisRequest>,
-) -> Result<String, Stop> {
     for _ in 0..most {
-        if !take_next(server, taken)? {
+        if !keep(&mut taken, server.next_request(), answer) {
             break;
         }
     }
-    Ok(asked_text(alloc, taken)?)
-}
-
-/// Takes the next request. Whether there was one.
-fn take_next(server: &mut Server, taken: &mut Vec<EisRequest>) -> Result<bool, Stop> {
-    keep(taken, server.next_request())
+    put_asked(alloc, &taken, answer);
+    drop(taken);
 }
 
 /// What a server tells by a call that changes nothing.
-pub(crate) fn told(alloc: Global, server: &Server, name: &str) -> Result<String, Stop> {
+pub(crate) fn put_told(alloc: Global, server: &Server, name: &str, answer: &mut Answer) {
     match name {
-        "unsent" => Ok(digits_text(alloc, server.unsent())?),
-        "unsent-handles" => number_text(alloc, server.unsent_handles().len()),
-        "answer" => ended_text(alloc, server),
-        "client" => client_text(alloc, server),
-        "over" => Ok(format!(in alloc; "{}", server.is_over())?),
-        _ => Err(Stop::Line),
-    }
-}
-
-/// How the session ended, in words.
-fn ended_text(alloc: Global, server: &Server) -> Result<String, Stop> {
-    match server.answer() {
-        Some(answer) => Ok(answer_text(alloc, answer)?),
-        None => word(alloc, "goes on"),
+        "unsent" => put_digits(alloc, server.unsent(), answer),
+        "unsent-handles" => answer.display(&server.unsent_handles().len()),
+        "answer" => match server.answer() {
+            Some(ended) => put_made(answer, answer_text(alloc, ended)),
+            None => answer.put("goes on"),
+        },
+        "client" => match server.connection() {
+            Some(connection) => put_client(connection, answer),
+            None => answer.put("nothing"),
+        },
+        "over" => answer.display(&server.is_over()),
+        _ => answer.stop(Stop::Line),
     }
 }
 
 /// Who the client is: its context type, and its name where it told one.
-fn client_text(alloc: Global, server: &Server) -> Result<String, Stop> {
-    let mut text = String::new(alloc);
-    if let Some(connection) = server.connection() {
-        text.push_str(match connection.context_type() {
-            ContextType::Receiver => "receiver",
-            ContextType::Sender => "sender",
-        })?;
-        if let Some(name) = connection.name() {
-            text.push(' ')?;
-            text.push_str(name)?;
-        }
+fn put_client(connection: &Connection, answer: &mut Answer) {
+    answer.put(match connection.context_type() {
+        ContextType::Receiver => "receiver",
+        ContextType::Sender => "sender",
+    });
+    if let Some(name) = connection.name() {
+        answer.put(" ");
+        answer.put(name);
     }
-    Ok(or_nothing(text)?)
 }

@@ -1,20 +1,26 @@
 //! A stream in each cut, at each limit of its pieces.
 
 use super::outside::Options;
-use super::serving::served;
-use super::told::Told;
-use super::world::{World, copied};
+use super::serving::{put_wrong, served};
+use super::told::lines_of;
+use super::world::{Stage, World};
+use crate::kept::or;
 use crate::setups::setup_of;
-use std::alloc::Global;
-use test_table::{Stop, count, first, number};
+use test_table::{Answer, Reader, count};
 
 /// The greeting, `handshake_version(1)`.
 const GREETING: &str = "0000000000000000140000000000000001000000";
 
-/// With how many of the stream's bytes all that is sent goes out, and with how many the session is over, before the
-/// source's end.
+/// The sizes of the pieces.
+const SIZES: [&str; 4] = ["1", "5", "16", "65536"];
+
+/// A stream: its parts and how many bytes they have, what is told of it without a limit, with how many of its bytes all
+/// that is sent goes out, and with how many the session is over, before the source's end.
 #[derive(Clone, Copy)]
-struct Marks {
+struct Stream<'a> {
+    parts: &'a str,
+    bytes: usize,
+    whole: &'a str,
     replied: usize,
     over: usize,
 }
@@ -23,92 +29,84 @@ struct Marks {
 /// is taken, one, one fewer than come, as many as come, or one more, what the session without a limit told, if its last
 /// byte comes in one of these, or the byte with which it is over. Else one piece too many came: nothing was asked for, and
 /// no more than the greeting was sent where what completes the reply hadn't come. `never` is a byte that no stream has.
-pub(crate) fn limits(world: &mut World, rest: &str) -> Result<String, Stop> {
-    let (replied, over) = first(rest);
-    let marks = Marks {
-        replied: mark(replied)?,
-        over: mark(over)?,
+pub(crate) fn limits(world: &mut World, words: &mut Reader<'_>, answer: &mut Answer) {
+    let parts = world.parts.as_str();
+    let stream = Stream {
+        parts,
+        bytes: bytes_in(parts),
+        whole: world.told.as_str(),
+        replied: mark(words),
+        over: mark(words),
     };
-    let parts = copied(world.alloc, &world.parts)?;
-    let whole = copied_told(world.alloc, &world.told)?;
-    wrong_cut(world, marks, &whole, parts.as_str())
-}
-
-/// The sizes of the pieces.
-const SIZES: [&str; 4] = ["1", "5", "16", "65536"];
-
-/// What is told in the first cut in which it isn't what it should be.
-fn wrong_cut(world: &mut World, marks: Marks, whole: &Told, parts: &str) -> Result<String, Stop> {
     for cut in &SIZES {
-        if let Some(said) = wrong_limit(world, marks, whole, cut, parts)? {
-            return Ok(said);
-        }
+        limit_cut(&mut world.stage, &stream, cut, answer);
     }
-    Ok(String::from_str(world.alloc, "as they should be")?)
+    answer.put("as they should be");
 }
 
 /// The number of bytes; `never` is more than any stream has.
-fn mark(word: &str) -> Result<usize, Stop> {
-    if word == "never" {
-        return Ok(usize::MAX);
+fn mark(words: &mut Reader<'_>) -> usize {
+    match words.word() {
+        "never" => usize::MAX,
+        word => words.or(count(word), 0),
     }
-    count(word)
-}
-
-/// A copy of what was told.
-fn copied_told(alloc: Global, told: &Told) -> Result<Told, Stop> {
-    Ok(Told {
-        ended: copied(alloc, &told.ended)?,
-        asked: copied(alloc, &told.asked)?,
-        reply: copied(alloc, &told.reply)?,
-    })
 }
 
 /// How many bytes the parts have.
-fn bytes_in(alloc: Global, parts: &str) -> Result<usize, Stop> {
-    Ok(test_table::joined(alloc, parts)?.len() / 2)
+fn bytes_in(parts: &str) -> usize {
+    let mut digits = 0usize;
+    for part in parts.split(' ') {
+        digits = digits.saturating_add(part.len());
+    }
+    digits / 2
 }
 
-/// What is told at the first limit where it isn't what it should be, in this cut.
-fn wrong_limit(
-    world: &mut World,
-    marks: Marks,
-    whole: &Told,
-    cut: &str,
-    parts: &str,
-) -> Result<Option<String>, Stop> {
-    let bytes = bytes_in(world.alloc, parts)?;
-    let size = count(cut)?;
-    let come = bytes.div_ceil(size.max(1));
+/// What is told at each limit where it isn't what it should be, in this cut.
+fn limit_cut(stage: &mut Stage, stream: &Stream<'_>, cut: &str, answer: &mut Answer) {
+    let size = or(answer, count(cut), 1).max(1);
+    let come = stream.bytes.div_ceil(size);
     for most in &[0, 1, come.saturating_sub(1), come, come.saturating_add(1)] {
-        let taken = size.saturating_mul(*most);
-        let told = told_at(world, *most, cut, parts)?;
-        if !is_wanted(whole, &told, marks, taken, bytes) {
-            let said = format!(in world.alloc; "{most} pieces of {cut}: {told:?}")?;
-            return Ok(Some(said));
-        }
+        limit(
+            stage,
+            stream,
+            cut,
+            *most,
+            size.saturating_mul(*most),
+            answer,
+        );
     }
-    Ok(None)
 }
 
-/// What is told where so many pieces are taken.
-fn told_at(world: &mut World, most: usize, cut: &str, parts: &str) -> Result<Told, Stop> {
-    let limit = format!(in world.alloc; "{most}")?;
-    let setup = setup_of("5", "127", limit.as_str())?;
-    served(world, setup, &Options::of("")?, cut, parts)
+/// What is told where so many pieces are taken, which have so many bytes, if it isn't what it should be.
+fn limit(
+    stage: &mut Stage,
+    stream: &Stream<'_>,
+    cut: &str,
+    most: usize,
+    taken: usize,
+    answer: &mut Answer,
+) {
+    let mut setup = setup_of(&mut Reader::new("5 127 0"));
+    setup.pieces = u32::try_from(most).unwrap_or(u32::MAX);
+    let told = served(stage, setup, &Options::new(), cut, stream.parts, answer);
+    if !is_wanted(stream, told.as_str(), taken) {
+        answer.display(&most);
+        answer.put(" pieces ");
+        put_wrong(cut, told.as_str(), answer);
+    }
+    drop(told);
 }
 
-/// Whether it is what should be told where so many bytes are taken, of all these.
-fn is_wanted(whole: &Told, told: &Told, marks: Marks, taken: usize, bytes: usize) -> bool {
-    if marks.over <= taken || bytes <= taken {
-        return told == whole;
+/// Whether it is what should be told where so many bytes are taken.
+fn is_wanted(stream: &Stream<'_>, told: &str, taken: usize) -> bool {
+    if stream.over <= taken || stream.bytes <= taken {
+        return told == stream.whole;
     }
-    let reply = if marks.replied <= taken {
-        whole.reply.as_str()
+    let (ended, asked, reply) = lines_of(told);
+    let wanted = if stream.replied <= taken {
+        lines_of(stream.whole).2
     } else {
         GREETING
     };
-    told.ended.as_str() == "error piece limit reached"
-        && told.asked.as_str() == "nothing"
-        && told.reply.as_str() == reply
+    ended == "error piece limit reached" && asked == "nothing" && reply == wanted
 }

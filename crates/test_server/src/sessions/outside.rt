@@ -1,11 +1,11 @@
 //! What a session is served over.
 
 use super::outlet::Outlet;
-use crate::kept::{kept_if, or_want};
-use crate::pieces::{clock_of, failing_at, pieces_of};
+use crate::kept::or;
+use crate::pieces::{clock_of, pieces_of};
 use ei_backend::{Pieces, Readings};
 use std::alloc::Global;
-use test_table::{Stop, count, first, id, number};
+use test_table::{Answer, Reader, Stop, count, id, number};
 
 /// A row's options: which call of the source or the sink fails or wants memory, how many bytes the sink takes a call,
 /// and how many handles come with the first pieces. A call of number 0 is none.
@@ -23,7 +23,7 @@ pub(crate) struct Options<'a> {
 
 impl<'a> Options<'a> {
     /// Each part a piece, and nothing fails.
-    fn new() -> Options<'a> {
+    pub(crate) fn new() -> Options<'a> {
         Options {
             cuts: "each",
             take: 0,
@@ -35,67 +35,68 @@ impl<'a> Options<'a> {
         }
     }
 
-    /// The options of these words.
-    pub(crate) fn of(words: &'a str) -> Result<Options<'a>, Stop> {
-        let mut options = Options::new();
-        for word in words.split(' ') {
-            options.set(word)?;
-        }
-        Ok(options)
-    }
-
-    /// Sets an option.
-    fn set(&mut self, word: &'a str) -> Result<(), Stop> {
+    /// Sets the option of a word.
+    fn set(&mut self, word: &'a str, answer: &mut Answer) {
         let (name, value) = word.split_once('=').unwrap_or((word, ""));
         match name {
             "" => {}
             "cut" => self.cuts = value,
-            "take" => self.take = number(value)?,
-            "put" => self.put = number(value)?,
-            "want" => self.want = id(value)?,
-            "most" => self.most = count(value)?,
-            "handles" => self.handles = count(value)?,
+            "take" => self.take = or(answer, number(value), 0),
+            "put" => self.put = or(answer, number(value), 0),
+            "want" => self.want = or(answer, id(value), 0),
+            "most" => self.most = or(answer, count(value), 0),
+            "handles" => self.handles = or(answer, count(value), 0),
             "clock" => self.clock = value,
-            _ => return Err(Stop::Line),
+            _ => answer.stop(Stop::Line),
         }
-        Ok(())
     }
 
     /// The source of these parts in this cut.
-    pub(crate) fn source(&self, alloc: Global, cut: &str, parts: &str) -> Result<Pieces, Stop> {
-        let pieces = pieces_of(alloc, cut, parts, self.handles)?;
-        match self.take {
-            0 => Ok(pieces),
-            _ => failing_at(pieces, self.take),
+    pub(crate) fn source(
+        &self,
+        alloc: Global,
+        cut: &str,
+        parts: &str,
+        answer: &mut Answer,
+    ) -> Pieces {
+        let mut pieces = pieces_of(alloc, cut, parts, self.handles, answer);
+        if self.take > 0 {
+            answer.take(pieces.fail_at(self.take));
         }
+        pieces
     }
 
     /// The sink.
-    pub(crate) fn sink(&self, alloc: Global) -> Result<Outlet, Stop> {
+    pub(crate) fn sink(&self, alloc: Global, answer: &mut Answer) -> Outlet {
         let mut outlet = Outlet::new(alloc, self.most, self.want);
-        if self.put == 0 {
-            return Ok(outlet);
+        if self.put > 0 {
+            answer.take(outlet.tray.fail_at(self.put));
         }
-        let failing = outlet.tray.fail_at(self.put);
-        kept_if(outlet, or_want(failing))
+        outlet
     }
 
     /// The clock.
-    pub(crate) fn clock(&self, alloc: Global) -> Result<Readings, Stop> {
-        clock_of(alloc, self.clock, ',')
+    pub(crate) fn clock(&self, alloc: Global, answer: &mut Answer) -> Option<Readings> {
+        clock_of(alloc, self.clock, ',', answer)
     }
 }
 
 /// The options, and the parts behind the colon.
-pub(crate) fn options_and_parts(words: &str) -> Result<(Options<'_>, &str), Stop> {
-    let (options, parts) = words.split_once(':').ok_or(Stop::Line)?;
-    Ok((Options::of(options)?, parts.trim_start()))
-}
-
-/// The first three words, and the others.
-pub(crate) fn three(words: &str) -> (&str, &str, &str, &str) {
-    let (one, rest) = first(words);
-    let (two, rest) = first(rest);
-    let (three, rest) = first(rest);
-    (one, two, three, rest)
+pub(crate) fn options_and_parts<'a>(
+    words: &mut Reader<'a>,
+    answer: &mut Answer,
+) -> (Options<'a>, &'a str) {
+    let mut options = Options::new();
+    match words.rest().split_once(':') {
+        Some((named, parts)) => {
+            for word in named.split(' ') {
+                options.set(word, answer);
+            }
+            (options, parts.trim_start())
+        }
+        None => {
+            words.miss();
+            (options, "")
+        }
+    }
 }

@@ -4,87 +4,88 @@ ghost use Rattle.std.specs.Prelude.{◌≤◌};
 ghost use Rattle.ei_types.specs.Capability.{bits_of, all_bits};
 
 use super::outlet::Outlet;
-use super::outside::{Options, options_and_parts, three};
-use super::told::Told;
-use super::world::World;
-use crate::handshakes::new_context;
-use crate::kept::set;
+use super::outside::{Options, options_and_parts};
+use super::told::{lines_of, told_of};
+use super::world::{Stage, World};
+use crate::kept::{set, set_if};
 use crate::setups::setup_of;
-use crate::texts::number_text;
 use ei_backend::{Pieces, Readings};
 use ei_request::EisRequest;
 use ei_serve::{Ended, Setup, serve};
+use ei_server::Context;
 use ei_types::Error;
 use std::alloc::Global;
-use test_table::Stop;
+use test_table::{Answer, Reader};
 
 /// `serve SERIAL CAPABILITIES PIECES OPTION .. : PART ..`: how the session ends, in each of the cuts.
-pub(crate) fn serve_call(world: &mut World, rest: &str) -> Result<String, Stop> {
-    let (serial, bits, pieces, rest) = three(rest);
-    let setup = setup_of(serial, bits, pieces)?;
-    let (options, parts) = options_and_parts(rest)?;
-    world.parts = String::from_str(world.alloc, parts)?;
-    serve_cuts(world, setup, &options, parts)
+pub(crate) fn serve_call(world: &mut World, words: &mut Reader<'_>, answer: &mut Answer) {
+    let setup = setup_of(words);
+    let (options, parts) = options_and_parts(words, answer);
+    set_if(
+        &mut world.parts,
+        answer.take(String::from_str(world.alloc, parts)),
+    );
+    let (cut, others) = options.cuts.split_once(',').unwrap_or((options.cuts, ""));
+    let told = served(&mut world.stage, setup, &options, cut, parts, answer);
+    set(&mut world.told, told);
+    for cut in others.split(',') {
+        put_other(world, setup, &options, cut, parts, answer);
+    }
+    answer.put(lines_of(world.told.as_str()).0);
 }
 
-/// How the session ends in each of the cuts, if it is the same.
-fn serve_cuts(
+/// What is told of the session in this cut, where it is other than what was told; there is none without letters.
+fn put_other(
     world: &mut World,
     setup: Setup,
-    options: &Options,
+    options: &Options<'_>,
+    cut: &str,
     parts: &str,
-) -> Result<String, Stop>
+    answer: &mut Answer,
+)
     requires { bits_of setup.capabilities ≤ all_bits }
 {
-    let mut first = true;
-    for cut in options.cuts.split(',') {
-        let told = served(world, setup, options, cut, parts)?;
-        if !first && told != world.told {
-            return Ok(format!(in world.alloc; "in pieces of {cut}: {told:?}")?);
+    if !cut.is_empty() {
+        let told = served(&mut world.stage, setup, options, cut, parts, answer);
+        if told != world.told {
+            put_wrong(cut, told.as_str(), answer);
         }
-        world.told = told;
-        first = false;
+        drop(told);
     }
-    Ok(String::from_str(world.alloc, world.told.ended.as_str())?)
+}
+
+/// What is told in a cut, which it isn't to be.
+pub(crate) fn put_wrong(cut: &str, told: &str, answer: &mut Answer) {
+    answer.put("in pieces of ");
+    answer.put(cut);
+    answer.put(": ");
+    answer.put(told);
+    answer.put("; else ");
 }
 
 /// What is told of the session in this cut.
 pub(crate) fn served(
-    world: &mut World,
+    stage: &mut Stage,
     setup: Setup,
-    options: &Options,
+    options: &Options<'_>,
     cut: &str,
     parts: &str,
-) -> Result<Told, Stop>
+    answer: &mut Answer,
+) -> String
     requires { bits_of setup.capabilities ≤ all_bits }
 {
-    let alloc = world.alloc;
-    prepare(world, options, cut, parts)?;
+    stage.prepare(options, cut, parts, answer);
     let ended = serve_over(
-        alloc,
-        &mut world.source,
-        &mut world.sink,
-        &mut world.clock,
+        stage.alloc,
+        &mut stage.source,
+        &mut stage.sink,
+        &mut stage.clock,
         setup,
-        &mut world.out,
+        &mut stage.out,
     );
-    let told = Told::of(alloc, &ended, &world.out, world.sink.tray.bytes());
+    let told = told_of(stage, &ended, answer);
     drop(ended);
-    Ok(told?)
-}
-
-/// What a session is served over: the parts in this cut, and nothing that was handed out or sent.
-pub(crate) fn prepare(
-    world: &mut World,
-    options: &Options,
-    cut: &str,
-    parts: &str,
-) -> Result<(), Stop> {
-    set(&mut world.source, options.source(world.alloc, cut, parts))?;
-    set(&mut world.sink, options.sink(world.alloc))?;
-    set(&mut world.clock, options.clock(world.alloc))?;
-    world.out.clear();
-    Ok(())
+    told
 }
 
 /// How the session over these ends.
@@ -102,14 +103,20 @@ pub(crate) fn serve_over(
 }
 
 /// `left`: how many pieces the source has left, up to 200.
-pub(crate) fn left(world: &mut World) -> Result<String, Stop> {
-    let mut context = new_context(world.alloc)?;
+pub(crate) fn put_left(stage: &mut Stage, answer: &mut Answer) {
+    if let Some(mut context) = answer.take(Context::new(stage.alloc)) {
+        answer.display(&left_in(&mut context, &mut stage.source));
+        drop(context);
+    }
+}
+
+/// How many pieces the context can read, up to 200.
+fn left_in(context: &mut Context, source: &mut Pieces) -> usize {
     let mut left = 0usize;
     for _ in 0..200 {
-        if context.read(&mut world.source).is_ok() {
+        if context.read(source).is_ok() {
             left = left.saturating_add(1);
         }
     }
-    drop(context);
-    number_text(world.alloc, left)
+    left
 }

@@ -1,41 +1,27 @@
 //! What is told of a session.
 
-use crate::reports::{asked_text, digits_text, ended_text};
-use ei_request::EisRequest;
+use super::world::Stage;
+use crate::kept::or;
+use crate::reports::{put_asked, put_digits, put_ended};
 use ei_serve::Ended;
 use ei_types::Error;
-use ei_wire::NoMemory;
-use std::alloc::Global;
+use test_table::Answer;
 
-/// How a session ended, what the client asked for, and all bytes that were sent, in hexadecimal digits.
-#[derive(Debug, Drop, PartialEq)]
-pub(crate) struct Told {
-    pub(crate) ended: String,
-    pub(crate) asked: String,
-    pub(crate) reply: String,
+/// A line of how the session ended, one of what the client asked for, and one of all bytes that were sent, in hexadecimal
+/// digits.
+pub(crate) fn told_of(stage: &Stage, ended: &Result<Ended, Error>, answer: &mut Answer) -> String {
+    let mut told = Answer::new(stage.alloc);
+    put_ended(&mut told, ended);
+    told.put("\n");
+    put_asked(stage.alloc, &stage.out, &mut told);
+    told.put("\n");
+    put_digits(stage.alloc, stage.sink.tray.bytes(), &mut told);
+    or(answer, told.text(), String::new(stage.alloc))
 }
 
-impl Told {
-    /// Nothing is told.
-    pub(crate) fn new(alloc: Global) -> Told {
-        Told {
-            ended: String::new(alloc),
-            asked: String::new(alloc),
-            reply: String::new(alloc),
-        }
-    }
-
-    /// What is told of these.
-    pub(crate) fn of(
-        alloc: Global,
-        ended: &Result<Ended, Error>,
-        requests: &[EisRequest],
-        sent: &[u8],
-    ) -> Result<Told, NoMemory> {
-        Ok(Told {
-            ended: ended_text(alloc, ended)?,
-            asked: asked_text(alloc, requests)?,
-            reply: digits_text(alloc, sent)?,
-        })
-    }
+/// The three lines that are told.
+pub(crate) fn lines_of(told: &str) -> (&str, &str, &str) {
+    let (ended, rest) = told.split_once('\n').unwrap_or((told, ""));
+    let (asked, reply) = rest.split_once('\n').unwrap_or((rest, ""));
+    (ended, asked, reply)
 }

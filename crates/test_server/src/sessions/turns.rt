@@ -1,93 +1,96 @@
 //! A session that is turned by hand.
 
-use super::outside::{options_and_parts, three};
-use super::serving::prepare;
-use super::world::World;
-use crate::kept::replace;
-use crate::reports::{asked_text, digits_text, error_text};
+use super::outside::options_and_parts;
+use super::world::{Stage, World};
+use crate::kept::set;
+use crate::reports::{put_asked, put_digits, put_error};
 use crate::setups::setup_of;
-use crate::texts::word;
+use crate::texts::display;
 use ei_serve::{Session, Turn};
 use ei_types::Error;
-use std::alloc::{AllocError, Global};
-use test_table::{Stop, number};
+use test_table::{Answer, Reader, Stop};
 
 /// `start SERIAL CAPABILITIES PIECES OPTION .. : PART ..`: whether a session starts.
-pub(crate) fn start(world: &mut World, rest: &str) -> Result<String, Stop> {
-    let (serial, bits, pieces, rest) = three(rest);
-    let setup = setup_of(serial, bits, pieces)?;
-    let (options, parts) = options_and_parts(rest)?;
-    prepare(world, &options, options.cuts, parts)?;
-    let started = Session::start(world.alloc, setup, &mut world.sink);
-    let answer = start_text(world.alloc, &started);
-    replace(&mut world.session, started);
-    Ok(answer?)
-}
-
-/// Whether a session starts.
-fn start_text(alloc: Global, started: &Result<Session, Error>) -> Result<String, AllocError> {
-    match started {
-        Ok(_) => String::from_str(alloc, "started"),
-        Err(error) => error_text(alloc, error),
+pub(crate) fn start(world: &mut World, words: &mut Reader<'_>, answer: &mut Answer) {
+    let setup = setup_of(words);
+    let (options, parts) = options_and_parts(words, answer);
+    world.stage.prepare(&options, options.cuts, parts, answer);
+    match Session::start(world.alloc, setup, &mut world.stage.sink) {
+        Ok(session) => {
+            set(&mut world.session, Some(session));
+            answer.put("started");
+        }
+        Err(error) => put_error(answer, &error),
     }
 }
 
 /// `turn COUNT`: what the last of so many turns answers; those before it go on.
-pub(crate) fn turn(world: &mut World, count: &str) -> Result<String, Stop> {
-    for _ in 1..number(count)? {
-        if !goes_on(world)? {
-            return Err(Stop::Call);
-        }
+pub(crate) fn turn(world: &mut World, words: &mut Reader<'_>, answer: &mut Answer) {
+    match &mut world.session {
+        Some(session) => turn_often(session, &mut world.stage, words.number(), answer),
+        None => words.miss(),
     }
-    let answer = turned(world)?;
-    let text = turn_text(world.alloc, &answer);
-    drop(answer);
-    Ok(text?)
 }
 
-/// Whether a turn answers that the session goes on.
-fn goes_on(world: &mut World) -> Result<bool, Stop> {
-    let answer = turned(world)?;
-    let goes = matches!(answer, Ok(Turn::GoOn));
-    drop(answer);
-    Ok(goes)
+/// Turns so often.
+fn turn_often(session: &mut Session, stage: &mut Stage, count: u32, answer: &mut Answer) {
+    for _ in 1..count {
+        go_on(session, stage, answer);
+    }
+    if let Some(turned) = turned(session, stage, answer) {
+        put_turn(answer, &turned);
+        drop(turned);
+    }
+}
+
+/// A turn that goes on.
+fn go_on(session: &mut Session, stage: &mut Stage, answer: &mut Answer) {
+    let turned = turned(session, stage, answer);
+    if !matches!(turned, Some(Ok(Turn::GoOn))) {
+        answer.stop(Stop::Call);
+    }
+    drop(turned);
 }
 
 /// What a turn answers.
-fn turned(world: &mut World) -> Result<Result<Turn, Error>, Stop> {
-    let Some(session) = &mut world.session else {
-        return Err(Stop::Line);
-    };
+fn turned(
+    session: &mut Session,
+    stage: &mut Stage,
+    answer: &mut Answer,
+) -> Option<Result<Turn, Error>> {
     if session.is_over() {
-        return Err(Stop::Call);
+        answer.stop(Stop::Call);
+        return None;
     }
-    Ok(session.turn(
-        &mut world.source,
-        &mut world.sink,
-        &mut world.clock,
-        &mut world.out,
+    Some(session.turn(
+        &mut stage.source,
+        &mut stage.sink,
+        &mut stage.clock,
+        &mut stage.out,
     ))
 }
 
 /// A turn's answer, in words.
-fn turn_text(alloc: Global, answer: &Result<Turn, Error>) -> Result<String, AllocError> {
-    match answer {
-        Ok(Turn::GoOn) => String::from_str(alloc, "goes on"),
-        Ok(Turn::Disconnect) => String::from_str(alloc, "disconnect"),
-        Ok(Turn::End) => String::from_str(alloc, "eof"),
-        Err(error) => error_text(alloc, error),
+fn put_turn(answer: &mut Answer, turned: &Result<Turn, Error>) {
+    match turned {
+        Ok(Turn::GoOn) => answer.put("goes on"),
+        Ok(Turn::Disconnect) => answer.put("disconnect"),
+        Ok(Turn::End) => answer.put("eof"),
+        Err(error) => put_error(answer, error),
     }
 }
 
 /// `turned-to`: whether the session is over, how many unread bytes it can hold, how many bytes wait to be sent, what was
 /// asked for and what was sent.
-pub(crate) fn turned_to(world: &World) -> Result<String, Stop> {
+pub(crate) fn put_turned_to(world: &World, words: &mut Reader<'_>, answer: &mut Answer) {
     let Some(session) = &world.session else {
-        return Err(Stop::Line);
+        words.miss();
+        return;
     };
-    let alloc = world.alloc;
-    let asked = asked_text(alloc, &world.out)?;
-    let reply = digits_text(alloc, world.sink.tray.bytes())?;
-    let (held, unsent) = (session.buffer_capacity(), session.unsent_len());
-    Ok(format!(in alloc; "{} {held} {unsent} {asked} {reply}", session.is_over())?)
+    display(answer, &session.is_over());
+    display(answer, &session.buffer_capacity());
+    display(answer, &session.unsent_len());
+    put_asked(world.alloc, &world.stage.out, answer);
+    answer.put(" ");
+    put_digits(world.alloc, world.stage.sink.tray.bytes(), answer);
 }
