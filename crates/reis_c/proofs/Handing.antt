@@ -67,6 +67,10 @@ module _ (old : EisView) (last : Handed) (room : ReisRequest) where
       → HandsBy p room answer request (behind old last p) held → HandsFrom b room answer request (behind old last p) held
   from b p answer request held e h = rw e h
 
+  pub handed_by : (p : Option StrictView) (answer : ℕ) (request : ReisRequest) (held : HeldConnection) → is_untold old last ≡ false
+      → HandsBy p room answer request (behind old last p) held → HandsNext room answer request (behind old last p) held
+  handed_by p answer request held told h = from _ p answer request held told h
+
   pub handed_connected : (p : Option StrictView) (request : ReisRequest) → is_untold old last ≡ true → request ≡ of_connected
       → HandsNext room OK request (behind old last p) (behind old (record { last = None; connected = true }) p)
   handed_connected p request told f = rw told (refl, f, refl)
@@ -91,7 +95,7 @@ module _ (old new : EisView) (last : Handed) (room : ReisRequest) where
       subst (λ (q : List EisRequest). HandsFirst q room OK request (behind old last None) (behind new (with_last last (Some r)) None))
       (sym (some_first r (queue_in old.phase) e)) (refl, f, ap (λ v. behind v (with_last last (Some r)) None) is)
 
-  by_none : (p q : Option StrictView) (answer : ℕ) (request : ReisRequest) (held : HeldConnection) → TakesNext p old (Ok None) q new
+  pub by_none : (p q : Option StrictView) (answer : ℕ) (request : ReisRequest) (held : HeldConnection) → TakesNext p old (Ok None) q new
       → HandsNotice new.notices room answer request (behind new last q) held → HandsBy p room answer request (behind old last p) held
   by_none (Some s) (Some t) answer request held takes h = inl (record {
     sifted = t;
@@ -103,7 +107,7 @@ module _ (old new : EisView) (last : Handed) (room : ReisRequest) where
   by_none None q answer request held takes h = plain_none answer request held takes.1 takes.2
       (subst (λ (o : Option StrictView). HandsNotice new.notices room answer request (behind new last o) held) takes.0 h)
 
-  by_some : (p q : Option StrictView) (r : EisRequest) (request : ReisRequest) → request ≡ flat r → TakesNext p old (Ok (Some r)) q new
+  pub by_some : (p q : Option StrictView) (r : EisRequest) (request : ReisRequest) → request ≡ flat r → TakesNext p old (Ok (Some r)) q new
       → HandsBy p room OK request (behind old last p) (behind new (with_last last (Some r)) q)
   by_some (Some s) (Some t) r request f takes = inl (record {
     sifted = t;
@@ -117,20 +121,7 @@ module _ (old new : EisView) (last : Handed) (room : ReisRequest) where
       subst (λ (o : Option StrictView). HandsFirst (queue_in old.phase) room OK request (behind old last None) (behind new (with_last last (Some r)) o)) (sym takes.0)
       (plain_some r request f takes.1 takes.2)
 
-  by_want : (p q : Option StrictView) (e : NoMemory) → TakesNext p old (Err e) q new → HandsBy p room NO_MEMORY room (behind old last p) (behind new last q)
+  pub by_want : (p q : Option StrictView) (e : NoMemory) → TakesNext p old (Err e) q new → HandsBy p room NO_MEMORY room (behind old last p) (behind new last q)
   by_want (Some s) (Some t) e holds = inr (record { answers = refl; kept = refl; sifted = t; policy = refl; holds = holds; handed = refl })
   by_want (Some s) None e holds = absurd holds
   by_want None q e holds = absurd holds
-
-  pub handed_none : (p q : Option StrictView) (answer : ℕ) (request : ReisRequest) (held : HeldConnection) → is_untold old last ≡ false
-      → TakesNext p old (Ok None) q new → HandsNotice new.notices room answer request (behind new last q) held
-      → HandsNext room answer request (behind old last p) held
-  handed_none p q answer request held told takes h = from old last room _ p answer request held told (by_none p q answer request held takes h)
-
-  pub handed_some : (p q : Option StrictView) (r : EisRequest) (request : ReisRequest) → is_untold old last ≡ false → request ≡ flat r
-      → TakesNext p old (Ok (Some r)) q new → HandsNext room OK request (behind old last p) (behind new (with_last last (Some r)) q)
-  handed_some p q r request told f takes = from old last room _ p OK request _ told (by_some p q r request f takes)
-
-  pub handed_want : (p q : Option StrictView) (e : NoMemory) → is_untold old last ≡ false → TakesNext p old (Err e) q new
-      → HandsNext room NO_MEMORY room (behind old last p) (behind new last q)
-  handed_want p q e told holds = from old last room _ p NO_MEMORY room _ told (by_want p q e holds)

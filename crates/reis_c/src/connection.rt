@@ -1,6 +1,6 @@
 //! What stands behind the word of a connection.
 
-ghost use Rattle.std.specs.Prelude.{◌≡◌, ◌≢◌, IfSome};
+ghost use Rattle.std.specs.Prelude.{◌≡◌, ◌≢◌, IfSome, None};
 
 use crate::device::{ReisDevice, ReisRegion, describe, is_wrong, type_of};
 use crate::flat::{ReisRequest, flat, of_connected, of_notice};
@@ -37,7 +37,7 @@ pub(crate) struct HeldConnection {
 
 // What comes and goes.
 impl HeldConnection {
-    ghost use Rattle.reis_c.specs.Connecting.{begun, FeedsConnection, EndsConnection, SendsBytes, HandsNext, HandsNotice, is_untold, Disconnects};
+    ghost use Rattle.reis_c.specs.Connecting.{begun, FeedsConnection, EndsConnection, SendsBytes, HandsNext, HandsBy, HandsNotice, is_untold, Disconnects};
 
     /// A connection that was just started with these flags; `None` where memory ran out.
     pub(crate) fn start(
@@ -96,6 +96,17 @@ impl HeldConnection {
             self.handed.connected = true;
             return OK;
         }
+        self.next_by_policy(request)
+    }
+
+    /// Hands out a request, or, where none is, a notice. Where there is no policy nothing of one stands on the way.
+    fn next_by_policy(&mut self, request: &mut ReisRequest) -> u32
+        ensures hands { HandsBy self.old.policy request.old result request.new self.old self.new }
+        ensures none { result ≢ OK → request.new ≡ request.old }
+    {
+        if self.policy.is_none() {
+            return self.next_waiting(request);
+        }
         match policy::next(&mut self.policy, &mut self.connection) {
             Ok(Some(next)) => {
                 *request = flat(&next);
@@ -104,6 +115,22 @@ impl HeldConnection {
             }
             Ok(None) => self.next_notice(request),
             Err(NoMemory) => NO_MEMORY,
+        }
+    }
+
+    /// Hands out the first request that waits, or, where none does, a notice.
+    fn next_waiting(&mut self, request: &mut ReisRequest) -> u32
+        requires { self.old.policy ≡ None }
+        ensures hands { HandsBy None request.old result request.new self.old self.new }
+        ensures none { result ≢ OK → request.new ≡ request.old }
+    {
+        match self.connection.next_request() {
+            Some(next) => {
+                *request = flat(&next);
+                keep(&mut self.handed.last, next);
+                OK
+            }
+            None => self.next_notice(request),
         }
     }
 

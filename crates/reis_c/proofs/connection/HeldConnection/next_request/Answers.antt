@@ -1,7 +1,5 @@
-use Rattle.std.proofs.Common.{Option, Ok, subst, sym, ◌∙◌}
-use Rattle.ei_request.specs.declared.event.EisRequest.{EisRequest}
-use Rattle.reis_c.specs.Policy.{TakesNext}
-use Rattle.reis_c.proofs.Handing.{handed_connected, handed_some, handed_none, handed_want}
+use Rattle.std.proofs.Common.{sym, ◌∙◌}
+use Rattle.reis_c.proofs.Handing.{handed_connected, handed_by}
 use Rattle.reis_c.proofs.connection.HeldConnection.next_request.Goals as goal
 
 pub returns-then-is_untold-clause-hands : goal.returns-then-is_untold-clause-hands
@@ -9,21 +7,7 @@ returns-then-is_untold-clause-hands c =
     rw c.forget.ensures (handed_connected c.args.self.now.connection c.args.self.now.handed c.args.request.now c.args.self.now.policy
     c.of_connected.result (sym c.is_untold.ensures ∙ c.if-is_untold.true) c.of_connected.ensures)
 
-pub returns-in-Ok-Some-clause-hands : goal.returns-in-Ok-Some-clause-hands
-returns-in-Ok-Some-clause-hands c =
-    rw c.keep.ensures (handed_some c.args.self.now.connection c.next.new.connection c.args.self.now.handed c.args.request.now c.args.self.now.policy
-    c.next.new.policy c.in-Ok-Some.next c.flat.result (sym c.is_untold.ensures ∙ c.if-is_untold.false) c.flat.ensures
-    (subst (λ (o : Option EisRequest). TakesNext c.args.self.now.policy c.args.self.now.connection (Ok o) c.next.new.policy c.next.new.connection)
-    c.in-Ok-Some.field-0-is c.in-Ok-Some.ensures))
-
-pub returns-in-Ok-None-clause-hands : goal.returns-in-Ok-None-clause-hands
-returns-in-Ok-None-clause-hands c =
-    handed_none c.args.self.now.connection c.next.new.connection c.args.self.now.handed c.args.request.now c.args.self.now.policy c.next.new.policy
-    c.next_notice.result c.next_notice.new.request c.next_notice.new.self (sym c.is_untold.ensures ∙ c.if-is_untold.false)
-    (subst (λ (o : Option EisRequest). TakesNext c.args.self.now.policy c.args.self.now.connection (Ok o) c.next.new.policy c.next.new.connection)
-    c.in-Ok-None.field-0-is c.in-Ok-None.ensures) c.next_notice.ensures.hands
-
-pub returns-in-Err-clause-hands : goal.returns-in-Err-clause-hands
-returns-in-Err-clause-hands c =
-    handed_want c.args.self.now.connection c.next.new.connection c.args.self.now.handed c.args.request.now c.args.self.now.policy c.next.new.policy
-    _ (sym c.is_untold.ensures ∙ c.if-is_untold.false) c.in-Err.ensures
+pub returns-clause-hands : goal.returns-clause-hands
+returns-clause-hands c =
+    handed_by c.args.self.now.connection c.args.self.now.handed c.args.request.now c.args.self.now.policy c.next_by_policy.result
+    c.next_by_policy.new.request c.next_by_policy.new.self (sym c.is_untold.ensures ∙ c.if-is_untold.false) c.next_by_policy.ensures.hands
