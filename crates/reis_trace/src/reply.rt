@@ -1,8 +1,9 @@
 //! The replies of a server, as a client reads them.
 
-ghost use Rattle.std.specs.Prelude.{◌≡◌, ◌<◌, ◌≤◌, ◌++◌, ℕ, List, [], length, false, IfOk, OnOk, map};
+ghost use Rattle.std.specs.Prelude.{◌≡◌, ◌<◌, ◌≤◌, ◌++◌, ℕ, List, [], length, true, false, IfOk, OnOk, map};
 ghost use Rattle.ei_spec.specs.declared.limits.TheConstants.{MOST_PIECE_BYTES};
-ghost use Rattle.ei_backend.specs.Backend.{with_piece};
+ghost use Rattle.ei_backend.specs.Backend.{with_piece, new_backend};
+ghost use Rattle.ei_backend.specs.Table.{new_table};
 ghost use Rattle.ei_client.specs.Event.{target_of, opcode_of, values_of};
 ghost use Rattle.reis_trace.specs.Pieces.{bytes_alone};
 ghost use Rattle.reis_trace.specs.Traced.{event_line, traced_bytes};
@@ -24,16 +25,34 @@ pub fn trace(alloc: Global, reply: &[u8]) -> Result<Vec<u8>, NoMemory>
 {
     let mut client = Context::new(alloc)?;
     let mut lines = Vec::new(alloc);
+    let traced = push_pieces(alloc, &mut client, &mut lines, reply);
+    // Let go by a call: at the end of a scope the drop of each field is proved anew.
+    drop(client);
+    traced?;
+    Ok(lines)
+}
+
+/// A line for each message in the bytes, as a client reads them that has read nothing yet.
+fn push_pieces(
+    alloc: Global,
+    client: &mut Context,
+    lines: &mut Vec<u8>,
+    reply: &[u8],
+) -> Result<(), NoMemory>
+    requires fresh { client.old ≡ new_backend (new_table true 1) }
+    requires none { lines.old.items ≡ [] }
+    ensures { OnOk result (lines.new.items ≡ traced_bytes reply.now) }
+{
     let mut rest = reply;
     while !rest.is_empty() {
         let (piece, behind) = rest.split_at(rest.len().min(MOST_PIECE_BYTES));
-        read_piece(&mut client, piece)?;
-        if !push_whole(alloc, &mut client, &mut lines)? {
-            return Ok(lines);
+        read_piece(client, piece)?;
+        if !push_whole(alloc, client, lines)? {
+            return Ok(());
         }
         rest = behind;
     }
-    Ok(lines)
+    Ok(())
 }
 
 /// Gives the bytes to the client.
@@ -92,7 +111,9 @@ fn push_answer(
 ) -> Result<bool, NoMemory>
     ensures { IfOk result (λ is_message. IsPushed (answer_line answer) is_message lines.old.items lines.new.items) }
 {
-    push_shown(alloc, &answer, lines)
+    let shown = push_shown(alloc, &answer, lines);
+    drop(answer);
+    shown
 }
 
 /// The same of an answer that is kept.

@@ -1,10 +1,10 @@
 use Rattle.std.proofs.Common.{subst, sym, ◌∙◌}
 use Rattle.reis_trace.specs.SoFar.{IsTraced}
 use Rattle.reis_trace.proofs.Tracing.{fresh_follows, end_followed, still_none, piece_last, piece_follows, parts_of}
-use Rattle.reis_trace.proofs.reply.trace.Goals as goal
+use Rattle.reis_trace.proofs.reply.push_pieces.Goals as goal
 
 pub loop-rest-init : goal.loop-rest-init
-loop-rest-init c = fresh_follows c.args.reply.now c.new-lines.result.items c.in_ok-client.client c.new-lines.ensures.items c.in_ok-client.ensures
+loop-rest-init c = fresh_follows c.args.reply.now c.args.lines.now.items c.args.client.now c.requires.none c.requires.fresh
 
 pub read_piece-requires-clause-open : goal.read_piece-requires-clause-open
 read_piece-requires-clause-open c = c.loop-rest.invariant.open_still
