@@ -2,127 +2,140 @@
 
 use crate::feeding::done;
 use crate::inputs::input;
-use crate::words::{Described, capabilities, capability, description, letters, reason, text};
+use crate::words::{capabilities, capability, device_type, items, letters, reason, text};
 use reis_eis::{CallError, Connection};
 use std::alloc::Global;
-use test_table::{Stop, first, id, number};
+use test_table::{Answer, Reader, Stop};
 
-/// What a call answers that says something to the client:
+/// Adds what a call answers that says something to the client:
 /// - `add-seat TEXT CAPABILITIES` and `remove-seat ID`;
-/// - `add-device SEAT TEXT TYPE CAPABILITIES ITEM ..`, `remove-device ID`, `resume ID` and `pause ID`;
-/// - `has ID CAPABILITY`: whether the device has it left;
-/// - `start-emulating ID SEQUENCE`, `stop-emulating ID` and `frame ID TIME`;
-/// - `modifiers ID DEPRESSED LOCKED LATCHED GROUP`, and `send ID INPUT VALUE ..`;
+/// - `add-device SEAT TEXT TYPE CAPABILITIES ITEM ..`, and the calls of `act_on`;
+/// - `send ID INPUT VALUE ..`;
 /// - `ping`, and `disconnect REASON TEXT`.
 pub(crate) fn act(
     alloc: Global,
     connection: &mut Connection,
     name: &str,
-    rest: &str,
-) -> Result<String, Stop> {
+    words: &mut Reader<'_>,
+    answer: &mut Answer,
+) {
     match name {
-        "add-seat" => add_seat(alloc, connection, rest),
-        "add-device" => add_device(alloc, connection, rest),
-        "remove-seat" => done(alloc, connection.remove_seat(id(rest)?)),
-        "remove-device" => done(alloc, connection.remove_device(id(rest)?)),
-        "resume" => done(alloc, connection.resume(id(rest)?)),
-        "pause" => done(alloc, connection.pause(id(rest)?)),
-        "has" => has(alloc, connection, rest),
-        "start-emulating" => start_emulating(alloc, connection, rest),
-        "stop-emulating" => done(alloc, connection.stop_emulating(id(rest)?)),
-        "frame" => frame(alloc, connection, rest),
-        "modifiers" => modifiers(alloc, connection, rest),
-        "send" => send(alloc, connection, rest),
-        "ping" => made(alloc, connection.ping()),
-        "disconnect" => disconnect(alloc, connection, rest),
-        _ => Err(Stop::Line),
+        "add-seat" => add_seat(alloc, connection, words, answer),
+        "add-device" => add_device(alloc, connection, words, answer),
+        "remove-seat" => done(connection.remove_seat(words.id()), answer),
+        "send" => send(alloc, connection, words, answer),
+        "ping" => made(connection.ping(), answer),
+        "disconnect" => disconnect(alloc, connection, words, answer),
+        _ => act_on(connection, name, words.id(), words, answer),
     }
 }
 
-/// The id that a call made, or why it made none.
-pub(crate) fn made(alloc: Global, answer: Result<u64, CallError>) -> Result<String, Stop> {
-    match answer {
-        Ok(id) => Ok(format!(in alloc; "{id}")?),
-        Err(error) => Ok(format!(in alloc; "{error:?}")?),
+/// Adds what a call answers that says something of a device:
+/// - `remove-device ID`, `resume ID` and `pause ID`;
+/// - `has ID CAPABILITY`: whether the device has it left;
+/// - `start-emulating ID SEQUENCE`, `stop-emulating ID` and `frame ID TIME`;
+/// - `modifiers ID DEPRESSED LOCKED LATCHED GROUP`.
+fn act_on(
+    connection: &mut Connection,
+    name: &str,
+    device: u64,
+    words: &mut Reader<'_>,
+    answer: &mut Answer,
+) {
+    match name {
+        "remove-device" => done(connection.remove_device(device), answer),
+        "resume" => done(connection.resume(device), answer),
+        "pause" => done(connection.pause(device), answer),
+        "has" => answer.show(&connection.device_has(device, capability(words))),
+        "start-emulating" => done(connection.start_emulating(device, words.number()), answer),
+        "stop-emulating" => done(connection.stop_emulating(device), answer),
+        "frame" => done(connection.frame(device, words.id()), answer),
+        "modifiers" => modifiers(connection, device, words, answer),
+        _ => answer.stop(Stop::Line),
     }
 }
 
-fn add_seat(alloc: Global, connection: &mut Connection, rest: &str) -> Result<String, Stop> {
-    let (name, mask) = first(rest);
-    let name = text(alloc, name)?;
-    let wanted = capabilities(mask)?;
-    made(alloc, connection.add_seat(letters(&name), wanted))
+/// Adds the id that a call made, or why it made none.
+pub(crate) fn made(made: Result<u64, CallError>, answer: &mut Answer) {
+    match made {
+        Ok(id) => answer.display(&id),
+        Err(error) => answer.show(&error),
+    }
 }
 
-fn add_device(alloc: Global, connection: &mut Connection, rest: &str) -> Result<String, Stop> {
-    let (seat, rest) = first(rest);
-    let seat = id(seat)?;
-    let described = description(alloc, rest)?;
-    let answer = add_described(connection, seat, &described);
-    drop(described);
-    made(alloc, answer)
+fn add_seat(
+    alloc: Global,
+    connection: &mut Connection,
+    words: &mut Reader<'_>,
+    answer: &mut Answer,
+) {
+    if let Some(name) = answer.take(text(alloc, words.word())) {
+        made(
+            connection.add_seat(letters(&name), capabilities(words)),
+            answer,
+        );
+        drop(name);
+    }
 }
 
-/// Announces the device.
-fn add_described(
+fn add_device(
+    alloc: Global,
+    connection: &mut Connection,
+    words: &mut Reader<'_>,
+    answer: &mut Answer,
+) {
+    let seat = words.id();
+    if let Some(name) = answer.take(text(alloc, words.word())) {
+        add_named(alloc, connection, seat, letters(&name), words, answer);
+        drop(name);
+    }
+}
+
+/// The same, of a device of that name.
+fn add_named(
+    alloc: Global,
     connection: &mut Connection,
     seat: u64,
-    described: &Described<'_>,
-) -> Result<u64, CallError> {
-    connection.add_device(
-        seat,
-        letters(&described.name),
-        described.device_type,
-        described.capabilities,
-        &described.items,
-    )
+    name: Option<&str>,
+    words: &mut Reader<'_>,
+    answer: &mut Answer,
+) {
+    let (device_type, set) = (device_type(words), capabilities(words));
+    let items = items(alloc, words, answer);
+    let added = connection.add_device(seat, name, device_type, set, &items);
+    drop(items);
+    made(added, answer);
 }
 
-fn has(alloc: Global, connection: &Connection, rest: &str) -> Result<String, Stop> {
-    let (device, name) = first(rest);
-    let answer = connection.device_has(id(device)?, capability(name)?);
-    Ok(format!(in alloc; "{answer:?}")?)
+fn modifiers(
+    connection: &mut Connection,
+    device: u64,
+    words: &mut Reader<'_>,
+    answer: &mut Answer,
+) {
+    let (depressed, locked) = (words.number(), words.number());
+    let (latched, group) = (words.number(), words.number());
+    let changed = connection.modifiers(device, depressed, locked, latched, group);
+    done(changed, answer);
 }
 
-fn start_emulating(alloc: Global, connection: &mut Connection, rest: &str) -> Result<String, Stop> {
-    let (device, sequence) = first(rest);
-    let answer = connection.start_emulating(id(device)?, number(sequence)?);
-    done(alloc, answer)
+fn send(alloc: Global, connection: &mut Connection, words: &mut Reader<'_>, answer: &mut Answer) {
+    let device = words.id();
+    if let Some(input) = answer.take(input(alloc, words)) {
+        done(connection.send(device, &input), answer);
+        drop(input);
+    }
 }
 
-fn frame(alloc: Global, connection: &mut Connection, rest: &str) -> Result<String, Stop> {
-    let (device, time) = first(rest);
-    done(alloc, connection.frame(id(device)?, id(time)?))
-}
-
-fn modifiers(alloc: Global, connection: &mut Connection, rest: &str) -> Result<String, Stop> {
-    let (device, rest) = first(rest);
-    let (depressed, rest) = first(rest);
-    let (locked, rest) = first(rest);
-    let (latched, group) = first(rest);
-    let answer = connection.modifiers(
-        id(device)?,
-        number(depressed)?,
-        number(locked)?,
-        number(latched)?,
-        number(group)?,
-    );
-    done(alloc, answer)
-}
-
-fn send(alloc: Global, connection: &mut Connection, rest: &str) -> Result<String, Stop> {
-    let (device, rest) = first(rest);
-    let device = id(device)?;
-    let input = input(alloc, rest)?;
-    let answer = connection.send(device, &input);
-    // Let go by a call: at the end of a scope the drop of each field is proved anew.
-    drop(input);
-    done(alloc, answer)
-}
-
-fn disconnect(alloc: Global, connection: &mut Connection, rest: &str) -> Result<String, Stop> {
-    let (name, explanation) = first(rest);
-    let explanation = text(alloc, explanation)?;
-    let answer = connection.disconnect(reason(name)?, letters(&explanation));
-    done(alloc, answer)
+fn disconnect(
+    alloc: Global,
+    connection: &mut Connection,
+    words: &mut Reader<'_>,
+    answer: &mut Answer,
+) {
+    let reason = reason(words);
+    if let Some(explanation) = answer.take(text(alloc, words.rest())) {
+        done(connection.disconnect(reason, letters(&explanation)), answer);
+        drop(explanation);
+    }
 }

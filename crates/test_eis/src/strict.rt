@@ -1,8 +1,8 @@
 //! The policy beside the connection, as a program asks and tells it.
 
 use crate::acting::made;
-use crate::feeding::{bytes_of, done, start};
-use crate::told::{or_nothing, push, shown};
+use crate::feeding::{bytes_of, done};
+use crate::told::{part, push_next};
 use crate::words::capabilities;
 use ei_request::EisRequest;
 use ei_types::{ContextType, DeviceType};
@@ -10,10 +10,9 @@ use ei_wire::NoMemory;
 use reis_eis::Connection;
 use reis_strict::{Strict, Verdict};
 use std::alloc::Global;
-use std::{fmt, mem};
-use test_table::{Stop, first, id};
+use test_table::{Answer, Reader, Stop};
 
-/// What a call answers that asks the policy beside the connection, or tells it:
+/// Adds what a call answers that asks the policy beside the connection, or tells it:
 /// - `feed PART ..`: whether the parts are taken as one piece;
 /// - `judge`: what becomes of the requests that wait, with slashes between them;
 /// - `next`: the next request that passes;
@@ -25,105 +24,79 @@ pub(crate) fn ask(
     alloc: Global,
     connection: &mut Connection,
     strict: &mut Strict,
-    call: &str,
-) -> Result<String, Stop> {
-    let (name, rest) = first(call);
+    name: &str,
+    words: &mut Reader<'_>,
+    answer: &mut Answer,
+) {
     match name {
-        "feed" => feed(alloc, connection, rest),
-        "judge" => judge(alloc, connection, strict),
-        "next" => next(alloc, connection, strict),
-        "seat" => made(alloc, connection.add_seat(None, capabilities(rest)?)),
-        "device" => device(alloc, connection, rest),
-        "reserve" => reserve(alloc, strict, rest),
-        "forget" => forget(alloc, connection, strict),
-        _ => act(alloc, connection, strict, name, id(rest)?),
+        "feed" => feed(alloc, connection, words.rest(), answer),
+        "judge" => judge(connection, strict, answer),
+        "next" => next(connection, strict, answer),
+        "seat" => made(connection.add_seat(None, capabilities(words)), answer),
+        "device" => device(connection, words, answer),
+        "reserve" => reserve(strict, words.id(), answer),
+        "forget" => forget(connection, strict, answer),
+        _ => act(connection, strict, name, words.id(), answer),
     }
 }
 
-/// `start SERIAL`: a connection with its policy in place of those of the lines before.
-pub(crate) fn begin(
-    alloc: Global,
-    connection: &mut Option<Connection>,
-    strict: &mut Option<Strict>,
-    serial: &str,
-) -> Result<String, Stop> {
-    // Let go by a call: at the end of a scope the drop of each field is proved anew.
-    drop(mem::replace(strict, Some(Strict::new(alloc))));
-    start(alloc, connection, serial)
+fn feed(alloc: Global, connection: &mut Connection, parts: &str, answer: &mut Answer) {
+    if let Some(piece) = answer.take(bytes_of(alloc, parts)) {
+        done(connection.feed(&piece, &[], 0), answer);
+        drop(piece);
+    }
 }
 
-fn feed(alloc: Global, connection: &mut Connection, parts: &str) -> Result<String, Stop> {
-    let piece = bytes_of(alloc, parts)?;
-    done(alloc, connection.feed(&piece, &[], 0))
+fn device(connection: &mut Connection, words: &mut Reader<'_>, answer: &mut Answer) {
+    let (seat, set) = (words.id(), capabilities(words));
+    let added = connection.add_device(seat, None, DeviceType::Virtual, set, &[]);
+    made(added, answer);
 }
 
-fn device(alloc: Global, connection: &mut Connection, rest: &str) -> Result<String, Stop> {
-    let (seat, mask) = first(rest);
-    let (seat, mask) = (id(seat)?, capabilities(mask)?);
-    let answer = connection.add_device(seat, None, DeviceType::Virtual, mask, &[]);
-    made(alloc, answer)
+fn reserve(strict: &mut Strict, device: u64, answer: &mut Answer) {
+    answer.take(strict.reserve(device));
+    answer.put("done");
 }
 
-fn reserve(alloc: Global, strict: &mut Strict, rest: &str) -> Result<String, Stop> {
-    strict.reserve(id(rest)?)?;
-    Ok(String::from_str(alloc, "done")?)
-}
-
-fn forget(alloc: Global, connection: &Connection, strict: &mut Strict) -> Result<String, Stop> {
+fn forget(connection: &Connection, strict: &mut Strict, answer: &mut Answer) {
     strict.forget_gone(connection);
-    Ok(String::from_str(alloc, "done")?)
+    answer.put("done");
 }
 
 /// A call of the program about a device.
 fn act(
-    alloc: Global,
     connection: &mut Connection,
     strict: &mut Strict,
     name: &str,
     device: u64,
-) -> Result<String, Stop> {
-    let answer = match name {
+    answer: &mut Answer,
+) {
+    let acted = match name {
         "resume" => connection.resume(device),
         "pause" => connection.pause(device),
         "remove" => connection.remove_device(device),
-        _ => return Err(Stop::Line),
+        _ => return answer.stop(Stop::Line),
     };
-    if answer.is_ok() {
-        tell(strict, name, device)?;
+    if acted.is_ok() {
+        tell(strict, name, device, answer);
     }
-    done(alloc, answer)
+    done(acted, answer);
 }
 
 /// The policy is told of it.
-fn tell(strict: &mut Strict, name: &str, device: u64) -> Result<(), Stop> {
+fn tell(strict: &mut Strict, name: &str, device: u64, answer: &mut Answer) {
     match name {
-        "resume" => strict.resumed(device)?,
+        "resume" => {
+            answer.take(strict.resumed(device));
+        }
         "pause" => strict.paused(device),
         _ => strict.removed(device),
     }
-    Ok(())
 }
 
-fn next(alloc: Global, connection: &mut Connection, strict: &mut Strict) -> Result<String, Stop> {
-    match strict.next(connection) {
-        Ok(request) => shown_some(alloc, request),
-        Err(NoMemory) => Err(Stop::NoMemory),
-    }
-}
-
-/// A value as its Debug text, if there is one; it is let go.
-fn shown_some<T: fmt::Debug + Drop>(alloc: Global, value: Option<T>) -> Result<String, Stop> {
-    match value {
-        Some(value) => shown(alloc, &value),
-        None => or_nothing(String::new(alloc)),
-    }
-}
-
-/// The role of the client that stands.
-fn role_of(connection: &Connection) -> Result<ContextType, Stop> {
-    match connection.client() {
-        Some(client) => Ok(client.context_type()),
-        None => Err(Stop::Line),
+fn next(connection: &mut Connection, strict: &mut Strict, answer: &mut Answer) {
+    if let Some(next) = answer.take(strict.next(connection)) {
+        push_next(next, 0, answer);
     }
 }
 
@@ -150,27 +123,41 @@ fn judge_some<T: Drop, J: Judges<T>>(
     }
 }
 
-fn judge(alloc: Global, connection: &mut Connection, strict: &mut Strict) -> Result<String, Stop> {
-    let role = role_of(connection)?;
-    let mut text = String::new(alloc);
-    for _ in 0..100 {
-        let request = connection.next_request();
-        let Some(verdict) = judge_some(strict, role, request) else {
-            break;
-        };
-        push_verdict(&mut text, verdict?)?;
+fn judge(connection: &mut Connection, strict: &mut Strict, answer: &mut Answer) {
+    match connection.client() {
+        Some(client) => {
+            let role = client.context_type();
+            judge_all(connection, strict, role, answer);
+        }
+        None => answer.stop(Stop::Line),
     }
-    Ok(text)
 }
 
-/// Adds what becomes of a request.
-fn push_verdict(text: &mut String, verdict: Verdict) -> Result<(), Stop> {
-    match verdict {
-        Verdict::Pass => push(text, "pass"),
-        Verdict::Drop => push(text, "drop"),
-        Verdict::End(fault) => {
-            push(text, "end: ")?;
-            Ok(text.push_str(fault.text())?)
+/// Adds what becomes of the requests of a client of that role.
+fn judge_all(
+    connection: &mut Connection,
+    strict: &mut Strict,
+    role: ContextType,
+    answer: &mut Answer,
+) {
+    for place in 0..100usize {
+        match judge_some(strict, role, connection.next_request()) {
+            Some(verdict) => push_verdict(verdict, place, answer),
+            None => break,
         }
+    }
+}
+
+/// Adds what becomes of a request, behind so many others.
+fn push_verdict(verdict: Result<Verdict, NoMemory>, place: usize, answer: &mut Answer) {
+    part(place, answer);
+    match answer.take(verdict) {
+        Some(Verdict::Pass) => answer.put("pass"),
+        Some(Verdict::Drop) => answer.put("drop"),
+        Some(Verdict::End(fault)) => {
+            answer.put("end: ");
+            answer.put(fault.text());
+        }
+        None => {}
     }
 }

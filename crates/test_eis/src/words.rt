@@ -5,34 +5,33 @@ use ei_spec::Handle;
 use ei_types::{DeviceCapabilities, DeviceCapability, DeviceType, DisconnectReason, KeymapType};
 use ei_wire::RawFloat;
 use std::alloc::{AllocError, Global};
-use test_table::{Stop, first, id, number};
+use test_table::{Answer, Reader, Stop, count};
 
 /// The set of these bits, in decimal digits.
-pub(crate) fn capabilities(word: &str) -> Result<DeviceCapabilities, Stop> {
-    DeviceCapabilities::from_bits(id(word)?).ok_or(Stop::Line)
+pub(crate) fn capabilities(words: &mut Reader<'_>) -> DeviceCapabilities {
+    let set = DeviceCapabilities::from_bits(words.id());
+    words.or(set.ok_or(Stop::Line), DeviceCapabilities::empty())
 }
 
 /// What a word spells: no text of a dash, the rest behind `=`, and so many letters behind `a*`.
 pub(crate) fn text(alloc: Global, word: &str) -> Result<Option<String>, Stop> {
     if let Some(rest) = word.strip_prefix('=') {
-        return Ok(Some(String::from_str(alloc, rest)?));
-    }
-    if let Some(count) = word.strip_prefix("a*") {
-        return Ok(Some(repeated(alloc, number(count)?)?));
-    }
-    match word {
-        "-" => Ok(None),
-        _ => Err(Stop::Line),
+        some(String::from_str(alloc, rest))
+    } else if let Some(length) = word.strip_prefix("a*") {
+        some("a".repeat(alloc, count(length)?))
+    } else if word == "-" {
+        Ok(None)
+    } else {
+        Err(Stop::Line)
     }
 }
 
-/// A text of so many letters.
-fn repeated(alloc: Global, count: u32) -> Result<String, AllocError> {
-    let mut text = String::new(alloc);
-    for _ in 0..count {
-        text.push('a')?;
+/// The text that was made.
+fn some(made: Result<String, AllocError>) -> Result<Option<String>, Stop> {
+    match made {
+        Ok(text) => Ok(Some(text)),
+        Err(error) => Err(Stop::from(error)),
     }
-    Ok(text)
 }
 
 /// The text as a slice.
@@ -44,129 +43,114 @@ pub(crate) fn letters(text: &Option<String>) -> Option<&str> {
 }
 
 /// The capability whose interface has that name.
-pub(crate) fn capability(word: &str) -> Result<DeviceCapability, Stop> {
-    DeviceCapability::from_interface_name(word).ok_or(Stop::Line)
+pub(crate) fn capability(words: &mut Reader<'_>) -> DeviceCapability {
+    let named = DeviceCapability::from_interface_name(words.word());
+    words.or(named.ok_or(Stop::Line), DeviceCapability::Pointer)
 }
 
 /// The reason of that name.
-pub(crate) fn reason(word: &str) -> Result<DisconnectReason, Stop> {
-    match word {
-        "disconnected" => Ok(DisconnectReason::Disconnected),
-        "error" => Ok(DisconnectReason::Error),
-        "mode" => Ok(DisconnectReason::Mode),
-        "protocol" => Ok(DisconnectReason::Protocol),
-        "value" => Ok(DisconnectReason::Value),
-        _ => Err(Stop::Line),
+pub(crate) fn reason(words: &mut Reader<'_>) -> DisconnectReason {
+    match words.word() {
+        "disconnected" => DisconnectReason::Disconnected,
+        "error" => DisconnectReason::Error,
+        "mode" => DisconnectReason::Mode,
+        "protocol" => DisconnectReason::Protocol,
+        "value" => DisconnectReason::Value,
+        _ => {
+            words.miss();
+            DisconnectReason::Error
+        }
     }
-}
-
-/// What a device is said to be.
-#[derive(Drop)]
-pub(crate) struct Described<'a> {
-    pub(crate) name: Option<String>,
-    pub(crate) device_type: DeviceType,
-    pub(crate) capabilities: DeviceCapabilities,
-    pub(crate) items: Vec<DeviceSetup<'a>>,
-}
-
-/// What a line says of a device: its name, its type, its capabilities and the items of its description.
-pub(crate) fn description<'a>(alloc: Global, line: &'a str) -> Result<Described<'a>, Stop> {
-    let (name, rest) = first(line);
-    let (kind, rest) = first(rest);
-    let (mask, rest) = first(rest);
-    let device_type = device_type(kind)?;
-    let capabilities = capabilities(mask)?;
-    let items = items(alloc, rest)?;
-    Ok(Described {
-        name: text(alloc, name)?,
-        device_type,
-        capabilities,
-        items,
-    })
 }
 
 /// The type of that name.
-fn device_type(word: &str) -> Result<DeviceType, Stop> {
-    match word {
-        "virtual" => Ok(DeviceType::Virtual),
-        "physical" => Ok(DeviceType::Physical),
-        _ => Err(Stop::Line),
+pub(crate) fn device_type(words: &mut Reader<'_>) -> DeviceType {
+    match words.word() {
+        "virtual" => DeviceType::Virtual,
+        "physical" => DeviceType::Physical,
+        _ => {
+            words.miss();
+            DeviceType::Virtual
+        }
     }
 }
 
-/// The items that the words say.
-fn items<'a>(alloc: Global, line: &'a str) -> Result<Vec<DeviceSetup<'a>>, Stop> {
+/// The items of a description that the other words say.
+pub(crate) fn items<'a>(
+    alloc: Global,
+    words: &mut Reader<'a>,
+    answer: &mut Answer,
+) -> Vec<DeviceSetup<'a>> {
     let mut items = Vec::new(alloc);
-    let mut rest = line;
-    for _ in 0..line.len() {
-        if rest.is_empty() {
-            break;
+    for word in words.rest().split(' ') {
+        if !word.is_empty() {
+            push_item(&mut items, word, words, answer);
         }
-        let (word, others) = first(rest);
-        push_item(alloc, &mut items, word)?;
-        rest = others;
     }
-    Ok(items)
+    items
 }
 
 /// Adds the item that a word says, as often as stands behind its star.
 fn push_item<'a>(
-    _alloc: Global,
     items: &mut Vec<DeviceSetup<'a>>,
     word: &'a str,
-) -> Result<(), Stop> {
+    words: &mut Reader<'_>,
+    answer: &mut Answer,
+) {
     let (word, times) = word.split_once('*').unwrap_or((word, "1"));
-    for _ in 0..number(times)? {
-        items.push(item(word)?)?;
+    for _ in 0..words.or(times.parse::<u32>(), 0) {
+        answer.take(items.push(item(word, words)));
     }
-    Ok(())
 }
 
 /// The item that a word says.
-fn item(word: &str) -> Result<DeviceSetup<'_>, Stop> {
-    let (kind, rest) = word.split_once(':').ok_or(Stop::Line)?;
+fn item<'a>(word: &'a str, words: &mut Reader<'_>) -> DeviceSetup<'a> {
+    let (kind, rest) = word.split_once(':').unwrap_or((word, ""));
     match kind {
-        "dimensions" => dimensions(rest),
-        "mapping-id" => Ok(DeviceSetup::RegionMappingId(rest)),
-        "region" => region(rest),
-        "keymap" => keymap(rest),
-        _ => Err(Stop::Line),
+        "dimensions" => dimensions(rest, words),
+        "region" => region(rest, words),
+        "keymap" => keymap(rest, words),
+        "mapping-id" => DeviceSetup::RegionMappingId(rest),
+        _ => {
+            words.miss();
+            DeviceSetup::RegionMappingId(rest)
+        }
     }
 }
 
 /// The number before the next colon, and the rest.
-fn next_number(rest: &str) -> Result<(u32, &str), Stop> {
+fn number<'a>(rest: &'a str, words: &mut Reader<'_>) -> (u32, &'a str) {
     let (word, rest) = rest.split_once(':').unwrap_or((rest, ""));
-    Ok((number(word)?, rest))
+    (words.or(word.parse::<u32>(), 0), rest)
 }
 
-fn dimensions<'a>(rest: &str) -> Result<DeviceSetup<'a>, Stop> {
-    let (width, rest) = next_number(rest)?;
-    let height = number(rest)?;
-    Ok(DeviceSetup::Dimensions { width, height })
+fn dimensions<'a>(rest: &str, words: &mut Reader<'_>) -> DeviceSetup<'a> {
+    let (width, rest) = number(rest, words);
+    let (height, _) = number(rest, words);
+    DeviceSetup::Dimensions { width, height }
 }
 
-fn region<'a>(rest: &str) -> Result<DeviceSetup<'a>, Stop> {
-    let (offset_x, rest) = next_number(rest)?;
-    let (offset_y, rest) = next_number(rest)?;
-    let (width, rest) = next_number(rest)?;
-    let (hight, rest) = next_number(rest)?;
-    let scale = RawFloat(number(rest)?);
-    Ok(DeviceSetup::Region {
+fn region<'a>(rest: &str, words: &mut Reader<'_>) -> DeviceSetup<'a> {
+    let (offset_x, rest) = number(rest, words);
+    let (offset_y, rest) = number(rest, words);
+    let (width, rest) = number(rest, words);
+    let (hight, rest) = number(rest, words);
+    let (scale, _) = number(rest, words);
+    DeviceSetup::Region {
         offset_x,
         offset_y,
         width,
         hight,
-        scale,
-    })
+        scale: RawFloat(scale),
+    }
 }
 
-fn keymap<'a>(rest: &str) -> Result<DeviceSetup<'a>, Stop> {
-    let (size, rest) = next_number(rest)?;
-    let handle = Handle(number(rest)?);
-    Ok(DeviceSetup::Keymap {
+fn keymap<'a>(rest: &str, words: &mut Reader<'_>) -> DeviceSetup<'a> {
+    let (size, rest) = number(rest, words);
+    let (handle, _) = number(rest, words);
+    DeviceSetup::Keymap {
         keymap_type: KeymapType::Xkb,
         size,
-        handle,
-    })
+        handle: Handle(handle),
+    }
 }

@@ -1,70 +1,70 @@
 //! Standard input, standard output and the clock, call by call.
 
 use crate::options::Row;
-use crate::texts::shown;
+use crate::texts::{number, tell_text};
 use ei_backend::{Clock, Fault, PutError, Sink};
 use reis_lines::Input;
 use reis_run::std_io::{StdClock, StdInput, StdOutput};
-use std::alloc::{AllocError, Global};
+use std::alloc::Global;
 use std::cell::Cell;
-use std::fmt::Write;
-use test_table::{Stop, number};
+use test_table::Answer;
 
 /// `fetches COUNT`: what so many calls give, each with room for eight bytes.
-pub(crate) fn fetches(alloc: Global, row: &Row) -> Result<String, Stop> {
+pub(crate) fn tell_fetches(alloc: Global, answer: &mut Answer, row: &Row<'_>) {
     let calls = Cell::new(0);
-    let mut input = StdInput::new(row.options.reader(row.options.cuts, &row.text, &calls)?);
-    let mut said = String::new(alloc);
-    for _ in 0..number(row.words)? {
-        push_fetched(alloc, &mut said, &mut input)?;
+    let reader = row
+        .options
+        .reader(answer, row.options.cuts, &row.text, &calls);
+    let mut input = StdInput::new(reader);
+    for _ in 0..number(answer, row.words) {
+        tell_fetch(alloc, answer, &mut input);
     }
-    Ok(said)
+    drop(input);
 }
 
-/// Adds what a call gives: how many bytes, and what the room holds then.
-fn push_fetched<I: Input>(
-    alloc: Global,
-    said: &mut String,
-    input: &mut I,
-) -> Result<(), AllocError> {
+/// Tells what a call gives: how many bytes, and what the room holds then.
+fn tell_fetch<I: Input>(alloc: Global, answer: &mut Answer, input: &mut I) {
     let mut room = [b'-'; 8];
     match input.fetch(&mut room) {
-        Ok(count) => write!(said, "{count} ")?,
-        Err(Fault) => said.push_str("fault ")?,
+        Ok(count) => answer.display(&count),
+        Err(Fault) => answer.put("fault"),
     }
-    let held = shown(alloc, &room)?;
-    write!(said, "{held} ")
+    answer.put(" ");
+    tell_text(alloc, answer, &room);
+    answer.put(" ");
 }
 
 /// `puts COUNT`: how many bytes of the text each of so many calls takes, and what was written.
-pub(crate) fn puts(alloc: Global, row: &Row) -> Result<String, Stop> {
+pub(crate) fn tell_puts(alloc: Global, answer: &mut Answer, row: &Row<'_>) {
     let mut written = Vec::new(alloc);
-    let mut said = puts_into(alloc, row, &mut written)?;
-    said.push_str(shown(alloc, &written)?.as_str())?;
-    Ok(said)
+    let mut output = StdOutput::new(row.options.writer(&mut written));
+    for _ in 0..number(answer, row.words) {
+        tell_put(answer, output.put(&row.text, &[]));
+    }
+    drop(output);
+    tell_text(alloc, answer, &written);
+    // Let go by a call: at the end of a scope the drop of each field is proved anew.
+    drop(written);
 }
 
-/// How many bytes of the text each of so many calls takes.
-fn puts_into(alloc: Global, row: &Row, written: &mut Vec<u8>) -> Result<String, Stop> {
-    let mut output = StdOutput::new(row.options.writer(written));
-    let mut said = String::new(alloc);
-    for _ in 0..number(row.words)? {
-        match output.put(&row.text, &[]) {
-            Ok(count) => write!(said, "{count} ")?,
-            Err(PutError::Fault) => said.push_str("fault ")?,
-            Err(PutError::NoMemory) => said.push_str("no memory ")?,
-        }
+/// Tells how many bytes a call takes.
+fn tell_put(answer: &mut Answer, put: Result<usize, PutError>) {
+    match put {
+        Ok(count) => answer.display(&count),
+        Err(PutError::Fault) => answer.put("fault"),
+        Err(PutError::NoMemory) => answer.put("no memory"),
     }
-    Ok(said)
+    answer.put(" ");
 }
 
 /// `readings COUNT`: what the clock shows so many times.
-pub(crate) fn readings(alloc: Global, row: &Row) -> Result<String, Stop> {
-    let ticks = row.options.ticks(alloc)?;
+pub(crate) fn tell_readings(alloc: Global, answer: &mut Answer, row: &Row<'_>) {
+    let ticks = row.options.ticks(alloc, answer);
     let mut clock = StdClock::new(&ticks);
-    let mut said = String::new(alloc);
-    for _ in 0..number(row.words)? {
-        write!(said, "{} ", clock.now())?;
+    for _ in 0..number(answer, row.words) {
+        answer.display(&clock.now());
+        answer.put(" ");
     }
-    Ok(said)
+    drop(clock);
+    drop(ticks);
 }

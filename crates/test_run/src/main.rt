@@ -22,6 +22,5 @@ use test_table::{Stop, count_right};
 
 fn main(rt: HostRuntime) -> Result<(), Stop> {
     let right = count_right(&rt, &mut Calls)?;
-    println!(rt; "as they should be: {right}")?;
-    Ok(())
+    println!(rt; "as they should be: {right}").map_err(Stop::from)
 }

@@ -1,13 +1,13 @@
 //! What a row says of the outside.
 
 use crate::fakes::{Reader, Ticks, Writer};
-use crate::texts::text_of;
+use crate::texts::{id, number, push_text};
 use ei_backend::{Readings, Tray};
 use ei_wire::EiText;
 use reis_lines::MemoryText;
 use std::alloc::Global;
 use std::cell::Cell;
-use test_table::{Stop, count, id, number};
+use test_table::{Answer, Stop};
 
 /// A row's options. A call of number 0 is none.
 #[derive(Clone, Copy)]
@@ -42,78 +42,99 @@ impl<'a> Options<'a> {
     }
 
     /// The options of these words.
-    fn of(words: &'a str) -> Result<Options<'a>, Stop> {
+    fn of(answer: &mut Answer, words: &'a str) -> Options<'a> {
         let mut options = Options::new();
         for word in words.split(' ') {
-            options.set(word)?;
+            options.set(answer, word);
         }
-        Ok(options)
+        options
     }
 
     /// Sets an option.
-    fn set(&mut self, word: &'a str) -> Result<(), Stop> {
+    fn set(&mut self, answer: &mut Answer, word: &'a str) {
         let (name, value) = word.split_once('=').unwrap_or((word, ""));
         match name {
             "" => {}
             "std" => self.is_std = true,
             "cut" => self.cuts = value,
-            "fetch" => self.fetch = number(value)?,
-            "put" => self.put = number(value)?,
-            "most" => self.most = count(value)?,
             "clock" => self.clock = value,
             "lines" => self.lines = value,
-            _ => return Err(Stop::Line),
+            _ => self.set_number(answer, name, value),
         }
-        Ok(())
+    }
+
+    /// Sets an option that is a number.
+    fn set_number(&mut self, answer: &mut Answer, name: &str, value: &str) {
+        let number = number(answer, value);
+        match name {
+            "fetch" => self.fetch = number,
+            "put" => self.put = number,
+            "most" => self.most = number as usize,
+            _ => answer.stop(Stop::Line),
+        }
     }
 
     /// The text as an input in memory.
-    pub(crate) fn memory_text(&self, alloc: Global, text: &[u8]) -> Result<MemoryText, Stop> {
-        let mut input = MemoryText::new(alloc, text)?;
-        if self.fetch > 0 {
-            input.fail_at(self.fetch)?;
+    pub(crate) fn memory_text(
+        &self,
+        alloc: Global,
+        answer: &mut Answer,
+        text: &[u8],
+    ) -> Option<MemoryText> {
+        let mut input = answer.take(MemoryText::new(alloc, text));
+        if let Some(input) = &mut input {
+            if self.fetch > 0 {
+                answer.take(input.fail_at(self.fetch));
+            }
         }
-        Ok(input)
+        input
     }
 
     /// An output in memory.
-    pub(crate) fn tray(&self, alloc: Global) -> Result<Tray, Stop> {
+    pub(crate) fn tray(&self, alloc: Global, answer: &mut Answer) -> Tray {
         let mut tray = Tray::new(alloc);
         if self.put > 0 {
-            tray.fail_at(self.put)?;
+            answer.take(tray.fail_at(self.put));
         }
-        Ok(tray)
+        tray
     }
 
     /// A clock in memory.
-    pub(crate) fn readings(&self, alloc: Global) -> Result<Readings, Stop> {
+    pub(crate) fn readings(&self, alloc: Global, answer: &mut Answer) -> Option<Readings> {
         let mut readings = Vec::new(alloc);
         if !self.clock.is_empty() {
             for reading in self.clock.split(',') {
-                readings.push(id(reading)?)?;
+                let reading = id(answer, reading);
+                answer.take(readings.push(reading));
             }
         }
-        Ok(Readings::new(alloc, &readings)?)
+        let clock = answer.take(Readings::new(alloc, &readings));
+        // Let go by a call: at the end of a scope the drop of each field is proved anew.
+        drop(readings);
+        clock
     }
 
     /// A reader of the text, in this cut, which counts its calls.
     pub(crate) fn reader<'b>(
         &self,
+        answer: &mut Answer,
         cut: &str,
         text: &'b [u8],
         calls: &'b Cell<u32>,
-    ) -> Result<Reader<'b>, Stop> {
-        let most = match cut {
-            "all" | "line" => usize::MAX,
-            _ => count(cut)?,
+    ) -> Reader<'b> {
+        let by_line = cut == "line";
+        let most = if by_line || cut == "all" {
+            usize::MAX
+        } else {
+            number(answer, cut) as usize
         };
-        Ok(Reader {
+        Reader {
             text,
             most,
-            by_line: cut == "line",
+            by_line,
             fails_at: self.fetch,
             calls,
-        })
+        }
     }
 
     /// A writer into the vector.
@@ -127,19 +148,25 @@ impl<'a> Options<'a> {
     }
 
     /// Ticks in memory; a dash is a tick that fails.
-    pub(crate) fn ticks(&self, alloc: Global) -> Result<Ticks, Stop> {
+    pub(crate) fn ticks(&self, alloc: Global, answer: &mut Answer) -> Ticks {
         let mut ticks = Vec::new(alloc);
         for tick in self.clock.split(',') {
-            let tick = match tick {
-                "" | "-" => None,
-                _ => Some(id(tick)?),
-            };
-            ticks.push(tick)?;
+            let tick = tick_of(answer, tick);
+            answer.take(ticks.push(tick));
         }
-        Ok(Ticks {
+        Ticks {
             ticks,
             next: Cell::new(0),
-        })
+        }
+    }
+}
+
+/// A tick; none of a dash.
+fn tick_of(answer: &mut Answer, word: &str) -> Option<u64> {
+    if word.is_empty() || word == "-" {
+        None
+    } else {
+        Some(id(answer, word))
     }
 }
 
@@ -153,26 +180,51 @@ pub(crate) struct Row<'a> {
 
 impl<'a> Row<'a> {
     /// The row of this line.
-    pub(crate) fn of(alloc: Global, line: &'a str) -> Result<Row<'a>, Stop> {
-        let (words, rest) = line.split_once(':').ok_or(Stop::Line)?;
-        let (options, text) = rest.split_once(':').ok_or(Stop::Line)?;
-        let options = Options::of(options)?;
-        let text = text_of(alloc, options.lines, text.trim_start())?;
-        Ok(Row {
+    pub(crate) fn of(alloc: Global, answer: &mut Answer, line: &'a str) -> Row<'a> {
+        let (words, rest) = parted(answer, line);
+        let (options, letters) = parted(answer, rest);
+        let options = Options::of(answer, options);
+        let mut text = Vec::new(alloc);
+        push_text(
+            alloc,
+            answer,
+            &mut text,
+            options.lines,
+            letters.trim_start(),
+        );
+        Row {
             words: words.trim_end(),
             options,
             text,
-        })
+        }
     }
 
     /// The words that the program is started with.
-    pub(crate) fn started_with(&self, alloc: Global) -> Result<Vec<EiText>, Stop> {
+    pub(crate) fn started_with(&self, alloc: Global, answer: &mut Answer) -> Vec<EiText> {
         let mut words = Vec::new(alloc);
         if !self.words.is_empty() {
             for word in self.words.split(' ') {
-                words.push(EiText::new(alloc, word)?)?;
+                push_word(alloc, answer, &mut words, word);
             }
         }
-        Ok(words)
+        words
+    }
+}
+
+/// What stands before the first colon, and what behind it.
+fn parted<'a>(answer: &mut Answer, line: &'a str) -> (&'a str, &'a str) {
+    match line.split_once(':') {
+        Some(parts) => parts,
+        None => {
+            answer.stop(Stop::Line);
+            (line, "")
+        }
+    }
+}
+
+/// Adds a word.
+fn push_word(alloc: Global, answer: &mut Answer, words: &mut Vec<EiText>, word: &str) {
+    if let Some(word) = answer.take(EiText::new(alloc, word)) {
+        answer.take(words.push(word));
     }
 }

@@ -1,89 +1,78 @@
 //! The pieces that the lines of a text spell.
 
-ghost use Rattle.std.specs.Prelude.{◌≡◌, IfOk, vec_len};
-
 use crate::options::Row;
+use crate::texts::{number, tell_found};
 use ei_backend::{Fault, Source};
 use ei_spec::Handle;
-use ei_wire::NoMemory;
 use reis_lines::{HexSource, Input};
 use reis_run::std_io::StdInput;
 use std::alloc::Global;
 use std::cell::Cell;
-use test_table::{Stop, number};
+use test_table::Answer;
 
 /// `pieces COUNT`: what so many calls of the source give, and its bad line, in each of the cuts.
-pub(crate) fn pieces(alloc: Global, row: &Row) -> Result<String, Stop> {
-    let count = number(row.words)?;
-    let mut said = String::new(alloc);
+pub(crate) fn tell_pieces(alloc: Global, answer: &mut Answer, row: &Row<'_>) {
+    let mut told = String::new(alloc);
     for cut in row.options.cuts.split(',') {
-        let text = pieces_in(alloc, row, cut, count)?;
-        if !said.is_empty() && said != text {
-            return Ok(format!(in alloc; "in cuts of {cut}: {text}")?);
-        }
-        said = text;
+        let mut found = Answer::new(alloc);
+        tell_pieces_in(alloc, &mut found, row, cut);
+        tell_found(answer, &mut told, cut, found);
     }
-    Ok(said)
+    // Let go by a call: at the end of a scope the drop of each field is proved anew.
+    drop(told);
 }
 
-/// What so many calls give in this cut.
-fn pieces_in(alloc: Global, row: &Row, cut: &str, count: u32) -> Result<String, Stop> {
+/// Tells what so many calls give in this cut.
+fn tell_pieces_in(alloc: Global, answer: &mut Answer, row: &Row<'_>, cut: &str) {
+    let count = number(answer, row.words);
     if row.options.is_std {
         let calls = Cell::new(0);
-        let mut input = StdInput::new(row.options.reader(cut, &row.text, &calls)?);
-        Ok(taken(alloc, &mut input, count)?)
-    } else {
-        let mut input = row.options.memory_text(alloc, &row.text)?;
-        Ok(taken(alloc, &mut input, count)?)
+        let reader = row.options.reader(answer, cut, &row.text, &calls);
+        let mut input = StdInput::new(reader);
+        tell_taken(alloc, answer, &mut input, count);
+        drop(input);
+    } else if let Some(mut input) = row.options.memory_text(alloc, answer, &row.text) {
+        tell_taken(alloc, answer, &mut input, count);
+        drop(input);
     }
 }
 
-/// What so many calls over this input give, and the bad line.
-fn taken<I: Input>(alloc: Global, input: &mut I, count: u32) -> Result<String, NoMemory> {
-    let mut source = HexSource::new(alloc, input)?;
-    let mut said = String::new(alloc);
-    for _ in 0..count {
-        push_taken(alloc, &mut source, &mut said)?;
+/// Tells what so many calls over this input give, and the bad line.
+fn tell_taken<I: Input>(alloc: Global, answer: &mut Answer, input: &mut I, count: u32) {
+    if let Some(mut source) = answer.take(HexSource::new(alloc, input)) {
+        for _ in 0..count {
+            tell_piece(alloc, answer, &mut source);
+        }
+        match source.bad_line() {
+            Some(line) => {
+                answer.put("bad line ");
+                answer.display(&line);
+            }
+            None => answer.put("no bad line"),
+        }
+        drop(source);
     }
-    match source.bad_line() {
-        Some(line) => said.push_str(format!(in alloc; "bad line {line}")?.as_str())?,
-        None => said.push_str("no bad line")?,
-    }
-    Ok(said)
 }
 
-/// Adds what one call gives: the piece in hexadecimal digits, or how many bytes where there are many; `end`; `fault`.
-fn push_taken<S: Source>(alloc: Global, source: &mut S, said: &mut String) -> Result<(), NoMemory> {
-    let mut bytes = bytes_room(alloc, 65536)?;
-    let mut handles = handles_room(alloc, 64)?;
+/// Tells what one call gives: the piece in hexadecimal digits, or how many bytes where there are many; `end`; `fault`.
+fn tell_piece<S: Source>(alloc: Global, answer: &mut Answer, source: &mut S) {
+    let mut bytes = [0; 65536];
+    let mut handles = [Handle(0); 64];
     match source.take(&mut bytes, &mut handles) {
-        Ok(taken) if taken.bytes == 0 => said.push_str("end ")?,
-        Ok(taken) => said.push_str(piece_text(alloc, &bytes[..taken.bytes])?.as_str())?,
-        Err(Fault) => said.push_str("fault ")?,
+        Ok(taken) if taken.bytes == 0 => answer.put("end "),
+        Ok(taken) => tell_bytes(alloc, answer, &bytes[..taken.bytes]),
+        Err(Fault) => answer.put("fault "),
     }
-    Ok(())
 }
 
-/// The piece in hexadecimal digits, or how many bytes where there are many.
-fn piece_text(alloc: Global, bytes: &[u8]) -> Result<String, NoMemory> {
+/// Tells the piece in hexadecimal digits, or how many bytes where there are many.
+fn tell_bytes(alloc: Global, answer: &mut Answer, bytes: &[u8]) {
     if bytes.len() > 16 {
-        return Ok(format!(in alloc; "{} bytes ", bytes.len())?);
+        answer.display(&bytes.len());
+        answer.put(" bytes ");
+    } else if let Some(digits) = answer.take(hex::encode(alloc, bytes)) {
+        answer.put(digits.as_str());
+        answer.put(" ");
+        drop(digits);
     }
-    let mut digits = hex::encode(alloc, bytes)?;
-    digits.push_str(" ")?;
-    Ok(digits)
-}
-
-/// So many bytes of room.
-fn bytes_room(alloc: Global, count: usize) -> Result<Vec<u8>, NoMemory>
-    ensures { IfOk result (λ room. vec_len room ≡ count) }
-{
-    Ok(vec![in alloc; 0u8; count]?)
-}
-
-/// Room for so many handles.
-fn handles_room(alloc: Global, count: usize) -> Result<Vec<Handle>, NoMemory>
-    ensures { IfOk result (λ room. vec_len room ≡ count) }
-{
-    Ok(vec![in alloc; Handle(0); count]?)
 }
