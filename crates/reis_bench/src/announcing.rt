@@ -1,13 +1,21 @@
 //! What a server announces of a device of seven capabilities.
 
-use ei_server::{
-    Button, Connection, Context, Device, Keyboard, Pointer, PointerAbsolute, Scroll, Seat, Text,
-    Touchscreen,
-};
+use ei_server::{Connection, Context, Device, Pointer, Seat};
+use ei_spec::KnownInterface;
 use ei_types::{DeviceType, Error, HandshakeError};
 
 /// The mask that the seat announces for its one capability.
 const MASK: u64 = 1;
+
+/// The interfaces of a device behind its pointer, each with its version.
+const OTHERS: [(KnownInterface, u32); 6] = [
+    (KnownInterface::PointerAbsolute, 1),
+    (KnownInterface::Keyboard, 1),
+    (KnownInterface::Touchscreen, 2),
+    (KnownInterface::Scroll, 1),
+    (KnownInterface::Button, 1),
+    (KnownInterface::Text, 1),
+];
 
 /// A device that was announced, with its pointer.
 #[derive(Drop)]
@@ -74,11 +82,8 @@ fn announce_pointer(context: &mut Context, device: &Device) -> Result<Pointer, E
 
 /// Announces the interfaces of a device behind its pointer, and that these are all.
 fn announce_others(context: &mut Context, device: &Device) -> Result<(), Error> {
-    drop(device.interface::<PointerAbsolute>(context, 1)?);
-    drop(device.interface::<Keyboard>(context, 1)?);
-    drop(device.interface::<Touchscreen>(context, 2)?);
-    drop(device.interface::<Scroll>(context, 1)?);
-    drop(device.interface::<Button>(context, 1)?);
-    drop(device.interface::<Text>(context, 1)?);
+    for (interface, version) in &OTHERS {
+        drop(device.known_interface(context, *interface, *version)?);
+    }
     Ok(device.done(context)?)
 }

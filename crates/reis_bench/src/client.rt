@@ -13,17 +13,8 @@ use std::alloc::Global;
 const PIECE: usize = 4096;
 
 /// Reads what a server says that announces a device and sends so many motions.
-pub(crate) fn row(alloc: Global, messages: u32) -> Result<Outcome, Error> {
-    let mut said = Tray::new(alloc);
-    let read = read_motions(alloc, messages, &mut said);
-    // Let go by a call: at the end of a scope the drop of each field is proved anew.
-    drop(said);
-    read
-}
-
-/// The same, over this tray.
-fn read_motions(alloc: Global, messages: u32, said: &mut Tray) -> Result<Outcome, Error> {
-    say_motions(alloc, messages, said)?;
+pub(crate) fn row(alloc: Global, messages: u32, said: &mut Tray) -> Result<Outcome, Error> {
+    say_motions(alloc, messages, false, said)?;
     read_bytes(alloc, said.bytes())
 }
 
@@ -31,16 +22,12 @@ fn read_motions(alloc: Global, messages: u32, said: &mut Tray) -> Result<Outcome
 fn read_bytes(alloc: Global, bytes: &[u8]) -> Result<Outcome, Error> {
     let mut context = Context::new(alloc)?;
     let mut source = Cut::new(bytes, PIECE);
-    let read = read_source(&mut context, &mut source);
+    let mut tally = Tally::new();
+    let read = read_events(&mut context, &mut source, &mut tally);
+    // Let go by a call: at the end of a scope the drop of each field is proved anew.
     drop(source);
     drop(context);
-    read
-}
-
-/// Reads what a source hands out.
-fn read_source(context: &mut Context, source: &mut Cut<'_>) -> Result<Outcome, Error> {
-    let mut tally = Tally::new();
-    read_events(context, source, &mut tally)?;
+    read?;
     Ok(Outcome::Read(tally))
 }
 

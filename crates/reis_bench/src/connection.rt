@@ -37,19 +37,11 @@ const KEY: u32 = 30;
 const TIME: u64 = 1000;
 
 /// A connection whose client sends so many groups, each of a motion, a key and a frame.
-pub(crate) fn sends(alloc: Global, groups: u32) -> Result<Outcome, Error> {
-    let mut said = Tray::new(alloc);
-    let taken = take_sent(alloc, groups, &mut said);
-    // Let go by a call: at the end of a scope the drop of each field is proved anew.
-    drop(said);
-    taken
-}
-
-/// The same, over this tray.
-fn take_sent(alloc: Global, groups: u32, said: &mut Tray) -> Result<Outcome, Error> {
+pub(crate) fn sends(alloc: Global, groups: u32, said: &mut Tray) -> Result<Outcome, Error> {
     say_groups(alloc, groups, said)?;
     let mut connection = begin(alloc, ContextType::Sender)?;
     let messages = take_groups(&mut connection, said.bytes());
+    // Let go by a call: at the end of a scope the drop of each field is proved anew.
     drop(connection);
     Ok(Outcome::Served(messages, 0))
 }

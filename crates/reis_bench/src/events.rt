@@ -2,9 +2,9 @@
 
 use crate::outside::Cut;
 use crate::row::Outcome;
-use crate::stream::say_groups;
+use crate::stream::say_motions;
 use crate::tally::Tally;
-use ei_backend::{PendingRequestResult, Readings, Tray};
+use ei_backend::{Answer, PendingRequestResult, Readings, Tray};
 use ei_client::{Context, Event};
 use ei_event::{EiEvent, EiEventConverter};
 use ei_handshake::{EiHandshaker, HandshakeResp, request_result};
@@ -15,17 +15,8 @@ use std::alloc::Global;
 const PIECE: usize = 4096;
 
 /// Converts what a server says that announces a device and sends so many groups, each of a motion and a frame.
-pub(crate) fn row(alloc: Global, count: u32) -> Result<Outcome, Error> {
-    let mut said = Tray::new(alloc);
-    let converted = convert_groups(alloc, count, &mut said);
-    // Let go by a call: at the end of a scope the drop of each field is proved anew.
-    drop(said);
-    converted
-}
-
-/// The same, over this tray.
-fn convert_groups(alloc: Global, count: u32, said: &mut Tray) -> Result<Outcome, Error> {
-    say_groups(alloc, count, said)?;
+pub(crate) fn row(alloc: Global, count: u32, said: &mut Tray) -> Result<Outcome, Error> {
+    say_motions(alloc, count, true, said)?;
     convert_bytes(alloc, said.bytes())
 }
 
@@ -34,6 +25,7 @@ fn convert_bytes(alloc: Global, bytes: &[u8]) -> Result<Outcome, Error> {
     let mut context = Context::new(alloc)?;
     let mut source = Cut::new(bytes, PIECE);
     let converted = convert_source(alloc, &mut context, &mut source);
+    // Let go by a call: at the end of a scope the drop of each field is proved anew.
     drop(source);
     drop(context);
     converted
@@ -62,22 +54,13 @@ fn convert_by(
 ) -> Result<Outcome, Error> {
     let mut clock = Readings::new(alloc, &[])?;
     let mut told = Vec::new(alloc);
-    let converted = convert_into(converter, context, source, &mut clock, &mut told);
+    let mut tally = Tally::new();
+    let converted = convert_events(
+        converter, context, source, &mut clock, &mut told, &mut tally,
+    );
     drop(told);
     drop(clock);
-    converted
-}
-
-/// The same, with this clock, and room for what the client is told.
-fn convert_into(
-    converter: &mut EiEventConverter,
-    context: &mut Context,
-    source: &mut Cut<'_>,
-    clock: &mut Readings,
-    told: &mut Vec<EiEvent>,
-) -> Result<Outcome, Error> {
-    let mut tally = Tally::new();
-    convert_events(converter, context, source, clock, told, &mut tally)?;
+    converted?;
     Ok(Outcome::Read(tally))
 }
 
@@ -91,13 +74,19 @@ fn connected(alloc: Global, context: &mut Context) -> Result<HandshakeResp, Erro
 
 /// What the first message ends the handshake with.
 fn shaken(handshaker: &mut EiHandshaker, context: &mut Context) -> Result<HandshakeResp, Error> {
-    let Some(pending) = context.pending_event()? else {
-        return Err(Error::UnexpectedEof);
-    };
-    let event = request_result(pending)?;
+    let event = brought(context.pending_event())?;
     match handshaker.handle_event(context, event)? {
         Some(resp) => Ok(resp),
         None => Err(Error::Handshake(HandshakeError::MissingInterface)),
+    }
+}
+
+/// The message that an answer brings. What it is isn't known here: where it is known, the drop of each of its fields is proved
+/// anew.
+fn brought<T: Drop>(answer: Answer<T>) -> Result<T, Error> {
+    match answer? {
+        Some(pending) => request_result(pending),
+        None => Err(Error::UnexpectedEof),
     }
 }
 

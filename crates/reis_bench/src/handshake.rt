@@ -8,16 +8,7 @@ use ei_types::Error;
 use std::alloc::Global;
 
 /// Serves a client that tells so many versions, and ends the handshake.
-pub(crate) fn row(alloc: Global, messages: u32) -> Result<Outcome, Error> {
-    let mut said = Tray::new(alloc);
-    let served = serve_versions(alloc, messages, &mut said);
-    // Let go by a call: at the end of a scope the drop of each field is proved anew.
-    drop(said);
-    served
-}
-
-/// The same, over this tray.
-fn serve_versions(alloc: Global, messages: u32, said: &mut Tray) -> Result<Outcome, Error> {
+pub(crate) fn row(alloc: Global, messages: u32, said: &mut Tray) -> Result<Outcome, Error> {
     say_versions(alloc, messages, said)?;
     let replies = serve_said(alloc, said.bytes(), false)?;
     Ok(Outcome::Served(u64::from(messages) + 1, replies))

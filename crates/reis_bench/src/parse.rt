@@ -6,23 +6,25 @@ ghost use Rattle.ei_spec.specs.declared.limits.TheConstants.{MOST_PIECE_BYTES};
 use crate::announcing::announce;
 use crate::outside::Cut;
 use crate::row::Outcome;
-use crate::stream::generated;
+use crate::stream::say_generated;
 use crate::tally::Tally;
-use ei_backend::PendingRequestResult;
+use ei_backend::{PendingRequestResult, Tray};
 use ei_server::{Context, Request, handshake};
 use ei_types::Error;
 use std::alloc::Global;
 
 /// Reads the generated stream of so many groups.
-pub(crate) fn row(alloc: Global, piece: usize, groups: u32) -> Result<Outcome, Error>
+pub(crate) fn row(
+    alloc: Global,
+    piece: usize,
+    groups: u32,
+    said: &mut Tray,
+) -> Result<Outcome, Error>
     requires some { 0 < piece }
     requires within { piece ≤ MOST_PIECE_BYTES }
 {
-    let bytes = generated(alloc, groups)?;
-    let parsed = parse_bytes(alloc, &bytes, piece);
-    // Let go by a call: at the end of a scope the drop of each field is proved anew.
-    drop(bytes);
-    parsed
+    say_generated(alloc, groups, said)?;
+    parse_bytes(alloc, said.bytes(), piece)
 }
 
 /// Reads these bytes in such pieces.
@@ -33,6 +35,7 @@ fn parse_bytes(alloc: Global, bytes: &[u8], piece: usize) -> Result<Outcome, Err
     let mut context = Context::new(alloc)?;
     let mut source = Cut::new(bytes, piece);
     let parsed = parse_source(&mut context, &mut source);
+    // Let go by a call: at the end of a scope the drop of each field is proved anew.
     drop(source);
     drop(context);
     parsed

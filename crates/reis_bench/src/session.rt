@@ -42,16 +42,7 @@ pub(crate) struct Doing {
 }
 
 /// Serves a client that does this.
-pub(crate) fn row(alloc: Global, doing: Doing) -> Result<Outcome, Error> {
-    let mut said = Tray::new(alloc);
-    let served = serve_session(alloc, doing, &mut said);
-    // Let go by a call: at the end of a scope the drop of each field is proved anew.
-    drop(said);
-    served
-}
-
-/// The same, over this tray.
-fn serve_session(alloc: Global, doing: Doing, said: &mut Tray) -> Result<Outcome, Error> {
+pub(crate) fn row(alloc: Global, doing: Doing, said: &mut Tray) -> Result<Outcome, Error> {
     say_session(alloc, doing, said)?;
     let replies = serve_said(alloc, said.bytes(), doing.descriptor)?;
     Ok(Outcome::Served(count_of(doing), replies))
@@ -61,6 +52,7 @@ fn serve_session(alloc: Global, doing: Doing, said: &mut Tray) -> Result<Outcome
 fn say_session(alloc: Global, doing: Doing, said: &mut Tray) -> Result<(), Error> {
     let mut context = Context::new(alloc)?;
     let pushed = push_session(&mut context, doing, said);
+    // Let go by a call: at the end of a scope the drop of each field is proved anew.
     drop(context);
     pushed
 }

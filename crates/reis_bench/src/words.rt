@@ -82,31 +82,38 @@ impl Row {
         ensures within { IfSome result IsWithin }
     {
         match words {
-            [row, piece, groups] if row.as_str() == "parse" => {
-                let piece = number(piece.as_str(), PIECE)?;
-                Some(Row::Parse(piece, number(groups.as_str(), GROUPS)?))
-            }
-            [row, messages] if row.as_str() == "send" => {
-                Some(Row::Send(number(messages.as_str(), MESSAGES)?))
-            }
-            [row, messages] if row.as_str() == "client" => {
-                Some(Row::Client(number(messages.as_str(), MESSAGES)?))
-            }
-            [row, groups] if row.as_str() == "events" => {
-                Some(Row::Events(number(groups.as_str(), MESSAGES)?))
-            }
-            [row, messages] if row.as_str() == "handshake" => {
-                Some(Row::Handshake(number(messages.as_str(), MESSAGES)?))
-            }
-            [row, what, groups] if row.as_str() == "connection" && what.as_str() == "sends" => {
-                Some(Row::Sends(number(groups.as_str(), GROUPS)?))
-            }
-            [row, what, groups] if row.as_str() == "connection" && what.as_str() == "tells" => {
-                Some(Row::Tells(number(groups.as_str(), GROUPS)?))
-            }
+            [row, count] => Row::of_count(row.as_str(), count.as_str()),
+            [row, what, groups] => Row::of_groups(row.as_str(), what.as_str(), groups.as_str()),
             [row, doing @ ..] if row.as_str() == "session" => {
                 Some(Row::Session(doing_from_words(doing)?))
             }
+            _ => None,
+        }
+    }
+
+    /// The row of that name that takes a count alone.
+    fn of_count(row: &str, count: &str) -> Option<Row>
+        ensures within { IfSome result IsWithin }
+    {
+        let count = number(count, MESSAGES)?;
+        match row {
+            "send" => Some(Row::Send(count)),
+            "client" => Some(Row::Client(count)),
+            "events" => Some(Row::Events(count)),
+            "handshake" => Some(Row::Handshake(count)),
+            _ => None,
+        }
+    }
+
+    /// The row of that name that takes a word, and so many groups.
+    fn of_groups(row: &str, what: &str, groups: &str) -> Option<Row>
+        ensures within { IfSome result IsWithin }
+    {
+        let groups = number(groups, GROUPS)?;
+        match (row, what) {
+            ("connection", "sends") => Some(Row::Sends(groups)),
+            ("connection", "tells") => Some(Row::Tells(groups)),
+            ("parse", _) => Some(Row::Parse(number(what, PIECE)?, groups)),
             _ => None,
         }
     }
