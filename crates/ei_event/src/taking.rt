@@ -17,10 +17,10 @@ use crate::ending::Ending;
 use crate::kept::Kept;
 use crate::keymap::Keymap;
 use crate::region::Region;
-use ei_backend::{Clock, Interface};
+use ei_backend::{Clock, Interface, Kind};
 use ei_client::{
-    Event, button, connection, device, gesture, keyboard, pointer, pointer_absolute, scroll, seat,
-    text, touchscreen,
+    Event, Proxy, button, connection, device, gesture, keyboard, pointer, pointer_absolute, scroll,
+    seat, text, touchscreen,
 };
 use ei_input::input_event::InputEvent;
 use ei_spec::KnownInterface;
@@ -54,31 +54,36 @@ impl Kept {
         ensures clock { LentClock C.later clock.old clock.new }
     {
         match event {
-            Event::Handshake(_target, event) => {
+            Event::Handshake(target, event) => {
                 // Let go by a call: at the end of a scope the drop of each field is proved anew.
+                drop(target);
                 drop(event);
                 Err(Error::Event(EventError::UnexpectedHandshakeEvent))
             }
-            Event::Connection(_target, event) => self.take_connection(event),
-            Event::Callback(_target, _event) => Ok(()),
-            Event::Seat(target, event) => self.take_seat(&target, event),
-            Event::Device(target, event) => {
-                self.take_device(clock, target.as_object().id(), event)
+            Event::Connection(target, event) => {
+                drop(target);
+                self.take_connection(event)
             }
-            Event::Pointer(target, event) => self.take_pointer(target.as_object().id(), event),
+            Event::Callback(target, _event) => {
+                drop(target);
+                Ok(())
+            }
+            Event::Seat(target, event) => {
+                let taken = self.take_seat(&target, event);
+                drop(target);
+                taken
+            }
+            Event::Device(target, event) => self.take_device(clock, id_of(target), event),
+            Event::Pointer(target, event) => self.take_pointer(id_of(target), event),
             Event::PointerAbsolute(target, event) => {
-                self.take_pointer_absolute(target.as_object().id(), event)
+                self.take_pointer_absolute(id_of(target), event)
             }
-            Event::Scroll(target, event) => self.take_scroll(target.as_object().id(), event),
-            Event::Button(target, event) => self.take_button(target.as_object().id(), event),
-            Event::Keyboard(target, event) => {
-                self.take_keyboard(clock, target.as_object().id(), event)
-            }
-            Event::Touchscreen(target, event) => {
-                self.take_touchscreen(target.as_object().id(), event)
-            }
-            Event::Text(target, event) => self.take_text(target.as_object().id(), event),
-            Event::Gesture(target, event) => self.take_gesture(target.as_object().id(), event),
+            Event::Scroll(target, event) => self.take_scroll(id_of(target), event),
+            Event::Button(target, event) => self.take_button(id_of(target), event),
+            Event::Keyboard(target, event) => self.take_keyboard(clock, id_of(target), event),
+            Event::Touchscreen(target, event) => self.take_touchscreen(id_of(target), event),
+            Event::Text(target, event) => self.take_text(id_of(target), event),
+            Event::Gesture(target, event) => self.take_gesture(id_of(target), event),
         }
     }
 
@@ -392,4 +397,12 @@ fn scroll_end(x: u32, y: u32, is_cancel: u32) -> InputEvent
     } else {
         InputEvent::ScrollCancel { x, y }
     }
+}
+
+/// The id of a target, which is let go.
+#[inline(always)]
+fn id_of<K: Kind>(target: Proxy<K>) -> u64
+    ensures { result ≡ target.id }
+{
+    target.as_object().id()
 }

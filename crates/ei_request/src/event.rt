@@ -4,7 +4,9 @@
 
 ghost use Rattle.std.specs.Prelude.{◌≡◌, ◌<◌, ◌+◌, ◌++◌, ◌∷◌, [], IfOk};
 ghost use Rattle.std.specs.Option.{option_copied};
+ghost use Rattle.ei_spec.specs.Interface.{ObjectView};
 ghost use Rattle.ei_input.specs.Inputs.{scroll_end};
+ghost use Rattle.ei_server.specs.declared.request.Request.TheVariants as request;
 ghost use Rattle.ei_request.specs.Event.{device_in, timed};
 ghost use Rattle.ei_request.specs.Typed.{input_asked};
 
@@ -268,77 +270,171 @@ pub(crate) fn queue_timed(input: InputEvent, queue: &mut Queue, device: &Device,
 pub(crate) fn input_of(request: Request) -> Option<InputEvent>
     ensures { result ≡ input_asked request }
 {
+    // Let go by a call: at the end of a scope the drop of each field is proved anew. Last, else the target is copied.
     match request {
-        Request::Pointer(_target, request) => match request {
-            pointer::Request::Release => None,
-            pointer::Request::MotionRelative { x, y } => {
-                Some(InputEvent::PointerMotion { dx: x, dy: y })
-            }
-        },
-        Request::PointerAbsolute(_target, request) => match request {
-            pointer_absolute::Request::Release => None,
-            pointer_absolute::Request::MotionAbsolute { x, y } => {
-                Some(InputEvent::PointerMotionAbsolute {
-                    dx_absolute: x,
-                    dy_absolute: y,
-                })
-            }
-        },
-        Request::Scroll(_target, request) => match request {
-            scroll::Request::Release => None,
-            scroll::Request::Scroll { x, y } => Some(InputEvent::ScrollDelta { dx: x, dy: y }),
-            scroll::Request::ScrollDiscrete { x, y } => Some(InputEvent::ScrollDiscrete {
-                discrete_dx: x,
-                discrete_dy: y,
-            }),
-            scroll::Request::ScrollStop { x, y, is_cancel } => Some(scroll_end(x, y, is_cancel)),
-        },
-        Request::Button(_target, request) => match request {
-            button::Request::Release => None,
-            button::Request::Button { button, state } => Some(InputEvent::Button { button, state }),
-        },
-        Request::Keyboard(_target, request) => match request {
-            keyboard::Request::Release => None,
-            keyboard::Request::Key { key, state } => Some(InputEvent::KeyboardKey { key, state }),
-        },
-        Request::Touchscreen(_target, request) => match request {
-            touchscreen::Request::Release => None,
-            touchscreen::Request::Down { touchid, x, y } => Some(InputEvent::TouchDown {
-                touch_id: touchid,
-                x,
-                y,
-            }),
-            touchscreen::Request::Motion { touchid, x, y } => Some(InputEvent::TouchMotion {
-                touch_id: touchid,
-                x,
-                y,
-            }),
-            touchscreen::Request::Up { touchid } => Some(InputEvent::TouchUp { touch_id: touchid }),
-            touchscreen::Request::Cancel { touchid } => {
-                Some(InputEvent::TouchCancel { touch_id: touchid })
-            }
-        },
-        Request::Text(_target, request) => match request {
-            text::Request::Release => None,
-            text::Request::Keysym { keysym, state } => {
-                Some(InputEvent::TextKeysym { keysym, state })
-            }
-            text::Request::Utf8 { text } => Some(InputEvent::TextUtf8 { text }),
-        },
-        Request::Gesture(_target, request) => match request {
-            gesture::Request::Release => None,
-            gesture::Request::Swipe { fingers, x, y } => Some(InputEvent::GestureSwipe {
-                fingers,
-                dx: x,
-                dy: y,
-            }),
-            gesture::Request::Pinch { scale } => Some(InputEvent::GesturePinch { scale }),
-        },
+        Request::Pointer(target, asked) => {
+            let input = pointer_input(asked);
+            drop(target);
+            input
+        }
+        Request::PointerAbsolute(target, asked) => {
+            let input = pointer_absolute_input(asked);
+            drop(target);
+            input
+        }
+        Request::Scroll(target, asked) => {
+            let input = scroll_input(asked);
+            drop(target);
+            input
+        }
+        Request::Button(target, asked) => {
+            let input = button_input(asked);
+            drop(target);
+            input
+        }
+        Request::Keyboard(target, asked) => {
+            let input = keyboard_input(asked);
+            drop(target);
+            input
+        }
+        Request::Touchscreen(target, asked) => {
+            let input = touchscreen_input(asked);
+            drop(target);
+            input
+        }
+        Request::Text(target, asked) => {
+            let input = text_input(asked);
+            drop(target);
+            input
+        }
+        Request::Gesture(target, asked) => {
+            let input = gesture_input(asked);
+            drop(target);
+            input
+        }
         other => {
-            // Let go by a call: at the end of a scope the drop of each field is proved anew.
             drop(other);
             None
         }
+    }
+}
+
+/// The input that a request to a pointer is.
+#[inline(always)]
+fn pointer_input(asked: pointer::Request) -> Option<InputEvent>
+    ensures { (target : ObjectView) → result ≡ input_asked (request.Pointer target asked) }
+{
+    match asked {
+        pointer::Request::Release => None,
+        pointer::Request::MotionRelative { x, y } => {
+            Some(InputEvent::PointerMotion { dx: x, dy: y })
+        }
+    }
+}
+
+/// The input that a request to an absolute pointer is.
+#[inline(always)]
+fn pointer_absolute_input(asked: pointer_absolute::Request) -> Option<InputEvent>
+    ensures { (target : ObjectView) → result ≡ input_asked (request.PointerAbsolute target asked) }
+{
+    match asked {
+        pointer_absolute::Request::Release => None,
+        pointer_absolute::Request::MotionAbsolute { x, y } => {
+            Some(InputEvent::PointerMotionAbsolute {
+                dx_absolute: x,
+                dy_absolute: y,
+            })
+        }
+    }
+}
+
+/// The input that a request to a scroll is.
+#[inline(always)]
+fn scroll_input(asked: scroll::Request) -> Option<InputEvent>
+    ensures { (target : ObjectView) → result ≡ input_asked (request.Scroll target asked) }
+{
+    match asked {
+        scroll::Request::Release => None,
+        scroll::Request::Scroll { x, y } => Some(InputEvent::ScrollDelta { dx: x, dy: y }),
+        scroll::Request::ScrollDiscrete { x, y } => Some(InputEvent::ScrollDiscrete {
+            discrete_dx: x,
+            discrete_dy: y,
+        }),
+        scroll::Request::ScrollStop { x, y, is_cancel } => Some(scroll_end(x, y, is_cancel)),
+    }
+}
+
+/// The input that a request to the buttons is.
+#[inline(always)]
+fn button_input(asked: button::Request) -> Option<InputEvent>
+    ensures { (target : ObjectView) → result ≡ input_asked (request.Button target asked) }
+{
+    match asked {
+        button::Request::Release => None,
+        button::Request::Button { button, state } => Some(InputEvent::Button { button, state }),
+    }
+}
+
+/// The input that a request to the keys is.
+#[inline(always)]
+fn keyboard_input(asked: keyboard::Request) -> Option<InputEvent>
+    ensures { (target : ObjectView) → result ≡ input_asked (request.Keyboard target asked) }
+{
+    match asked {
+        keyboard::Request::Release => None,
+        keyboard::Request::Key { key, state } => Some(InputEvent::KeyboardKey { key, state }),
+    }
+}
+
+/// The input that a request to a touchscreen is.
+#[inline(always)]
+fn touchscreen_input(asked: touchscreen::Request) -> Option<InputEvent>
+    ensures { (target : ObjectView) → result ≡ input_asked (request.Touchscreen target asked) }
+{
+    match asked {
+        touchscreen::Request::Release => None,
+        touchscreen::Request::Down { touchid, x, y } => Some(InputEvent::TouchDown {
+            touch_id: touchid,
+            x,
+            y,
+        }),
+        touchscreen::Request::Motion { touchid, x, y } => Some(InputEvent::TouchMotion {
+            touch_id: touchid,
+            x,
+            y,
+        }),
+        touchscreen::Request::Up { touchid } => Some(InputEvent::TouchUp { touch_id: touchid }),
+        touchscreen::Request::Cancel { touchid } => {
+            Some(InputEvent::TouchCancel { touch_id: touchid })
+        }
+    }
+}
+
+/// The input that a request to a text interface is.
+#[inline(always)]
+fn text_input(asked: text::Request) -> Option<InputEvent>
+    ensures { (target : ObjectView) → result ≡ input_asked (request.Text target asked) }
+{
+    match asked {
+        text::Request::Release => None,
+        text::Request::Keysym { keysym, state } => Some(InputEvent::TextKeysym { keysym, state }),
+        text::Request::Utf8 { text } => Some(InputEvent::TextUtf8 { text }),
+    }
+}
+
+/// The input that a request to the gestures is.
+#[inline(always)]
+fn gesture_input(asked: gesture::Request) -> Option<InputEvent>
+    ensures { (target : ObjectView) → result ≡ input_asked (request.Gesture target asked) }
+{
+    match asked {
+        gesture::Request::Release => None,
+        gesture::Request::Swipe { fingers, x, y } => Some(InputEvent::GestureSwipe {
+            fingers,
+            dx: x,
+            dy: y,
+        }),
+        gesture::Request::Pinch { scale } => Some(InputEvent::GesturePinch { scale }),
     }
 }
 

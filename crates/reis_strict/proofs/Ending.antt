@@ -12,9 +12,9 @@ use Rattle.reis_strict.specs.declared.verdict.Verdict.TheVariants as verdict
 use Rattle.reis_strict.specs.declared.sifting.Turn.{Turn}
 use Rattle.reis_strict.specs.declared.sifting.Turn.TheVariants as turn
 use Rattle.reis_strict.specs.View.{StrictView}
-use Rattle.reis_strict.specs.Sifting.{Sifted, EndsBy, before, waiting, with_requests, ChangesRequests, verdict_at, by_verdict, sifted, sifting, undropped, EndsClient}
+use Rattle.reis_strict.specs.Sifting.{Sifted, EndsBy, before, waiting, with_requests, ChangesRequests, verdict_at, by_verdict, sifted, sifting, undropped, EndsClient, WantsMemory}
 use Rattle.reis_strict.specs.Turning.{Turns, EndsOne}
-use Rattle.reis_strict.proofs.Waiting.{front, left_in, ends_waiting}
+use Rattle.reis_strict.proofs.Waiting.{front, left_in, ends_waiting, told_the_same}
 
 module _ (s u t : StrictView) (c b d : EisView) (request : EisRequest) (why : Fault) where
   module _ (first : first_of (waiting s c) ≡ Some request) (rest : queue_in b.phase ≡ rest_of (waiting s c)) (devices : u.devices ≡ s.devices)
@@ -55,4 +55,5 @@ module _ (s u t : StrictView) (c b d : EisView) (request : EisRequest) (why : Fa
           waits = ap (λ (x : StrictView). waiting x d) e.strict ∙ ap (λ (xs : List EisRequest). request ∷ xs) q ∙ ap undropped (sym sifts);
           devices = ap (λ (x : StrictView). x.devices) e.strict ∙ devices;
           kept = subst (λ (x : EisView). IsKept x d) (changed q) e.kept;
+          wants = subst (λ (x : Sifted). WantsMemory x c) (sym sifts) (sym (told_the_same why c b requests) ∙ e.untold);
         }

@@ -7,9 +7,9 @@ use Rattle.reis_eis.specs.View.{EisView}
 use Rattle.reis_strict.specs.Acts.{act_of}
 use Rattle.reis_strict.specs.Devices.{with_act}
 use Rattle.reis_strict.specs.View.{StrictView}
-use Rattle.reis_strict.specs.Sifting.{Sifted, NonePasses, Passes, EndsBy, waiting, with_requests, ChangesRequests, sifting, passing, behind, undropped, devices_behind, EndsClient, Tells}
+use Rattle.reis_strict.specs.Sifting.{Sifted, NonePasses, Passes, EndsBy, waiting, with_requests, ChangesRequests, sifting, passing, behind, undropped, devices_behind, EndsClient, Tells, WantsMemory}
 use Rattle.reis_strict.specs.Turning.{NoneWaits, IsDropped, IsPassed, IsEnded, IsHeld}
-use Rattle.reis_strict.proofs.Waiting.{as_changed, changes_twice}
+use Rattle.reis_strict.proofs.Waiting.{as_changed, changes_twice, wants_the_same}
 
 -- behind such turns
 pub record Dropping (s : StrictView) (c : EisView) (t : StrictView) (d : EisView) : Type 0 where
@@ -29,6 +29,7 @@ pub record Keeps (s : StrictView) (c : EisView) (t : StrictView) (d : EisView) :
   pub held : waiting t d ≡ undropped (sifting s c)
   pub known : t.devices ≡ s.devices
   pub kept : IsKept (with_requests c (queue_in d.phase)) d
+  pub wants : WantsMemory (sifting s c) c
 
 module _ (s u t : StrictView) (c b d : EisView) (before : Dropping s c u b) where
   pub one_more : IsDropped u b t d → Dropping s c t d
@@ -75,4 +76,5 @@ module _ (s u t : StrictView) (c b d : EisView) (before : Dropping s c u b) wher
     held = e.waits ∙ ap undropped (sym before.sifts);
     known = e.devices ∙ before.devices;
     kept = subst (λ (x : EisView). IsKept x d) (as_changed c b (queue_in d.phase) before.requests) e.kept;
+    wants = subst (λ (x : Sifted). WantsMemory x c) (sym before.sifts) (wants_the_same c b before.requests (sifting u b) e.wants);
   }

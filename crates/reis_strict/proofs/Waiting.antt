@@ -1,15 +1,16 @@
 -- Which requests wait, and how that changes.
-use Rattle.std.proofs.Common.{◌≡◌, List, [], ◌∷◌, Some, refl, ap, ◌∙◌, inl, inr}
+use Rattle.std.proofs.Common.{◌≡◌, List, [], ◌∷◌, Option, Some, None, refl, sym, ap, ◌∙◌}
 use Rattle.ei_input.specs.Queue.{first_of, rest_of}
 use Rattle.ei_request.specs.Connection.{ConnectionView}
 use Rattle.ei_request.specs.declared.event.EisRequest.{EisRequest}
+use Rattle.reis_eis.specs.declared.call_error.CallError.{CallError}
 use Rattle.reis_eis.specs.declared.phase.Phase.{Phase}
 use Rattle.reis_eis.specs.declared.phase.Phase.TheVariants as phase
 use Rattle.reis_eis.specs.Words.{queue_in, with_queue}
 use Rattle.reis_eis.specs.Acting.{ActsIn, IsLeftIn}
 use Rattle.reis_eis.specs.View.{EisView}
 use Rattle.reis_strict.specs.declared.fault.Fault.{Fault}
-use Rattle.reis_strict.specs.Sifting.{with_requests, ChangesRequests, EndsClient}
+use Rattle.reis_strict.specs.Sifting.{Sifted, NonePasses, Passes, EndsBy, with_requests, ChangesRequests, told_before, EndsUnless, EndsClient, WantsMemory}
 
 -- the first of some, before the others
 pub front : (xs : List EisRequest) (request : EisRequest) → first_of xs ≡ Some request → xs ≡ request ∷ rest_of xs
@@ -47,6 +48,23 @@ left_in (phase.Standing c) phase.Between left = ap queue_in left
 left_in (phase.Shaking s) q left = ap queue_in left
 left_in phase.Between q left = ap queue_in left
 
+ends_unless : (why : Fault) (c d : EisView) (o : Option CallError) → EndsUnless o why c d → queue_in d.phase ≡ queue_in c.phase
+ends_unless why c d None told = acts_in _ c.phase d.phase told.acts
+ends_unless why c d (Some refused) kept = left_in c.phase d.phase kept.phase
+
 pub ends_waiting : (why : Fault) (c d : EisView) → EndsClient why c d → queue_in d.phase ≡ queue_in c.phase
-ends_waiting why c d (inl told) = acts_in _ c.phase d.phase told.acts
-ends_waiting why c d (inr before) = left_in c.phase d.phase before.0.phase
+ends_waiting why c d ends = ends_unless why c d (told_before why c) ends
+
+-- which requests wait decides nothing of whether the client was told
+told_in : (why : Fault) (c : EisView) (p : Phase) (q : List EisRequest) → c.phase ≡ p → told_before why (with_requests c q) ≡ told_before why c
+told_in why c (phase.Shaking s) q e = rw e refl
+told_in why c (phase.Standing x) q e = rw e refl
+told_in why c phase.Between q e = rw e refl
+
+pub told_the_same : (why : Fault) (c d : EisView) → ChangesRequests c d → told_before why d ≡ told_before why c
+told_the_same why c d changes = ap (told_before why) changes ∙ told_in why c c.phase (queue_in d.phase) refl
+
+pub wants_the_same : (c d : EisView) → ChangesRequests c d → (x : Sifted) → WantsMemory x d → WantsMemory x c
+wants_the_same c d changes NonePasses wants = wants
+wants_the_same c d changes (Passes request rest) wants = wants
+wants_the_same c d changes (EndsBy request why rest) wants = sym (told_the_same why c d changes) ∙ wants

@@ -1,6 +1,5 @@
 -- Which of the requests that wait is handed out next.
-use Rattle.std.specs.Prelude.{◌≡◌, ◌⊎◌, Bool, false, not, if◌then◌else◌, List, [], ◌∷◌, Option, Some, None}
-use Rattle.std.specs.Option.{IsSome}
+use Rattle.std.specs.Prelude.{◌≡◌, Bool, false, not, if◌then◌else◌, List, [], ◌∷◌, Option, Some, None, IsTrue}
 use Rattle.std.specs.FinMap as finite
 use Rattle.ei_types.specs.Enums.{disconnect_reason_number}
 use Rattle.ei_types.specs.declared.enums.DisconnectReason.TheVariants as reason
@@ -8,6 +7,7 @@ use Rattle.ei_request.specs.Keys.{DeviceKey}
 use Rattle.ei_request.specs.Event.{device_in}
 use Rattle.ei_request.specs.Connection.{ConnectionView, holds_device}
 use Rattle.ei_request.specs.declared.event.EisRequest.{EisRequest}
+use Rattle.reis_eis.specs.declared.call_error.CallError.{CallError}
 use Rattle.reis_eis.specs.View.{EisView}
 use Rattle.reis_eis.specs.Words.{handle_in, queue_in, with_queue}
 use Rattle.reis_eis.specs.Refusals.{disconnecting}
@@ -16,7 +16,7 @@ use Rattle.reis_strict.specs.declared.fault.Fault.{Fault}
 use Rattle.reis_strict.specs.declared.verdict.Verdict.{Verdict}
 use Rattle.reis_strict.specs.declared.verdict.Verdict.TheVariants as verdict
 use Rattle.reis_strict.specs.Acts.{act_of}
-use Rattle.reis_strict.specs.Devices.{Devices, verdict_in, with_act}
+use Rattle.reis_strict.specs.Devices.{Devices, verdict_in, with_act, presses}
 use Rattle.reis_strict.specs.Faults.{fault_text}
 use Rattle.reis_strict.specs.View.{StrictView}
 
@@ -97,10 +97,23 @@ devices_behind NonePasses devices = devices
 devices_behind (Passes request rest) devices = with_act (act_of request) devices
 devices_behind (EndsBy request why rest) devices = finite.empty
 
--- the client is told that the connection ends, and why; where it can't be told, as it was told before, nothing changes
+-- why the client can't be told that the connection ends for a fault: it was told before
+abbrev pub told_before : Fault → EisView → Option CallError
+told_before why c = refusal_in (disconnecting (disconnect_reason_number reason.Protocol) (Some (fault_text why))) c.phase
+
+-- the client is told that the connection ends, and why; one that was told before is told nothing, and nothing changes
+abbrev pub EndsUnless : Option CallError → Fault → EisView → EisView → Type 0
+EndsUnless None why old new = TellsEnd (Ends (disconnect_reason_number reason.Protocol) (Some (fault_text why))) old new
+EndsUnless (Some refused) why old new = IsKept old new
+
 abbrev pub EndsClient : Fault → EisView → EisView → Type 0
-EndsClient why old new = TellsEnd (Ends (disconnect_reason_number reason.Protocol) (Some (fault_text why))) old new
-    ⊎ (IsKept old new × IsSome (refusal_in (disconnecting (disconnect_reason_number reason.Protocol) (Some (fault_text why))) old.phase))
+EndsClient why old new = EndsUnless (told_before why old) why old new
+
+-- what memory is taken for: a key or a button that goes down, or that a client is told of its end
+abbrev pub WantsMemory : Sifted → EisView → Type 0
+WantsMemory NonePasses c = ⊥
+WantsMemory (Passes request rest) c = IsTrue (presses (act_of request))
+WantsMemory (EndsBy request why rest) c = told_before why c ≡ None
 
 -- what becomes of the connection, but for which requests wait
 abbrev pub Tells : Sifted → EisView → EisView → Type 0

@@ -1,5 +1,5 @@
 -- What one of the requests that wait comes to. No public clause cites this module.
-use Rattle.std.specs.Prelude.{◌≡◌, ◌<◌, length, [], Some}
+use Rattle.std.specs.Prelude.{◌≡◌, ◌<◌, length, [], Some, None}
 use Rattle.std.specs.FinMap as finite
 use Rattle.ei_request.specs.declared.event.EisRequest.{EisRequest}
 use Rattle.reis_eis.specs.View.{EisView}
@@ -11,7 +11,7 @@ use Rattle.reis_strict.specs.declared.sifting.Turn.TheVariants as turn
 use Rattle.reis_strict.specs.Acts.{act_of}
 use Rattle.reis_strict.specs.Devices.{with_act}
 use Rattle.reis_strict.specs.View.{StrictView, with_devices}
-use Rattle.reis_strict.specs.Sifting.{NonePasses, Passes, EndsBy, waiting, with_requests, ChangesRequests, sifting, undropped, EndsClient}
+use Rattle.reis_strict.specs.Sifting.{NonePasses, Passes, EndsBy, waiting, with_requests, ChangesRequests, sifting, undropped, EndsClient, told_before, WantsMemory}
 
 -- nothing waits any more
 pub record NoneWaits (s : StrictView) (c : EisView) (t : StrictView) (d : EisView) : Type 0 where
@@ -46,6 +46,7 @@ pub record IsHeld (s : StrictView) (c : EisView) (t : StrictView) (d : EisView) 
   pub waits : waiting t d ≡ undropped (sifting s c)
   pub devices : t.devices ≡ s.devices
   pub kept : IsKept (with_requests c (queue_in d.phase)) d
+  pub wants : WantsMemory (sifting s c) c
 
 abbrev pub Turns : Turn → StrictView → EisView → StrictView → EisView → Type 0
 Turns turn.NoneWaits s c t d = NoneWaits s c t d
@@ -59,11 +60,12 @@ pub record EndsFor (why : Fault) (s : StrictView) (c : EisView) (t : StrictView)
   pub strict : t ≡ with_devices s finite.empty
   pub ends : EndsClient why c d
 
-pub record HoldsBack (request : EisRequest) (s : StrictView) (c : EisView) (t : StrictView) (d : EisView) : Type 0 where
+pub record HoldsBack (request : EisRequest) (why : Fault) (s : StrictView) (c : EisView) (t : StrictView) (d : EisView) : Type 0 where
   pub strict : t ≡ record s { held = Some request }
   pub kept : IsKept c d
+  pub untold : told_before why c ≡ None
 
 abbrev pub EndsOne : Turn → EisRequest → Fault → StrictView → EisView → StrictView → EisView → Type 0
 EndsOne turn.Ended request why s c t d = EndsFor why s c t d
-EndsOne turn.Held request why s c t d = HoldsBack request s c t d
+EndsOne turn.Held request why s c t d = HoldsBack request why s c t d
 EndsOne other request why s c t d = ⊥

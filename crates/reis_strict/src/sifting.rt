@@ -1,15 +1,15 @@
 //! The next request that passes.
 
-ghost use Rattle.std.specs.Prelude.{◌≡◌, OnOk, OnErr, IfOk, Some, None};
+ghost use Rattle.std.specs.Prelude.{◌≡◌, OnOk, OnErr, IfOk, IsTrue, Some, None};
 ghost use Rattle.ei_input.specs.Queue.{first_of, rest_of};
 ghost use Rattle.ei_request.specs.Event.{device_in};
 ghost use Rattle.reis_eis.specs.Acting.{IsKept};
 ghost use Rattle.reis_eis.specs.Words.{handle_in, queue_in};
 ghost use Rattle.reis_strict.specs.declared.verdict.Verdict.TheVariants.{Pass};
 ghost use Rattle.reis_strict.specs.Acts.{act_of};
-ghost use Rattle.reis_strict.specs.Devices.{with_judged};
+ghost use Rattle.reis_strict.specs.Devices.{with_judged, presses};
 ghost use Rattle.reis_strict.specs.View.{with_devices};
-ghost use Rattle.reis_strict.specs.Sifting.{waiting, with_requests, ChangesRequests, is_gone, verdict_at, sifting, passing, behind, undropped, devices_behind, EndsClient, Tells};
+ghost use Rattle.reis_strict.specs.Sifting.{waiting, with_requests, ChangesRequests, is_gone, verdict_at, sifting, passing, behind, undropped, devices_behind, told_before, EndsClient, Tells, WantsMemory};
 ghost use Rattle.reis_strict.specs.Turning.{Turns, EndsOne};
 
 use crate::fault::Fault;
@@ -45,7 +45,8 @@ impl Strict {
     ///
     /// One `Strict` goes with one connection. Before its handshake is done no request waits.
     ///
-    /// `NoMemory`: the request that couldn't be judged or answered waits still, before all others.
+    /// `NoMemory`: the request that couldn't be judged or answered waits still, before all others. It comes only where a key or
+    /// a button would go down, or where the client would be told of its end.
     pub fn next(&mut self, connection: &mut Connection) -> Result<Option<EisRequest>, NoMemory>
         // The answer, and what waits behind it.
         ensures passes { IfOk result (λ request. request ≡ passing (sifting self.old connection.old)) }
@@ -58,6 +59,7 @@ impl Strict {
         ensures known { OnErr result (self.new.devices ≡ self.old.devices) }
         ensures kept { OnErr result (
             IsKept (with_requests connection.old (queue_in connection.new.phase)) connection.new) }
+        ensures memory { OnErr result (WantsMemory (sifting self.old connection.old) connection.old) }
     {
         'turns: loop {
             match self.turn(connection) {
@@ -119,6 +121,7 @@ impl Strict {
         ensures err { OnErr result (self.new ≡ self.old) }
         ensures passing { OnErr result (
             verdict_at (handle_in connection.now.phase) request.now self.old.devices ≡ Pass) }
+        ensures pressing { OnErr result (IsTrue (presses (act_of request.now))) }
     {
         let Some(client) = connection.client() else {
             return Ok(Verdict::Drop);
@@ -168,6 +171,7 @@ fn is_gone(client: &Handle, request: &EisRequest) -> bool
 fn end_client(connection: &mut Connection, fault: Fault) -> Result<(), NoMemory>
     ensures ok { OnOk result (EndsClient fault connection.old connection.new) }
     ensures err { OnErr result (IsKept connection.old connection.new) }
+    ensures untold { OnErr result (told_before fault connection.old ≡ None) }
 {
     match connection.disconnect(DisconnectReason::Protocol, Some(fault.text())) {
         Ok(()) => Ok(()),
